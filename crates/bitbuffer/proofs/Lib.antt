@@ -1,0 +1,4 @@
+pub mod Laws
+pub mod Octets
+pub mod Pieces
+pub mod Writes

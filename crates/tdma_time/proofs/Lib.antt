@@ -1,0 +1,4 @@
+pub mod Basics
+pub mod TimeLaws
+pub mod SlotLaws
+pub mod UsableLaws

@@ -1,0 +1,13 @@
+// Runs examples of each crate and prints what they answer, a line each; the file `stdout` holds what must be printed.
+mod bits;
+mod codes;
+mod fill;
+mod show;
+mod time;
+
+fn main() {
+    time::run();
+    codes::run();
+    bits::run();
+    fill::run();
+}

@@ -1,0 +1,23 @@
+#!/bin/sh
+# No entry relies on its caller: a function that docs/ARCHITECTURE.md lists as an entry has no `requires`, and is there.
+# A row of its table of entries reads: | `function` | `crate` | ..
+set -eu
+cd "$(dirname "$0")/.."
+bad=0
+count=0
+for row in $(sed -n '/^## Entries/,/^## /p' docs/ARCHITECTURE.md | grep -E '^\| `' | sed -E 's/^\| `([a-z0-9_]+)` \| `([a-z0-9_]+)`.*/\2:\1/'); do
+    crate=${row%%:*}
+    name=${row##*:}
+    count=$((count + 1))
+    found=$(awk -v name="$name" '
+        !in_head && $0 ~ "pub (extern \"C\" )?fn " name "\\(" { in_head = 1; seen = 1 }
+        in_head && /^ *requires/ { print "requires" }
+        in_head && /^ *\{ *$/ { in_head = 0 }
+        END { if (!seen) print "absent" }' "crates/$crate"/src/*.rt)
+    if [ -n "$found" ]; then
+        echo "entries: $crate::$name: $found"
+        bad=1
+    fi
+done
+[ "$bad" = 0 ] || exit 1
+echo "entries: $count entries, none with a requires"
