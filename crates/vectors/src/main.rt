@@ -4,10 +4,12 @@ mod codes;
 mod fill;
 mod show;
 mod time;
+mod uplink_requests;
 
 fn main() {
     time::run();
     codes::run();
     bits::run();
     fill::run();
+    uplink_requests::run();
 }

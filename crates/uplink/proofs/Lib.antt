@@ -1,0 +1,15 @@
+pub mod Basics
+pub mod SearchLaws
+pub mod TableLaws
+pub mod FrameWalk
+pub mod MarkerLaws
+pub mod RequestLaws
+pub mod Everywhere
+pub mod AnswerLaws
+pub mod ReserveLaws
+pub mod SoundLaws
+pub mod StretchLaws
+pub mod GrantedExactly
+pub mod StarredCases
+pub mod VerdictLaws
+pub mod MsLaws

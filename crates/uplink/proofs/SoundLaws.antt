@@ -1,0 +1,154 @@
+-- Reservation, clearing and drawing a marker keep the table and the counters sound. Assumes nothing.
+use mathlib.Core.Path.{_≡_, refl, ap, _∙_}
+use mathlib.Core.Bool.{Bool, true, false, _&&_, cond}
+use mathlib.Core.List.{List, [], _∷_}
+use Prim.Native.Nat.{ℕ, zero, suc, _+_, _-_, _*_, _/_, _%_, _^_, _≤_, _<_}
+use native.Mathlib.Omega.{arith}
+use native.Mathlib.Decide.{ℕ-discrete}
+use lib.ListN.{length, getD, set, replicate}
+use lib.Dec.{leb, ltb}
+use borrow.Author.Tests.{leb-true, leb-false, le-leb, lt-ltb}
+use Rattle.optional.specs.declared.OptU8.{OptU8}
+use Rattle.optional.specs.declared.OptU32.{OptU32}
+use Rattle.tdma_time.specs.declared.TdmaTime.{TdmaTime}
+use Rattle.uplink.specs.declared.Entry.{Entry}
+use Rattle.uplink.specs.HalfSlot.{Half, firstHalf, secondHalf, vacant}
+use Rattle.uplink.specs.UplinkEntry.{emptyEntry, Table, FourRowsOfEighteen, emptyTable, entryAt, store, withHalves, withMarker, reserve, cleared, all, soundOwner, soundCounter, soundMarker, soundEntry, soundRow, soundTable, soundCounters}
+use Rattle.uplink.specs.Request.{nextMarker, drawn}
+use Rattle.uplink.proofs.Basics.{not-both, and-left, and-right, and-intro}
+use Rattle.uplink.proofs.TableLaws.{store-shape, store-same, store-other}
+use Rattle.uplink.proofs.Everywhere.{all-at, at-all}
+
+-- ---- an entry
+
+-- a sound entry's parts
+pub record SoundParts (e : Entry) : Type 0 where
+  pub first : soundOwner (e .ul1) ≡ true
+  pub second : soundOwner (e .ul2) ≡ true
+  pub marker : soundMarker (e .«usage_marker») ≡ true
+  pub alone : vacant (e .ul1) ≡ true → e ≡ emptyEntry
+
+pub sound-parts : (e : Entry) → soundEntry e ≡ true → SoundParts e
+sound-parts e h = go (e .ul1) (e .ul2) (e .«usage_marker») h
+  where
+    go : (a b : OptU32) (m : OptU8) → soundEntry (record { ul1 = a; ul2 = b; «usage_marker» = m }) ≡ true → SoundParts (record { ul1 = a; ul2 = b; «usage_marker» = m })
+    go OptU32.Absent OptU32.Absent OptU8.Absent h = record { first = refl; second = refl; marker = refl; alone = λ k. refl }
+    go OptU32.Absent OptU32.Absent (OptU8.Of m) h = not-both false h refl
+    go OptU32.Absent (OptU32.Of w) m h = not-both false h refl
+    go (OptU32.Of w) b m h =
+        let k : ltb w (2 ^ 24) && soundOwner b ≡ true = and-left _ (soundMarker m) h in
+        record { first = and-left _ (soundOwner b) k; second = and-right (ltb w (2 ^ 24)) _ k; marker = and-right (ltb w (2 ^ 24) && soundOwner b) _ h; alone = λ v. not-both false v refl }
+
+taken-sound : (w : ℕ) (b : OptU32) (m : OptU8) → w < 2 ^ 24 → soundOwner b ≡ true → soundMarker m ≡ true → soundEntry (record { ul1 = OptU32.Of w; ul2 = b; «usage_marker» = m }) ≡ true
+taken-sound w b m h g k = rw (lt-ltb _ _ h, g, k)
+
+marked : (e : Entry) (m : OptU8) → soundMarker (e .«usage_marker») ≡ true → soundMarker m ≡ true → soundMarker (withMarker e m .«usage_marker») ≡ true
+marked e OptU8.Absent h k = h
+marked e (OptU8.Of m) h k = k
+
+same-first : (e : Entry) (m : OptU8) → withMarker e m .ul1 ≡ e .ul1
+same-first e OptU8.Absent = refl
+same-first e (OptU8.Of m) = refl
+
+same-second : (e : Entry) (m : OptU8) → withMarker e m .ul2 ≡ e .ul2
+same-second e OptU8.Absent = refl
+same-second e (OptU8.Of m) = refl
+
+module _ (e : Entry) (m : OptU8) (w : ℕ) (h : soundEntry e ≡ true) (k : soundMarker m ≡ true) (g : w < 2 ^ 24) where
+  abbrev p : SoundParts e
+  p = sound-parts e h
+
+  pub first-sound : soundEntry (withHalves (withMarker e m) (firstHalf ∷ []) w) ≡ true
+  unfolding withHalves
+  first-sound = taken-sound w (withMarker e m .ul2) (withMarker e m .«usage_marker») g (rw (same-second e m) (p .second)) (marked e m (p .marker) k)
+
+  pub both-sound : soundEntry (withHalves (withMarker e m) (firstHalf ∷ secondHalf ∷ []) w) ≡ true
+  unfolding withHalves
+  both-sound = taken-sound w (OptU32.Of w) (withMarker e m .«usage_marker») g (lt-ltb _ _ g) (marked e m (p .marker) k)
+
+  pub second-sound : vacant (e .ul1) ≡ false → soundEntry (withHalves (withMarker e m) (secondHalf ∷ []) w) ≡ true
+  unfolding withHalves
+  second-sound v = rw (same-first e m) (go (e .ul1) (p .first) v)
+    where
+      go : (o : OptU32) → soundOwner o ≡ true → vacant o ≡ false → soundEntry (record { ul1 = o; ul2 = OptU32.Of w; «usage_marker» = withMarker e m .«usage_marker» }) ≡ true
+      go OptU32.Absent f v = not-both true refl v
+      go (OptU32.Of x) f v = and-intro _ _ (and-intro _ _ (and-intro _ _ refl f) (lt-ltb _ _ g)) (marked e m (p .marker) k)
+
+-- ---- a table
+
+-- every entry of a table is sound, by slots
+pub record Whole (tb : Table) : Type 0 where
+  pub shape : FourRowsOfEighteen tb
+  pub entries : (c : ℕ) → soundEntry (entryAt tb c) ≡ true
+
+pub sound-whole : (tb : Table) → FourRowsOfEighteen tb → soundTable tb ≡ true → Whole tb
+unfolding entryAt
+sound-whole tb s h =
+    record {
+      shape = s;
+      entries = λ c.
+          all-at soundEntry (getD tb (c % 4) []) (c / 4 % 18) emptyEntry (omega (arith, s .columns (c % 4) (omega arith)))
+          (all-at soundRow tb (c % 4) [] (omega (arith, s .rows)) h);
+    }
+
+place-row : (i j : ℕ) → i < 4 → (i + 4 * j) % 4 ≡ i
+place-row i j h = omega arith
+
+place-column : (i j : ℕ) → i < 4 → j < 18 → (i + 4 * j) / 4 % 18 ≡ j
+place-column i j h g = omega arith
+
+pub whole-sound : (tb : Table) → Whole tb → soundTable tb ≡ true
+unfolding entryAt
+whole-sound tb w = at-all soundRow tb [] (λ i h. row i (omega (arith, w .shape .rows, h)))
+  where
+    row : (i : ℕ) → i < 4 → soundRow (getD tb i []) ≡ true
+    row i h =
+        at-all soundEntry (getD tb i []) emptyEntry
+        (λ j g.
+        let l : j < 18 = omega (arith, w .shape .columns i h, g) in
+        rw (place-row i j h, place-column i j h l) at (w .entries (i + 4 * j)))
+
+pub store-whole : (tb : Table) (c : ℕ) (e : Entry) → soundEntry e ≡ true → Whole tb → Whole (store tb c e)
+store-whole tb c e h w = record { shape = store-shape tb c e (w .shape); entries = go }
+  where
+    go : (x : ℕ) → soundEntry (entryAt (store tb c e) x) ≡ true
+    go x = elim (ℕ-discrete (x % 72) (c % 72)) [ yes p ↦ ap soundEntry (store-same tb c e (w .shape) x p) ∙ h | no p ↦ ap soundEntry (store-other tb c e (w .shape) x p) ∙ w .entries x ]
+
+pub reserve-whole : (hs : List Half) (who : ℕ) (m : OptU8) → ((e : Entry) → soundEntry e ≡ true → soundEntry (withHalves (withMarker e m) hs who) ≡ true)
+    → (cs : List ℕ) (tb : Table) → Whole tb → Whole (reserve tb hs who m cs)
+unfolding reserve
+reserve-whole hs who m f [] tb w = w
+reserve-whole hs who m f (c ∷ cs) tb w = reserve-whole hs who m f cs _ (store-whole tb c _ (f (entryAt tb c) (w .entries c)) w)
+
+-- clearing keeps a table sound
+pub cleared-sound : (tb : Table) (x : TdmaTime) → FourRowsOfEighteen tb → soundTable tb ≡ true → soundTable (cleared tb x) ≡ true
+cleared-sound tb x s h = whole-sound _ (store-whole tb _ emptyEntry refl (sound-whole tb s h))
+
+-- ---- the counters
+
+all-set : {A : Type 0} (p : A → Bool) (l : List A) (i : ℕ) (a : A) → all p l ≡ true → p a ≡ true → all p (set l i a) ≡ true
+unfolding all
+all-set p [] i a h g = refl
+all-set p (x ∷ l) zero a h g = and-intro (p a) _ g (and-right (p x) _ h)
+all-set p (x ∷ l) (suc i) a h g = and-intro (p x) _ (and-left (p x) _ h) (all-set p l i a (and-right (p x) _ h) g)
+
+pub next-sound : (m : ℕ) → soundCounter m ≡ true → soundCounter (nextMarker m) ≡ true
+unfolding nextMarker
+next-sound m h = go (leb 62 m) refl
+  where
+    go : (b : Bool) → leb 62 m ≡ b → soundCounter (cond b 4 (m + 1)) ≡ true
+    go true e = refl
+    go false e = and-intro _ _ (le-leb 4 (m + 1) (omega (arith, leb-true 4 m (and-left _ _ h)))) (le-leb (m + 1) 62 (omega (arith, leb-false 62 m e)))
+
+pub drawn-sound : (ms : List ℕ) (t : ℕ) → length ms ≡ 4 → soundCounters ms ≡ true → 1 ≤ t → t ≤ 4 → soundCounters (drawn ms t) ≡ true
+drawn-sound ms t l h a b = all-set soundCounter ms (t - 1) _ h (next-sound _ (all-at soundCounter ms (t - 1) 0 (omega (arith, l)) h))
+
+-- ---- a new station's table and counters
+
+pub empty-sound : soundTable emptyTable ≡ true
+unfolding all
+empty-sound = refl
+
+pub first-counters-sound : soundCounters (replicate 4 4) ≡ true
+unfolding all
+first-counters-sound = refl

@@ -1,0 +1,208 @@
+// Document 01, "Request and grant" and "Uplink entry": requests one after the other, and what the table then shows.
+use crate::show;
+use optional::OptU8;
+use optional::OptU32;
+use tdma_time::TdmaTime;
+use uplink::AccessAssignUlUsage;
+use uplink::CapAnswer;
+use uplink::CapReply;
+use uplink::Entry;
+use uplink::PhyBlockNum;
+ghost use Prim.Native.Nat.{_≤_};
+ghost use Rattle.tdma_time.specs.Time.{Valid};
+
+// An empty table, with the counters at `marker`; its reply means nothing.
+fn new(marker: u8) -> CapAnswer {
+    CapAnswer {
+        reply: CapReply::NoRun,
+        row1: [Entry::EMPTY; 18],
+        row2: [Entry::EMPTY; 18],
+        row3: [Entry::EMPTY; 18],
+        row4: [Entry::EMPTY; 18],
+        next_usage_marker: [marker; 4],
+    }
+}
+
+// The table that an answer leaves.
+fn table_of(a: CapAnswer) -> [[Entry; 18]; 4] {
+    let row1 = a.row1;
+    let row2 = a.row2;
+    let row3 = a.row3;
+    let row4 = a.row4;
+    [row1, row2, row3, row4]
+}
+
+// A marker, or 0.
+fn marker(m: OptU8) {
+    match m {
+        OptU8::Absent => show::number(0),
+        OptU8::Of(x) => show::number(x as u64),
+    }
+}
+
+// The reply: 0, capacity, delay and marker or 0; or the number of the refusal.
+fn reply(r: CapReply) {
+    match r {
+        CapReply::Granted {
+            capacity,
+            delay,
+            usage_marker,
+        } => {
+            show::number(0);
+            show::number(capacity as u64);
+            show::number(delay as u64);
+            marker(usage_marker);
+        }
+        CapReply::NoRun => show::number(9),
+        CapReply::TooLate => show::number(10),
+    }
+}
+
+// A request on what an answer leaves, and its own answer.
+fn request(before: CapAnswer, now: TdmaTime, timeslot: u8, code: u8, number: u32) -> CapAnswer
+    requires { ⌜ Valid now ⌝ }
+    requires { ⌜ (1 ≤ timeslot) × (timeslot ≤ 4) ⌝ }
+{
+    let counters = before.next_usage_marker;
+    let a = uplink::ul_process_cap_req(table_of(before), counters, now, timeslot, code, number);
+    let said = a.reply;
+    show::word(b"request at");
+    show::number(now.h as u64);
+    show::number(now.m as u64);
+    show::number(now.f as u64);
+    show::number(now.t as u64);
+    show::word(b" for timeslot");
+    show::number(timeslot as u64);
+    show::word(b" code");
+    show::number(code as u64);
+    show::word(b":");
+    reply(said);
+    show::end();
+    a
+}
+
+// An owner, or -.
+fn owner(o: OptU32) {
+    match o {
+        OptU32::Absent => show::word(b" -"),
+        OptU32::Of(n) => show::number(n as u64),
+    }
+}
+
+// The owners of the first half, the second and both, and the usage.
+fn entry(table: [[Entry; 18]; 4], at: TdmaTime)
+    requires { ⌜ Valid at ⌝ }
+{
+    show::word(b"entry of frame");
+    show::number(at.f as u64);
+    show::word(b": owners");
+    owner(uplink::ul_get_slot_owner(table, at, PhyBlockNum::Block1));
+    owner(uplink::ul_get_slot_owner(table, at, PhyBlockNum::Block2));
+    owner(uplink::ul_get_slot_owner(table, at, PhyBlockNum::Both));
+    show::word(b" usage");
+    let usage = uplink::ul_get_usage(table, at);
+    match usage {
+        AccessAssignUlUsage::CommonOnly => show::number(0),
+        AccessAssignUlUsage::CommonAndAssigned => show::number(1),
+        AccessAssignUlUsage::AssignedOnly => show::number(2),
+        AccessAssignUlUsage::Traffic(m) => {
+            show::number(3);
+            show::number(m as u64);
+        }
+    }
+    show::end();
+}
+
+// Half a slot, twice in one slot and then in the next.
+fn halves() {
+    let now = TdmaTime {
+        t: 1,
+        f: 1,
+        m: 1,
+        h: 0,
+    };
+    let a = request(new(4), now, 1, 0, 100);
+    let b = request(a, now, 1, 0, 200);
+    let c = request(b, now, 1, 0, 300);
+    entry(table_of(c), now);
+    let later = TdmaTime {
+        t: 1,
+        f: 2,
+        m: 1,
+        h: 0,
+    };
+    entry(table_of(c), later);
+    let d = request(c, now, 1, 1, 400);
+    entry(table_of(d), later);
+}
+
+// More than 13 usable slots before the run, and no run.
+fn refusals() {
+    let now = TdmaTime {
+        t: 3,
+        f: 1,
+        m: 1,
+        h: 0,
+    };
+    let a = request(new(62), now, 4, 9, 1);
+    let b = request(a, now, 4, 1, 2);
+    let c = request(b, now, 4, 1, 3);
+    let d = request(c, now, 4, 4, 3);
+    let e = request(d, now, 3, 2, 3);
+    let f = request(e, now, 3, 15, 3);
+    let frame1 = TdmaTime {
+        t: 4,
+        f: 1,
+        m: 1,
+        h: 0,
+    };
+    entry(table_of(f), frame1);
+}
+
+// Over the end of a multiframe, and over the end of the last hyperframe.
+fn wraps() {
+    let multiframe = TdmaTime {
+        t: 2,
+        f: 17,
+        m: 5,
+        h: 7,
+    };
+    let a = request(new(4), multiframe, 1, 3, 77);
+    let frame3 = TdmaTime {
+        t: 1,
+        f: 3,
+        m: 6,
+        h: 7,
+    };
+    entry(table_of(a), frame3);
+    let last = TdmaTime {
+        t: 4,
+        f: 17,
+        m: 60,
+        h: 65535,
+    };
+    let b = request(new(4), last, 4, 2, 78);
+    let frame1 = TdmaTime {
+        t: 4,
+        f: 1,
+        m: 1,
+        h: 0,
+    };
+    entry(table_of(b), frame1);
+    let next = TdmaTime {
+        t: 4,
+        f: 2,
+        m: 1,
+        h: 0,
+    };
+    entry(
+        uplink::clear_ul_schedule_for_tx_time(table_of(b), next),
+        frame1,
+    );
+}
+
+pub fn run() {
+    halves();
+    refusals();
+    wraps();
+}
