@@ -2,6 +2,7 @@
 mod bits;
 mod codes;
 mod fill;
+mod pdus;
 mod show;
 mod time;
 mod uplink_requests;
@@ -12,4 +13,5 @@ fn main() {
     bits::run();
     fill::run();
     uplink_requests::run();
+    pdus::run();
 }

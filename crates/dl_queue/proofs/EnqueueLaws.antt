@@ -1,0 +1,73 @@
+-- What queueing does to a sound memory: the record joins the end of its timeslot's list, no other list changes, and the memory stays sound. Assumes nothing.
+use mathlib.Core.Path.{_≡_, refl, ap, _∙_}
+use mathlib.Core.Bool.{true}
+use mathlib.Core.List.{List, [], _∷_, _++_}
+use Prim.Native.Nat.{ℕ, _+_, _*_, _<_}
+use lib.Dec.{leb}
+use lib.ListN.{length, getD, set}
+use borrow.Author.Tests.{leb-true}
+use Rattle.optional.specs.declared.OptU8.{OptU8}
+use Rattle.optional.specs.declared.OptU16.{OptU16}
+use Rattle.mac_pdus.specs.Legal.{fits, optFits, legalOffered}
+use Rattle.dl_record.specs.declared.Record.{Record}
+use Rattle.dl_record.specs.declared.QueuedHeader.{QueuedHeader}
+use Rattle.dl_record.specs.Record.{grantRecord, ackRecord, offeredRecord, resourceOf}
+use Rattle.dl_record.specs.Questions.{legalAddress, presentSdu, soundRecord}
+use Rattle.dl_record.proofs.Tests.{and-left, and-right, and-both}
+use Rattle.dl_record.proofs.RecordLaws.{grant-sound, ack-sound, offered-sound}
+use Rattle.sdu_store.specs.Cells.{cleanPast, cellOf}
+use Rattle.sdu_store.proofs.CellBits.{length-cellOf, clean-cellOf}
+use Rattle.sdu_store.proofs.OctetLaws.{Octets, octets-paste, octets-cellOf}
+use Rattle.dl_queue.specs.Queue.{Item, item, zeroCell, queuesOf, nextPlace, enqueued, withCell}
+use Rattle.dl_queue.specs.Questions.{soundPlace, soundQueue}
+use Rattle.dl_queue.proofs.QueueLaws.{HoldsQueues}
+use Rattle.dl_queue.proofs.PushLaws.{queues-push}
+use Rattle.dl_queue.proofs.SetLaws.{zero-size}
+use Rattle.dl_queue.proofs.SoundLaws.{queue-at, push-sound, unused-cell, zero-clean}
+
+-- the lists with one more item at the end of that of timeslot t
+abbrev pub withLast : List (List (Item (List ℕ))) → ℕ → Item (List ℕ) → List (List (Item (List ℕ)))
+withLast qs t x = set qs t (getD qs t [] ++ x ∷ [])
+
+module _ (ns : List ℕ) (rs : List Record) (s : List ℕ) (t : ℕ) (inside : t < length ns) (room : getD ns t 0 < 16)
+    (places : length rs ≡ 16 * length ns) (size : length s ≡ 4096 * length ns) (sound : soundQueue ns rs s ≡ true) where
+  -- a record with an SDU
+  record-joins : (r : Record) (sdu : List ℕ) → queuesOf (enqueued ns rs t r .counts) (enqueued ns rs t r .records) (withCell s ns t (cellOf (r .bits) sdu)) ≡ withLast (queuesOf ns rs s) t (item r (cellOf (r .bits) sdu))
+  record-joins r sdu = queues-push ns rs s t (getD ns t 0) r (cellOf (r .bits) sdu) inside refl room (λ u b. queue-at ns rs s sound u b .0) places size (length-cellOf (r .bits) sdu)
+
+  record-keeps : (r : Record) (sdu : List ℕ) → soundRecord r ≡ true → presentSdu (r .bits) sdu ≡ true
+      → soundQueue (enqueued ns rs t r .counts) (enqueued ns rs t r .records) (withCell s ns t (cellOf (r .bits) sdu)) ≡ true
+  unfolding soundPlace presentSdu
+  record-keeps r sdu good present =
+      push-sound ns rs s t (getD ns t 0) r (cellOf (r .bits) sdu) inside refl room places size (length-cellOf (r .bits) sdu)
+      (and-both (soundRecord r) (cleanPast (r .bits) (cellOf (r .bits) sdu)) good
+      (clean-cellOf (r .bits) sdu (leb-true (r .bits) 2048 (and-left (leb (r .bits) 2048) (leb (r .bits) (8 * length sdu)) present))
+      (leb-true (r .bits) (8 * length sdu) (and-right (leb (r .bits) 2048) (leb (r .bits) (8 * length sdu)) present)))) sound
+
+  -- a record without SDU: its cell is zero as it stands
+  empty-joins : (r : Record) → Octets s → queuesOf (enqueued ns rs t r .counts) (enqueued ns rs t r .records) s ≡ withLast (queuesOf ns rs s) t (item r zeroCell)
+  empty-joins r octets =
+      ap (queuesOf (enqueued ns rs t r .counts) (enqueued ns rs t r .records)) (unused-cell ns rs s t (getD ns t 0) inside refl room size octets sound)
+      ∙ queues-push ns rs s t (getD ns t 0) r zeroCell inside refl room (λ u b. queue-at ns rs s sound u b .0) places size zero-size
+
+  empty-keeps : (r : Record) → Octets s → soundRecord r ≡ true → r .bits ≡ 0 → soundQueue (enqueued ns rs t r .counts) (enqueued ns rs t r .records) s ≡ true
+  unfolding soundPlace
+  empty-keeps r octets good none =
+      ap (soundQueue (enqueued ns rs t r .counts) (enqueued ns rs t r .records)) (unused-cell ns rs s t (getD ns t 0) inside refl room size octets sound)
+      ∙ push-sound ns rs s t (getD ns t 0) r zeroCell inside refl room places size zero-size
+      (and-both (soundRecord r) (cleanPast (r .bits) zeroCell) good (ap (λ (b : ℕ). cleanPast b zeroCell) none ∙ zero-clean)) sound
+
+  -- a grant, an ack and a record join the end of their timeslot's list, no other list changes, and the memory stays sound
+  pub grant-joins : (k number octet : ℕ) (m : OptU8) → Octets s → legalAddress k number ≡ true → fits 8 octet ≡ true → optFits 6 m ≡ true
+      → HoldsQueues (withLast (queuesOf ns rs s) t (item (grantRecord k number octet m) zeroCell)) (enqueued ns rs t (grantRecord k number octet m)) s
+  grant-joins k number octet m octets a o w = record { lists = empty-joins (grantRecord k number octet m) octets; sound = empty-keeps (grantRecord k number octet m) octets (grant-sound k number octet m a o w) refl; octets = octets }
+
+  pub ack-joins : (k number : ℕ) → Octets s → legalAddress k number ≡ true → HoldsQueues (withLast (queuesOf ns rs s) t (item (ackRecord k number) zeroCell)) (enqueued ns rs t (ackRecord k number)) s
+  ack-joins k number octets a = record { lists = empty-joins (ackRecord k number) octets; sound = empty-keeps (ackRecord k number) octets (ack-sound k number a) refl; octets = octets }
+
+  pub offered-joins : (k number : ℕ) (tag : OptU16) (h : QueuedHeader) (bits : ℕ) (sdu : List ℕ) → Octets s → legalAddress k number ≡ true → legalOffered (resourceOf (offeredRecord k number tag h bits) 0 0) ≡ true
+      → presentSdu bits sdu ≡ true
+      → HoldsQueues (withLast (queuesOf ns rs s) t (item (offeredRecord k number tag h bits) (cellOf bits sdu))) (enqueued ns rs t (offeredRecord k number tag h bits)) (withCell s ns t (cellOf bits sdu))
+  offered-joins k number tag h bits sdu octets a l p =
+      let r = offeredRecord k number tag h bits in
+      record { lists = record-joins r sdu; sound = record-keeps r sdu (offered-sound k number tag h bits sdu a l p) p; octets = octets-paste s (256 * nextPlace ns t) (cellOf bits sdu) 256 octets (octets-cellOf bits sdu) }

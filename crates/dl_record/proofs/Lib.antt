@@ -1,0 +1,4 @@
+pub mod Tests
+pub mod RecordLaws
+pub mod HeaderLaws
+pub mod QuestionLaws

@@ -1,0 +1,83 @@
+-- One step of the reader. Assumes nothing.
+use mathlib.Core.Path.{_≡_, refl}
+use mathlib.Core.Bool.{Bool, true, false, not, _&&_, _||_}
+use mathlib.Core.List.{List, [], _∷_}
+use Prim.Native.Nat.{ℕ, zero, suc, _+_, _-_, _*_, _≤_, _<_}
+use native.Mathlib.Omega.{arith}
+use lib.Dec.{leb, eqb}
+use borrow.Author.Tests.{lt-ltb, le-ltb, leb-true, not-true, not-false}
+use Rattle.mac_pdus.specs.declared.MacEndDl.{MacEndDl}
+use Rattle.mac_pdus.proofs.Conjunctions.{and3}
+use Rattle.mac_pdus.specs.declared.PduHeader.{PduHeader}
+use Rattle.mac_reader.specs.declared.PduStep.the-variants.{Malformed, Last, More}
+use Rattle.mac_reader.specs.Reader.{octetsInside, endStep, ofType, pduAt, refused, headers, before, readPdus}
+
+-- fewer than 16 bits left: nothing is read
+pub at-end : (n w : ℕ) (l : List ℕ) (at : ℕ) → w < at + 16 → readPdus n w l at ≡ headers []
+unfolding readPdus
+at-end zero w l at h = refl
+at-end (suc n) w l at h = rw (lt-ltb w (at + 16) h)
+
+-- a step that is the last, and one that is not
+pub last-read : (n w : ℕ) (l : List ℕ) (at : ℕ) (h : PduHeader) → at + 16 ≤ w → pduAt w l at ≡ Last h → readPdus (suc n) w l at ≡ headers (record { at = at; header = h } ∷ [])
+unfolding readPdus
+last-read n w l at h k e = rw (le-ltb w (at + 16) k, e)
+
+pub more-read : (n w : ℕ) (l : List ℕ) (at next : ℕ) (h : PduHeader) → at + 16 ≤ w → pduAt w l at ≡ More h next
+    → readPdus (suc n) w l at ≡ before (record { at = at; header = h }) (readPdus n w l next)
+unfolding readPdus
+more-read n w l at next h k e = rw (le-ltb w (at + 16) k, e)
+
+pub refused-read : (n w : ℕ) (l : List ℕ) (at : ℕ) → at + 16 ≤ w → pduAt w l at ≡ Malformed → readPdus (suc n) w l at ≡ refused
+unfolding readPdus
+refused-read n w l at k e = rw (le-ltb w (at + 16) k, e)
+
+-- no more than that many
+pub none-left : (n w : ℕ) (l : List ℕ) (at : ℕ) → n ≤ 0 → readPdus n w l at ≡ headers []
+unfolding readPdus
+none-left zero w l at h = refl
+none-left (suc n) w l at h = absurd (omega arith)
+
+-- a PDU of whole octets inside the block
+pub record Octets (w at code : ℕ) : Type 0 where
+  pub low : 2 ≤ code
+  pub high : code ≤ 34
+  pub inside : at + 8 * code ≤ w
+
+pub octets-true : (w at code : ℕ) → octetsInside w at code ≡ true → Octets w at code
+unfolding octetsInside
+octets-true w at code e =
+    let p = and3 (leb 2 code) (leb code 34) (leb (at + 8 * code) w) e in
+    record { low = leb-true 2 code (p .0); high = leb-true code 34 (p .1); inside = leb-true (at + 8 * code) w (p .2) }
+
+pub other-type : (t w : ℕ) (l : List ℕ) (start at : ℕ) → (t ≡ 0 → ⊥) → (t ≡ 1 → ⊥) → Malformed ≡ ofType t w l start at
+other-type zero w l start at p q = absurd (p refl)
+other-type (suc zero) w l start at p q = absurd (q refl)
+other-type (suc (suc t)) w l start at p q = refl
+
+-- tests joined by or
+pub or-true : (a : Bool) → a || true ≡ true
+or-true true = refl
+or-true false = refl
+
+pub or-false : (a b : Bool) → a ≡ false → a || b ≡ true → b ≡ true
+or-false a b p h = rw p at h
+
+pub neither : (a b : Bool) → a || b ≡ false → not a && b ≡ false
+neither true b h = refl
+neither false b h = h
+
+-- a MAC-END that is refused, and one that is taken
+pub end-refused : (w at : ℕ) (m : MacEndDl) (x y : ℕ) (b : Bool) → b ≡ octetsInside w at (m .«length_ind») → not (eqb x 0 && eqb y 0 && b) ≡ true
+    → Malformed ≡ endStep w at m x y
+unfolding endStep
+end-refused w at m x y b e h = rw (← e, not-true (eqb x 0 && eqb y 0 && b) h)
+
+pub end-taken : (w at : ℕ) (m : MacEndDl) (x y : ℕ) (b : Bool) → b ≡ octetsInside w at (m .«length_ind») → not (eqb x 0 && eqb y 0 && b) ≡ false
+    → More (PduHeader.End m) (at + 8 * m .«length_ind») ≡ endStep w at m x y
+unfolding endStep
+end-taken w at m x y b e h = rw (← e, not-false (eqb x 0 && eqb y 0 && b) h)
+
+-- "those four bits": in a block of 8 * o - 4 bits, fewer than eight left behind whole octets are four
+pub four-bits : (o e : ℕ) → 0 < o → 8 * e ≤ 8 * o - 4 → 8 * o - 4 < 8 * e + 8 → 8 * o - 4 ≡ 8 * e + 4
+four-bits o e p a b = omega arith

@@ -1,0 +1,119 @@
+-- The lone writer's reply, case by case. Assumes nothing.
+use mathlib.Core.Path.{_≡_, refl, sym, ap, _∙_, subst}
+use mathlib.Core.Bool.{Bool, true, false, cond}
+use mathlib.Core.List.{List}
+use Prim.Native.Nat.{ℕ, _+_, _-_, _*_, _/_, _%_, _^_, _<_, _≤_}
+use native.Mathlib.Omega.{arith}
+use lib.ListN.{length}
+use lib.Dec.{ltb, leb}
+use borrow.Author.Tests.{ltb-true, leb-true, leb-false, lt-ltb, le-ltb, le-leb, lt-leb}
+use Rattle.bitbuffer.specs.Bits.{bitsOf, written, Wrote}
+use Rattle.mac_pdus.specs.declared.MacResource.{MacResource}
+use Rattle.mac_pdus.specs.declared.ResourceHeader.{ResourceHeader}
+use Rattle.mac_pdus.specs.Within.{ResourceWithin}
+use Rattle.mac_pdus.proofs.LegalLaws.{legal-within, lone}
+use Rattle.mac_pdus.specs.Headers.{resourceBits, headerLength}
+use Rattle.mac_pdus.specs.Legal.{legalLone, onAir}
+use Rattle.mac_pdus.proofs.Conjunctions.{and2}
+use Rattle.mac_pdus.proofs.LengthLaws.{header-size}
+use Rattle.mac_writer.specs.declared.HeaderRefusal.{HeaderRefusal}
+use Rattle.mac_writer.specs.declared.WriteReply.{WriteReply}
+use Rattle.mac_writer.specs.Writer.{replyNumber, numberFits, roomFor, writeNumber, writeReply, bitsAfter, WrittenAs}
+
+-- ---- question 11
+
+pub record Room (octets at n : ℕ) : Type 0 where
+  pub number : at + n < 2 ^ 64
+  pub inside : at + n ≤ 8 * octets
+
+pub room-true : (octets at n : ℕ) → roomFor octets at n ≡ true → Room octets at n
+unfolding roomFor
+room-true octets at n h =
+    let p = and2 (ltb (at + n) (2 ^ 64)) (leb (at + n) (8 * octets)) h in
+    record { number = ltb-true (at + n) (2 ^ 64) (p .0); inside = leb-true (at + n) (8 * octets) (p .1) }
+
+-- as code asks it: by octets, where no sum passes 64 bits
+pub room-over : (octets at n : ℕ) → n ≤ 92 → 18446744073709551615 - n < at → false ≡ roomFor octets at n
+unfolding roomFor
+room-over octets at n h k = let q : ltb (at + n) (2 ^ 64) ≡ false = le-ltb (at + n) (2 ^ 64) (omega arith) in rw q
+
+pub room-test : (octets at n : ℕ) → n ≤ 92 → at ≤ 18446744073709551615 - n → leb (at / 8 + (at % 8 + n + 7) / 8) octets ≡ roomFor octets at n
+unfolding roomFor
+room-test octets at n h k =
+    let q : ltb (at + n) (2 ^ 64) ≡ true = lt-ltb (at + n) (2 ^ 64) (omega arith) in
+    rw q (go (leb (at / 8 + (at % 8 + n + 7) / 8) octets) refl)
+  where
+    go : (b : Bool) → leb (at / 8 + (at % 8 + n + 7) / 8) octets ≡ b → b ≡ leb (at + n) (8 * octets)
+    go true e = let p = leb-true (at / 8 + (at % 8 + n + 7) / 8) octets e in sym (le-leb (at + n) (8 * octets) (omega arith))
+    go false e = let p = leb-false (at / 8 + (at % 8 + n + 7) / 8) octets e in sym (lt-leb (at + n) (8 * octets) (omega arith))
+
+-- ---- the reply
+
+reply-number : (octets at : ℕ) (h : MacResource) → replyNumber (writeReply octets at h) ≡ writeNumber octets at h
+unfolding writeReply writeNumber
+reply-number octets at h = go (numberFits h) (legalLone h) (roomFor octets at (headerLength (onAir h)))
+  where
+    go : (a b c : Bool)
+        → replyNumber (cond a (cond b (cond c (WriteReply.Next (at + headerLength (onAir h))) (WriteReply.Refused HeaderRefusal.NoRoom)) (WriteReply.Refused HeaderRefusal.Header)) (WriteReply.Refused HeaderRefusal.Address))
+        ≡ cond a (cond b (cond c 0 11) 6) 5
+    go true true true = refl
+    go true true false = refl
+    go true false c = refl
+    go false b c = refl
+
+as-written : (s t : List ℕ) (at : ℕ) (h : MacResource) (reply : WriteReply) → reply ≡ writeReply (length s) at h → bitsOf t ≡ bitsAfter (bitsOf s) at h reply
+    → WrittenAs s at h reply t
+as-written s t at h reply e b = record { number = ap replyNumber e ∙ reply-number (length s) at h; replies = e; bits = b }
+
+pub refused-address : (s : List ℕ) (at : ℕ) (h : MacResource) → 16777216 ≤ h .number → WrittenAs s at h (WriteReply.Refused HeaderRefusal.Address) s
+unfolding writeReply
+refused-address s at h k = as-written s s at h _ (rw (le-ltb (h .number) 16777216 k)) refl
+
+pub refused-header : (s : List ℕ) (at : ℕ) (h : MacResource) → h .number < 16777216 → legalLone h ≡ false → WrittenAs s at h (WriteReply.Refused HeaderRefusal.Header) s
+unfolding writeReply
+refused-header s at h k l = as-written s s at h _ (rw (lt-ltb (h .number) 16777216 k, l)) refl
+
+pub refused-room : (s : List ℕ) (at : ℕ) (h : MacResource) (r : ResourceHeader) (n : ℕ) → h .number < 16777216 → legalLone h ≡ true → r ≡ onAir h → n ≡ headerLength r
+    → roomFor (length s) at n ≡ false → WrittenAs s at h (WriteReply.Refused HeaderRefusal.NoRoom) s
+unfolding writeReply
+refused-room s at h r n k l er en lacks =
+    let room : roomFor (length s) at (headerLength (onAir h)) ≡ false = ap (roomFor (length s) at) (sym (en ∙ ap headerLength er)) ∙ lacks in
+    as-written s s at h _ (rw (lt-ltb (h .number) 16777216 k, l, room)) refl
+
+pub header-written : (s t : List ℕ) (at : ℕ) (h : MacResource) (r : ResourceHeader) (n next : ℕ) → h .number < 16777216 → legalLone h ≡ true → r ≡ onAir h
+    → n ≡ headerLength r → roomFor (length s) at n ≡ true → Wrote (bitsOf s) at (bitsOf t) next (resourceBits r) → WrittenAs s at h (WriteReply.Next next) t
+unfolding writeReply
+header-written s t at h r n next k l er en has w =
+    let room : roomFor (length s) at (headerLength (onAir h)) ≡ true = ap (roomFor (length s) at) (sym (en ∙ ap headerLength er)) ∙ has in
+    let ends : next ≡ at + headerLength (onAir h) = w .ends ∙ ap (λ (x : ℕ). at + x) (sym (header-size r) ∙ ap headerLength er) in
+    as-written s t at h _
+    (rw (lt-ltb (h .number) 16777216 k, l, room) (ap WriteReply.Next ends))
+    (w .bits ∙ ap (λ (x : ResourceHeader). written (bitsOf s) at (resourceBits x)) er)
+
+-- the header that passed has its fields within their widths
+pub passed-within : (h : MacResource) (r : ResourceHeader) → legalLone h ≡ true → r ≡ onAir h → ResourceWithin r
+passed-within h r l e = subst ResourceWithin (sym e) (legal-within h (lone h l .fields))
+
+-- what was written was taken
+pub record Taken (octets at : ℕ) (h : MacResource) (next : ℕ) : Type 0 where
+  pub legal : legalLone h ≡ true
+  pub room : roomFor octets at (headerLength (onAir h)) ≡ true
+  pub ends : next ≡ at + headerLength (onAir h)
+
+never : {X : Type 0} {n : ℕ} {x : HeaderRefusal} → WriteReply.Next n ≡ WriteReply.Refused x → X
+never e = absurd (let z : _≡_ {A = ℕ} 0 1 = cc in omega arith)
+
+same : {n m : ℕ} → WriteReply.Next n ≡ WriteReply.Next m → n ≡ m
+same e = cc
+
+pub was-taken : (octets at : ℕ) (h : MacResource) (next : ℕ) → WriteReply.Next next ≡ writeReply octets at h → Taken octets at h next
+unfolding writeReply
+was-taken octets at h next e = go (numberFits h) (legalLone h) (roomFor octets at (headerLength (onAir h))) refl refl e
+  where
+    go : (a b c : Bool) → legalLone h ≡ b → roomFor octets at (headerLength (onAir h)) ≡ c
+        → WriteReply.Next next ≡ cond a (cond b (cond c (WriteReply.Next (at + headerLength (onAir h))) (WriteReply.Refused HeaderRefusal.NoRoom)) (WriteReply.Refused HeaderRefusal.Header)) (WriteReply.Refused HeaderRefusal.Address)
+        → Taken octets at h next
+    go true true true p q e = record { legal = p; room = q; ends = same e }
+    go true true false p q e = never e
+    go true false c p q e = never e
+    go false b c p q e = never e

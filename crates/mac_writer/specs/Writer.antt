@@ -1,0 +1,55 @@
+-- The lone writer's reply, and what it does to its buffer (document 01, questions 5, 6 and 11). Assumes nothing.
+use mathlib.Core.Path.{_≡_}
+use mathlib.Core.Bool.{Bool, cond, _&&_}
+use Prim.Native.Nat.{ℕ, _+_, _*_, _^_}
+use mathlib.Core.List.{List}
+use lib.ListN.{length}
+use lib.Dec.{ltb, leb}
+use Rattle.bitbuffer.specs.Bits.{bitsOf, written}
+use Rattle.mac_pdus.specs.declared.MacResource.{MacResource}
+use Rattle.mac_pdus.specs.Headers.{resourceBits, headerLength}
+use Rattle.mac_pdus.specs.Legal.{fits, legalLone, onAir}
+use Rattle.mac_writer.specs.declared.HeaderRefusal.{HeaderRefusal}
+use Rattle.mac_writer.specs.declared.WriteReply.{WriteReply}
+
+abbrev pub refusalNumber : HeaderRefusal → ℕ
+refusalNumber HeaderRefusal.Address = 5
+refusalNumber HeaderRefusal.Header = 6
+refusalNumber HeaderRefusal.NoRoom = 11
+
+-- document 01's number of a reply: 0 where it is no refusal
+abbrev pub replyNumber : WriteReply → ℕ
+replyNumber (WriteReply.Refused x) = refusalNumber x
+replyNumber (WriteReply.Next n) = 0
+
+-- question 5: "number below 2^24". Every kind of address that can be named here may be offered
+abbrev pub numberFits : MacResource → Bool
+numberFits h = fits 24 (h .number)
+
+-- question 11: "bits enough left?" `n` bits from bit `at` on, in that many octets; the position behind them is a number of 64 bits
+unfoldable pub roomFor : ℕ → ℕ → ℕ → Bool
+roomFor octets at n = ltb (at + n) (2 ^ 64) && leb (at + n) (8 * octets)
+
+-- questions 5, 6 and 11, in this order: the number of the first that is answered no
+unfoldable pub writeNumber : ℕ → ℕ → MacResource → ℕ
+writeNumber octets at h = cond (numberFits h) (cond (legalLone h) (cond (roomFor octets at (headerLength (onAir h))) 0 11) 6) 5
+
+-- the reply: a refusal, or the position after the header
+unfoldable pub writeReply : ℕ → ℕ → MacResource → WriteReply
+writeReply octets at h =
+    cond (numberFits h)
+    (cond (legalLone h)
+    (cond (roomFor octets at (headerLength (onAir h))) (WriteReply.Next (at + headerLength (onAir h))) (WriteReply.Refused HeaderRefusal.NoRoom))
+    (WriteReply.Refused HeaderRefusal.Header))
+    (WriteReply.Refused HeaderRefusal.Address)
+
+-- the buffer's bits: after a refusal as they were, else the header's bits at its position and all others as they were
+abbrev pub bitsAfter : List ℕ → ℕ → MacResource → WriteReply → List ℕ
+bitsAfter l at h (WriteReply.Refused x) = l
+bitsAfter l at h (WriteReply.Next n) = written l at (resourceBits (onAir h))
+
+-- the lone writer's promise: the octets `s` become `t`
+pub record WrittenAs (s : List ℕ) (at : ℕ) (h : MacResource) (reply : WriteReply) (t : List ℕ) : Type 0 where
+  pub number : replyNumber reply ≡ writeNumber (length s) at h
+  pub replies : reply ≡ writeReply (length s) at h
+  pub bits : bitsOf t ≡ bitsAfter (bitsOf s) at h reply

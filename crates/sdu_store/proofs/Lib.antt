@@ -1,0 +1,4 @@
+pub mod ZeroLaws
+pub mod CellLaws
+pub mod CellBits
+pub mod OctetLaws

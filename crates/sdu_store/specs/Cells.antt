@@ -1,0 +1,24 @@
+-- Document 01, "Queued record": "The SDU store is 64 cells of 256 octets, one to a place." Assumes nothing.
+use mathlib.Core.Bool.{Bool, true, _&&_}
+use mathlib.Core.List.{List, [], _∷_, _++_}
+use Prim.Native.Nat.{ℕ, zero, suc, _-_, _*_, _/_, _^_}
+use lib.Dec.{eqb}
+use lib.ListN.{drop, take, replicate}
+use Rattle.bitbuffer.specs.Bits.{bitsOf, packed}
+
+unfoldable pub allZero : List ℕ → Bool
+allZero [] = true
+allZero (x ∷ l) = eqb x 0 && allZero l
+
+-- "Cell bits past the SDU are zero": those past the first n
+unfoldable pub cleanPast : ℕ → List ℕ → Bool
+cleanPast n cell = allZero (drop n (bitsOf cell))
+
+-- the cell of an SDU of n bits: its bits, then zeros
+unfoldable pub cellOf : ℕ → List ℕ → List ℕ
+cellOf n sdu = packed 256 (take n (bitsOf sdu) ++ replicate (2048 - n) 0)
+
+-- the first r bits of an octet, then zeros
+unfoldable pub kept : ℕ → ℕ → ℕ
+kept zero x = 0
+kept (suc r) x = x / 2 ^ (7 - r) * 2 ^ (7 - r)

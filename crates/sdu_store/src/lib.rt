@@ -1,0 +1,79 @@
+// Cells of the SDU store: 256 octets each, most significant bit first.
+ghost use mathlib.Core.Path.{_≡_};
+ghost use Prim.Native.Nat.{_+_, _*_, _<_, _≤_};
+ghost use lib.ListN.{length, getD, drop, replicate};
+ghost use lib.Dec.{eqb};
+ghost use lib.Seq.{paste};
+ghost use Rattle.sdu_store.specs.Cells.{allZero, cleanPast, cellOf, kept};
+
+// The octets, one or-ed to another: 0 exactly if each is 0. No branch for an octet.
+pub fn any_bit(s: &[u8]) -> u8
+    ensures { λ r. ⌜ eqb r 0 ≡ allZero (now (s .entry)) ⌝ }
+{
+    let mut acc: u8 = 0;
+    for i in 0..s.len() {
+        acc = acc | s[i];
+    }
+    acc
+}
+
+// Whether the bits of a cell past the first `bits` are zero.
+pub fn cell_is_clean(cell: &[u8], bits: u16) -> bool
+    ensures { λ r. ⌜ r ≡ cleanPast bits (now (cell .entry)) ⌝ }
+{
+    let n = bits as usize;
+    let k = n / 8;
+    if cell.len() <= k {
+        return true;
+    }
+    let low = cell[k] << (n % 8);
+    let rest = k + 1;
+    let above = any_bit(&cell[rest..]);
+    (low == 0) & (above == 0)
+}
+
+// The octet at `whole` with only its first `rest` bits.
+fn edge(sdu: &[u8], whole: usize, rest: usize) -> u8
+    requires { ⌜ (8 * whole + rest ≤ 8 * length (now sdu)) × (rest < 8) ⌝ }
+    ensures { λ y. ⌜ y ≡ kept rest (getD (now (sdu .entry)) whole 0) ⌝ }
+{
+    if rest == 0 {
+        return 0;
+    }
+    let k = 8 - rest;
+    (sdu[whole] >> k) << k
+}
+
+// Copies `n` octets of `src` from `from` on to `dst` from `at` on.
+pub fn copy_octets(dst: &mut [u8], at: usize, src: &[u8], from: usize, n: usize)
+    requires { ⌜ (at + n ≤ length (now dst)) × (from + n ≤ length (now src)) ⌝ }
+    ensures { λ _. ⌜ now (dst .exit) ≡ paste (now (dst .entry)) at (drop from (now (src .entry))) n ⌝ }
+{
+    for i in 0..n {
+        dst[at + i] = src[from + i];
+    }
+}
+
+// Writes `n` zero octets from `at` on.
+pub fn zero_octets(dst: &mut [u8], at: usize, n: usize)
+    requires { ⌜ at + n ≤ length (now dst) ⌝ }
+    ensures { λ _. ⌜ now (dst .exit) ≡ paste (now (dst .entry)) at (replicate n 0) n ⌝ }
+{
+    for i in 0..n {
+        dst[at + i] = 0;
+    }
+}
+
+// Writes a cell: the first `bits` bits of an SDU, then zeros.
+pub fn write_cell(store: &mut [u8], base: usize, sdu: &[u8], bits: usize)
+    requires { ⌜ (base + 256 ≤ length (now store)) × (bits ≤ 2048) × (bits ≤ 8 * length (now sdu)) ⌝ }
+    ensures { λ _. ⌜ now (store .exit) ≡ paste (now (store .entry)) base (cellOf bits (now (sdu .entry))) 256 ⌝ }
+{
+    let whole = bits / 8;
+    copy_octets(store, base, sdu, 0, whole);
+    if whole == 256 {
+        return;
+    }
+    store[base + whole] = edge(sdu, whole, bits % 8);
+    zero_octets(store, base + (whole + 1), 255 - whole);
+}
