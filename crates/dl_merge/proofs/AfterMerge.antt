@@ -18,7 +18,7 @@ use Rattle.dl_merge.specs.Merge.{mergeCells, mergedQueue, keep, always}
 use Rattle.dl_merge.proofs.MergeLaws.{merge-few}
 use Rattle.dl_merge.proofs.SoundMerge.{merge-sound, merge-cells, merge-octets}
 
-queue-cells : (n : ℕ) (rs : List Record) (s : List ℕ) → 256 * n ≤ length s → Cells (queueOf n rs s)
+pub queue-cells : (n : ℕ) (rs : List Record) (s : List ℕ) → 256 * n ≤ length s → Cells (queueOf n rs s)
 unfolding queueOf Cells
 queue-cells zero rs s h = tt
 queue-cells (suc n) rs s h = (length-take-le 256 s (omega arith), queue-cells n (drop 1 rs) (drop 256 s) (rw length-drop (omega arith)))

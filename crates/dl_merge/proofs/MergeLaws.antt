@@ -141,7 +141,7 @@ pub record Respects {C D : Type 0} (f : Record → C → D) (fresh : Item C → 
   pub old : (g x : Item C) → f (joined (g .rec) (x .rec)) (join g (x .load)) ≡ join' (reload f g) (f (x .rec) (x .load))
 
 module _ {C D : Type 0} (f : Record → C → D) where
-  only-map : (p : Kind → Bool) (xs : List (Item C)) → map (reload f) (only p xs) ≡ only p (map (reload f) xs)
+  pub only-map : (p : Kind → Bool) (xs : List (Item C)) → map (reload f) (only p xs) ≡ only p (map (reload f) xs)
   unfolding only
   only-map p [] = refl
   only-map p (x ∷ xs) = go (p (x .rec .kind)) (only-map p xs)

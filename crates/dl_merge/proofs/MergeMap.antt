@@ -18,7 +18,7 @@ use Rattle.dl_merge.proofs.MergeLaws.{reload, merge-map, records-map, k
 use Rattle.dl_merge.proofs.ArrangeLaws.{source-place, source-none}
 
 -- the cell at the place that a record comes from
-abbrev cellFrom : List ℕ → Record → ℕ → List ℕ
+abbrev pub cellFrom : List ℕ → Record → ℕ → List ℕ
 cellFrom s r f = sourceCell s f
 
 pub cells-map : (s : List ℕ) (k : ℕ) (xs : List (Item ℕ)) → arranged s (sourcesOf k xs) ≡ cellsOf k (map (reload (cellFrom s)) xs)
@@ -27,7 +27,7 @@ cells-map s zero xs = refl
 cells-map s (suc k) [] = ap₂ (λ (a b : List ℕ). a ++ b) (sym (source-none s 16 (omega arith))) (cells-map s k [])
 cells-map s (suc k) (x ∷ xs) = ap (λ (b : List ℕ). sourceCell s (x .load) ++ b) (cells-map s k xs)
 
-counted-queue : (s : List ℕ) (i n : ℕ) (rs : List Record) → i + n ≤ 16 → map (reload (cellFrom s)) (counted i n rs) ≡ queueOf n rs (drop (256 * i) s)
+pub counted-queue : (s : List ℕ) (i n : ℕ) (rs : List Record) → i + n ≤ 16 → map (reload (cellFrom s)) (counted i n rs) ≡ queueOf n rs (drop (256 * i) s)
 unfolding counted queueOf
 counted-queue s i zero rs h = refl
 counted-queue s i (suc n) rs h =

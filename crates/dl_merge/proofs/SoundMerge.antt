@@ -103,15 +103,15 @@ minimal-sound g e k =
 
 -- ---- lists
 
-abbrev SoundItem : Item (List ℕ) → Type 0
+abbrev pub SoundItem : Item (List ℕ) → Type 0
 SoundItem x = soundPlace true (x .rec) (x .load) ≡ true
 
-items-each : (xs : List (Item (List ℕ))) → soundItems xs ≡ true → All SoundItem xs
+pub items-each : (xs : List (Item (List ℕ))) → soundItems xs ≡ true → All SoundItem xs
 unfolding soundItems
 items-each [] e = tt
 items-each (x ∷ xs) e = (and-left (soundPlace true (x .rec) (x .load)) (soundItems xs) e, items-each xs (and-right (soundPlace true (x .rec) (x .load)) (soundItems xs) e))
 
-each-items : (xs : List (Item (List ℕ))) → All SoundItem xs → soundItems xs ≡ true
+pub each-items : (xs : List (Item (List ℕ))) → All SoundItem xs → soundItems xs ≡ true
 unfolding soundItems
 each-items [] h = refl
 each-items (x ∷ xs) h = and-both (soundPlace true (x .rec) (x .load)) (soundItems xs) (h .0) (each-items xs (h .1))
@@ -136,15 +136,15 @@ merge-sound xs e = each-items (mergeCells xs) (merge-all (always zeroCell) keep 
 
 -- ---- cells stay cells
 
-abbrev OneCell : Item (List ℕ) → Type 0
+abbrev pub OneCell : Item (List ℕ) → Type 0
 OneCell x = length (x .load) ≡ 256
 
-cells-each : (xs : List (Item (List ℕ))) → Cells xs → All OneCell xs
+pub cells-each : (xs : List (Item (List ℕ))) → Cells xs → All OneCell xs
 unfolding Cells
 cells-each [] h = tt
 cells-each (x ∷ xs) h = (h .0, cells-each xs (h .1))
 
-each-cells : (xs : List (Item (List ℕ))) → All OneCell xs → Cells xs
+pub each-cells : (xs : List (Item (List ℕ))) → All OneCell xs → Cells xs
 unfolding Cells
 each-cells [] h = tt
 each-cells (x ∷ xs) h = (h .0, each-cells xs (h .1))
@@ -154,19 +154,19 @@ merge-cells xs h = each-cells (mergeCells xs) (merge-all (always zeroCell) keep 
 
 -- ---- and octets octets
 
-abbrev OctetItem : Item (List ℕ) → Type 0
+abbrev pub OctetItem : Item (List ℕ) → Type 0
 OctetItem x = Octets (x .load)
 
-queue-octets : (n : ℕ) (rs : List Record) (s : List ℕ) → Octets s → All OctetItem (queueOf n rs s)
+pub queue-octets : (n : ℕ) (rs : List Record) (s : List ℕ) → Octets s → All OctetItem (queueOf n rs s)
 unfolding queueOf
 queue-octets zero rs s h = tt
 queue-octets (suc n) rs s h = (octets-take 256 s h, queue-octets n (drop 1 rs) (drop 256 s) (octets-drop 256 s h))
 
-zero-octets : Octets zeroCell
+pub zero-octets : Octets zeroCell
 unfolding zeroCell
 zero-octets = octets-zero 256
 
-octets-cells : (k : ℕ) (xs : List (Item (List ℕ))) → All OctetItem xs → Octets (cellsOf k xs)
+pub octets-cells : (k : ℕ) (xs : List (Item (List ℕ))) → All OctetItem xs → Octets (cellsOf k xs)
 unfolding cellsOf
 octets-cells zero xs h = λ i. omega arith
 octets-cells (suc k) [] h = octets-append zeroCell (cellsOf k []) zero-octets (octets-cells k [] h)

@@ -24,7 +24,7 @@ pub record Holds (xs : List (Item ℕ)) (out : List Record) (from : List ℕ) (k
 pub holds-as : (xs ys : List (Item ℕ)) (out : List Record) (from : List ℕ) (k : ℕ) → xs ≡ ys → Holds xs out from k → Holds ys out from k
 holds-as xs ys out from k e h = record { recs = h .recs ∙ ap (recordsOf 16) e; srcs = h .srcs ∙ ap (sourcesOf 16) e; size = h .size ∙ ap length e }
 
-holds-snoc : (xs : List (Item ℕ)) (out : List Record) (from : List ℕ) (k : ℕ) (r : Record) (i : ℕ) → k < 16 → Holds xs out from k → Holds (xs ++ item r i ∷ []) (set out k r) (set from k i) (k + 1)
+pub holds-snoc : (xs : List (Item ℕ)) (out : List Record) (from : List ℕ) (k : ℕ) (r : Record) (i : ℕ) → k < 16 → Holds xs out from k → Holds (xs ++ item r i ∷ []) (set out k r) (set from k i) (k + 1)
 holds-snoc xs out from k r i b h =
     let e : length xs < 16 = omega arith in
     record {
@@ -34,7 +34,7 @@ holds-snoc xs out from k r i b h =
     }
 
 -- the records under another name
-holds-out : (xs : List (Item ℕ)) (out out' : List Record) (from : List ℕ) (k : ℕ) → out ≡ out' → Holds xs out' from k → Holds xs out from k
+pub holds-out : (xs : List (Item ℕ)) (out out' : List Record) (from : List ℕ) (k : ℕ) → out ≡ out' → Holds xs out' from k → Holds xs out from k
 holds-out xs out out' from k e h = record { recs = e ∙ h .recs; srcs = h .srcs; size = h .size }
 
 -- ---- the records that stay

@@ -37,7 +37,7 @@ fn is_grant_or_ack(k: Kind) -> bool
 }
 
 // Whether a record is neither waiting nor started, nor to be merged itself.
-fn is_record(k: Kind) -> bool
+pub fn is_record(k: Kind) -> bool
     ensures { λ b. ⌜ b ≡ isRecord k ⌝ }
 {
     match k {
@@ -267,7 +267,7 @@ fn write_cells(store: &mut [u8], first: usize, cells: &[u8], from: [u8; 16])
 }
 
 // The sixteen cells from place `first` on, in a new order.
-fn rearrange(store: &mut [u8], first: usize, from: [u8; 16])
+pub fn rearrange(store: &mut [u8], first: usize, from: [u8; 16])
     requires { ⌜ 256 * first + 4096 ≤ length (now store) ⌝ }
     ensures { λ _. ⌜ now (store .exit) ≡ paste (now (store .entry)) (256 * first) (arranged (take 4096 (drop (256 * first) (now (store .entry)))) from) 4096 ⌝ }
 {
@@ -276,7 +276,7 @@ fn rearrange(store: &mut [u8], first: usize, from: [u8; 16])
 }
 
 // The sixteen records from `first` on.
-fn read_records(records: [Record; 64], first: usize) -> [Record; 16]
+pub fn read_records(records: [Record; 64], first: usize) -> [Record; 16]
     requires { ⌜ first + 16 ≤ 64 ⌝ }
     ensures { λ r. ⌜ r ≡ take 16 (drop first records) ⌝ }
 {
@@ -288,7 +288,7 @@ fn read_records(records: [Record; 64], first: usize) -> [Record; 16]
 }
 
 // The records, with these sixteen from `first` on.
-fn write_records(records: [Record; 64], first: usize, new: [Record; 16]) -> [Record; 64]
+pub fn write_records(records: [Record; 64], first: usize, new: [Record; 16]) -> [Record; 64]
     requires { ⌜ first + 16 ≤ 64 ⌝ }
     ensures { λ r. ⌜ r ≡ paste records first new 16 ⌝ }
 {

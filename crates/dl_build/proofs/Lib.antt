@@ -1,0 +1,4 @@
+pub mod OrderLaws
+pub mod PlaceLaws
+pub mod BuildLaws
+pub mod AfterBuild

@@ -1,0 +1,9 @@
+pub mod ArrayLaws
+pub mod SendLaws
+pub mod BitLaws
+pub mod TurnLaws
+pub mod BlockLaws
+pub mod OnceLaws
+pub mod KeptLaws
+pub mod MapLaws
+pub mod Cases

@@ -1,0 +1,79 @@
+-- A list of records sent in a block, one after another, and then the null PDU: document 01, section "Block". A record goes with a load by which its SDU
+-- is known: its cell, the place that it stands at, or its SDU with the name of its grant. Assumes nothing.
+use mathlib.Core.Bool.{Bool, true, false, cond}
+use mathlib.Core.List.{List, [], _∷_, _++_}
+use Prim.Native.Nat.{ℕ, _-_, _*_}
+use lib.Dec.{ltb}
+use lib.ListN.{length, take, replicate}
+use Rattle.bitbuffer.specs.Bits.{bitsOf, packed}
+use Rattle.optional.specs.declared.OptU16.{OptU16}
+use Rattle.mac_reader.specs.PduList.{Pdu, null}
+use Rattle.dl_record.specs.declared.Kind.{Kind}
+use Rattle.dl_record.specs.declared.Record.{Record}
+use Rattle.dl_queue.specs.Queue.{Item, item}
+use Rattle.bs_frag.specs.NextPdu.{Next, next}
+use Rattle.bs_frag.specs.declared.Outcome.{Outcome}
+use Rattle.bs_frag.specs.declared.Outcome.the-variants.{Finished, Waiting, Started}
+
+-- a record as it stays, with so many bits sent
+abbrev pub again : Kind → ℕ → Record → Record
+again k sent r = record { kind = k; «address_kind» = r .«address_kind»; number = r .number; tag = r .tag; header = r .header; bits = r .bits; sent = sent }
+
+-- "What did not finish stays .. as waiting or started."
+abbrev pub kept : {C : Type 0} → Outcome → Item C → List (Item C)
+kept Finished x = []
+kept Waiting x = item (again Kind.Waiting 0 (x .rec)) (x .load) ∷ []
+kept (Started n) x = item (again Kind.Started n (x .rec)) (x .load) ∷ []
+
+abbrev pub isUnderway : Kind → Bool
+isUnderway Kind.Grant = false
+isUnderway Kind.Ack = false
+isUnderway Kind.Record = false
+isUnderway Kind.Waiting = true
+isUnderway Kind.Started = true
+
+abbrev pub tagIn : OptU16 → List ℕ
+tagIn OptU16.Absent = []
+tagIn (OptU16.Of t) = t ∷ []
+
+-- "Tags of finished records come back in order."
+abbrev pub tagsOf : Outcome → OptU16 → List ℕ
+tagsOf Finished t = tagIn t
+tagsOf Waiting t = []
+tagsOf (Started n) t = []
+
+-- what a list of records comes to: the PDUs, the room behind them, what stays "in the order taken", and the tags
+pub record Sent (C : Type 0) : Type 0 where
+  pub pdus : List Pdu
+  pub room : ℕ
+  pub left : List (Item C)
+  pub tags : List ℕ
+
+abbrev pub andThen : {C : Type 0} → Next → Item C → Sent C → Sent C
+andThen s x t =
+    record { pdus = s .pdus ++ t .pdus; room = t .room; left = kept (s .outcome) x ++ t .left; tags = tagsOf (s .outcome) (x .rec .tag) ++ t .tags }
+
+-- "If 16 bits or more are left, a null PDU (octets 00 10 hexadecimal) follows."
+abbrev pub nullIn : ℕ → List Pdu
+nullIn room = cond (ltb room 16) [] (null ∷ [])
+
+-- sdu c n is the SDU, of n bits, that a load c stands for
+module _ {C : Type 0} (sdu : C → ℕ → List ℕ) where
+  abbrev pub turn : ℕ → Item C → Next
+  turn room x = next room (x .rec) (sdu (x .load) (x .rec .bits))
+
+  unfoldable pub sendAll : ℕ → List (Item C) → Sent C
+  sendAll room [] = record { pdus = nullIn room; room = room; left = []; tags = [] }
+  sendAll room (x ∷ xs) = let s : Next = turn room x in andThen s x (sendAll (s .room) xs)
+
+-- ---- the loads
+
+-- "one to a place": the SDU in a cell
+abbrev pub cellSdu : List ℕ → ℕ → List ℕ
+cellSdu cell n = take n (bitsOf cell)
+
+-- ---- the block
+
+-- n octets that begin with these bits; zeros follow
+unfoldable pub blockOf : ℕ → List ℕ → List ℕ
+blockOf n f = packed n (f ++ replicate (8 * n - length f) 0)

@@ -1,0 +1,172 @@
+// Records in the order in which they are taken, sent in a block.
+ghost use mathlib.Core.Path.{_≡_};
+ghost use Prim.Native.Nat.{_+_, _-_, _*_, _<_, _≤_, _^_};
+ghost use mathlib.Core.List.{_++_};
+ghost use lib.ListN.{length, replicate};
+ghost use Rattle.bitbuffer.specs.Bits.{bitsOf, written};
+ghost use Rattle.mac_reader.specs.PduList.{blockBits};
+ghost use Rattle.dl_send.specs.Send.{again, tagsOf, nullIn};
+ghost use Rattle.dl_send.specs.Progress.{staysIn, stayedAs, stayedFrom, firstTag, sentOf, CanSend, WrittenAs, BuiltAs};
+use bs_frag::Outcome;
+use dl_record::Kind;
+use dl_record::Record;
+use optional::OptU16;
+
+// What stays, with the places that it comes from, and the tags of what is finished.
+pub struct Progress {
+    pub records: [Record; 16],
+    pub from: [u8; 16],
+    pub left: usize,
+    pub tags: [u16; 16],
+    pub tag_count: usize,
+}
+
+fn again_as(kind: Kind, sent: u16, r: Record) -> Record
+    ensures { λ x. ⌜ x ≡ again kind sent r ⌝ }
+{
+    let tag = r.tag;
+    let header = r.header;
+    Record {
+        kind,
+        address_kind: r.address_kind,
+        number: r.number,
+        tag,
+        header,
+        bits: r.bits,
+        sent,
+    }
+}
+
+// Whether a record stays after its turn, as a count.
+fn stays(outcome: Outcome) -> usize
+    ensures { λ n. ⌜ (n ≡ staysIn outcome) × (n ≤ 1) ⌝ }
+{
+    match outcome {
+        Outcome::Finished => 0,
+        Outcome::Waiting => 1,
+        Outcome::Started(_) => 1,
+    }
+}
+
+// The record as it stays, the empty record if it does not.
+fn stayed(outcome: Outcome, r: Record) -> Record
+    ensures { λ x. ⌜ x ≡ stayedAs outcome r ⌝ }
+{
+    match outcome {
+        Outcome::Finished => Record::EMPTY,
+        Outcome::Waiting => again_as(Kind::Waiting, 0, r),
+        Outcome::Started(n) => again_as(Kind::Started, n, r),
+    }
+}
+
+// The place of a record that stays, 16 if it does not.
+fn stayed_from(outcome: Outcome, place: u8) -> u8
+    ensures { λ x. ⌜ x ≡ stayedFrom outcome place ⌝ }
+{
+    match outcome {
+        Outcome::Finished => 16,
+        Outcome::Waiting => place,
+        Outcome::Started(_) => place,
+    }
+}
+
+// Whether a tag comes back, as a count.
+fn tag_comes(outcome: Outcome, tag: OptU16) -> usize
+    ensures { λ n. ⌜ (n ≡ length (tagsOf outcome tag)) × (n ≤ 1) ⌝ }
+{
+    match outcome {
+        Outcome::Finished => match tag {
+            OptU16::Absent => 0,
+            OptU16::Of(_) => 1,
+        },
+        Outcome::Waiting => 0,
+        Outcome::Started(_) => 0,
+    }
+}
+
+// The tag that comes back, 0 for none.
+fn tag_value(outcome: Outcome, tag: OptU16) -> u16
+    ensures { λ t. ⌜ t ≡ firstTag (tagsOf outcome tag) ⌝ }
+{
+    match outcome {
+        Outcome::Finished => match tag {
+            OptU16::Absent => 0,
+            OptU16::Of(t) => t,
+        },
+        Outcome::Waiting => 0,
+        Outcome::Started(_) => 0,
+    }
+}
+
+// The null PDU, where 16 bits or more are left.
+fn put_null(block: &mut [u8], at: usize, w: usize)
+    requires { ⌜ (at ≤ w) × (w ≤ 8 * length (now block)) × (8 * length (now block) < 2 ^ 64) ⌝ }
+    ensures { λ _. ⌜ bitsOf (now (block .exit)) ≡ written (bitsOf (now (block .entry))) at (blockBits (nullIn (w - at))) ⌝ }
+{
+    if w - at < 16 {
+        return;
+    }
+    mac_writer::put_null(block, at);
+}
+
+// Sends the first `n` of the records, in order, and then the null PDU.
+fn send_all(
+    block: &mut [u8],
+    w: usize,
+    store: &[u8],
+    first: usize,
+    records: [Record; 16],
+    from: [u8; 16],
+    n: usize,
+) -> Progress
+    requires { ⌜ CanSend (length (now block)) w (now store) first records from n ⌝ }
+    ensures { λ p. ⌜ WrittenAs (bitsOf (now (block .entry))) (bitsOf (now (block .exit))) p (sentOf (now (store .entry)) first w records from n) ⌝ }
+{
+    let mut out = [Record::EMPTY; 16];
+    let mut out_from = [16u8; 16];
+    let mut left = 0;
+    let mut tags = [0u16; 16];
+    let mut tag_count = 0;
+    let mut at = 0;
+    let mut i = 0;
+    while i < n {
+        let r = records[i];
+        let place = from[i];
+        let chunk = bs_frag::get_next_chunk(block, at, w, store, first + place as usize, r);
+        let outcome = chunk.outcome;
+        let tag = r.tag;
+        out[left] = stayed(outcome, r);
+        out_from[left] = stayed_from(outcome, place);
+        tags[tag_count] = tag_value(outcome, tag);
+        left += stays(outcome);
+        tag_count += tag_comes(outcome, tag);
+        at = chunk.next;
+        i += 1;
+    }
+    put_null(block, at, w);
+    Progress {
+        records: out,
+        from: out_from,
+        left,
+        tags,
+        tag_count,
+    }
+}
+
+// Builds a block of `w` bits of the first `n` of the records, in order; all its octets are written.
+pub fn build_records(
+    block: &mut [u8],
+    w: usize,
+    store: &[u8],
+    first: usize,
+    records: [Record; 16],
+    from: [u8; 16],
+    n: usize,
+) -> Progress
+    requires { ⌜ CanSend (length (now block)) w (now store) first records from n ⌝ }
+    ensures { λ p. ⌜ BuiltAs (length (now (block .entry))) (now (block .exit)) p (sentOf (now (store .entry)) first w records from n) ⌝ }
+{
+    let octets = block.len();
+    sdu_store::zero_octets(block, 0, octets);
+    send_all(block, w, store, first, records, from, n)
+}

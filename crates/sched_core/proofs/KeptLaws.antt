@@ -1,0 +1,365 @@
+-- Every call keeps a sound memory sound, and a new station's memory is sound. Assumes nothing.
+use mathlib.Core.Path.{_≡_, refl, sym, ap, _∙_}
+use mathlib.Core.Bool.{Bool, true, false, cond}
+use mathlib.Core.List.{List, [], _∷_, _++_}
+use Prim.Native.Nat.{ℕ, zero, _+_, _-_, _*_, _^_, _≤_, _<_}
+use native.Mathlib.Omega.{arith}
+use lib.Dec.{leb}
+use lib.ListN.{length, getD, take, drop, replicate, length-set, length-replicate, getD-replicate, replicate-append-replicate}
+use lib.Seq.{take-at, drop-at}
+use borrow.Author.Tests.{leb-true, le-leb, lt-ltb, le-ltb}
+use Rattle.optional.specs.declared.OptU8.{OptU8}
+use Rattle.optional.specs.declared.OptU16.{OptU16}
+use Rattle.tdma_time.specs.declared.TdmaTime.{TdmaTime}
+use Rattle.tdma_time.specs.Time.{Valid, nextTime, slotOf}
+use Rattle.tdma_time.proofs.TimeLaws.{timeOf-valid}
+use Rattle.slot_codes.specs.Codes.{grantOctet}
+use Rattle.uplink.specs.declared.CapAnswer.{CapAnswer}
+use Rattle.uplink.specs.declared.CapReply.{CapReply}
+use Rattle.uplink.specs.UplinkEntry.{Table, FourRowsOfEighteen, emptyTable, tableView, all, soundTable, soundCounter, soundCounters}
+use Rattle.uplink.specs.Request.{Request, Verdict, noRun, tooLate, grant, draws, drawn, verdict, markerOf, markersAfter, tableAfter, countersAfter, given, answer}
+use Rattle.uplink.specs.Request.{tableOf as uplinkTable}
+use Rattle.uplink.specs.GrantedExactly.{Proper}
+use Rattle.uplink.proofs.Everywhere.{all-at, at-all}
+use Rattle.uplink.proofs.TableLaws.{empty-shape, store-shape}
+use Rattle.uplink.proofs.ReserveLaws.{reserve-shape}
+use Rattle.uplink.proofs.SoundLaws.{cleared-sound}
+use Rattle.uplink.proofs.GrantedExactly.{granted-exactly}
+use Rattle.mac_pdus.specs.Legal.{optFits, legalOffered}
+use Rattle.dl_record.specs.declared.Record.{Record}
+use Rattle.dl_record.specs.declared.QueuedHeader.{QueuedHeader}
+use Rattle.dl_record.specs.Record.{emptyRecord, grantRecord, ackRecord, offeredRecord, resourceOf}
+use Rattle.dl_record.specs.Questions.{legalAddress, presentSdu}
+use Rattle.dl_record.proofs.RecordLaws.{is-empty}
+use Rattle.dl_record.proofs.Tests.{and-both, and-right}
+use Rattle.sdu_store.specs.Cells.{cleanPast, cellOf}
+use Rattle.sdu_store.proofs.OctetLaws.{Octets, octets-zero}
+use Rattle.dl_queue.specs.Queue.{zeroCell, enqueued, withCell}
+use Rattle.dl_queue.specs.Questions.{soundPlace, soundPlaces, soundQueue}
+use Rattle.dl_queue.proofs.PushLaws.{rec-shift, cell-shift}
+use Rattle.dl_queue.proofs.SoundLaws.{queue-at, queue-all, places-all, zero-clean}
+use Rattle.dl_queue.proofs.EnqueueLaws.{grant-joins, ack-joins, offered-joins}
+use Rattle.sched_core.specs.declared.Answer.{Answer}
+use Rattle.sched_core.specs.declared.Refusal.{Refusal}
+use Rattle.sched_core.specs.declared.Reply.{Reply}
+use Rattle.sched_core.specs.declared.RequestReply.{RequestReply}
+use Rattle.sched_core.specs.Station.{tableOf, stationOf}
+use Rattle.sched_core.specs.Questions.{Memory, memory, Question, soundCount, requestQuestions, ackQuestions, tmaQuestions, isStationSound, areLengthsRight, isQueueSound, ask}
+use Rattle.sched_core.specs.Calls.{Outcome, withRecord, withSdu, requestOutcome, grantQueued, requestAnswered, requestCall, ackCall, tmaCall, advanceCall, newMemory, advanceMemory}
+use Rattle.sched_core.specs.Invariant.{SoundMemory, EveryCallKeeps}
+use Rattle.sched_core.proofs.AskLaws.{ask-elim}
+use Rattle.sched_core.proofs.StationLaws.{sound-parts, parts-sound}
+use Rattle.sched_core.proofs.QuestionLaws.{right-lengths, timeslot-range, address-number, room-left}
+use Rattle.sched_core.proofs.GrantLaws.{grant-holds}
+use Rattle.sched_core.proofs.QueuesLaws.{record-queued, sdu-queued}
+
+-- a list of four is its elements
+four : {A : Type 0} (l : List A) (d : A) → length l ≡ 4 → getD l 0 d ∷ getD l 1 d ∷ getD l 2 d ∷ getD l 3 d ∷ [] ≡ l
+four [] d e = absurd (omega arith)
+four (a ∷ []) d e = absurd (omega arith)
+four (a ∷ b ∷ []) d e = absurd (omega arith)
+four (a ∷ b ∷ x ∷ []) d e = absurd (omega arith)
+four (a ∷ b ∷ x ∷ y ∷ []) d e = refl
+four (a ∷ b ∷ x ∷ y ∷ z ∷ l) d e = absurd (omega arith)
+
+-- a table read row by row is that table
+rows-shape : (tb : Table) → FourRowsOfEighteen tb → FourRowsOfEighteen (getD tb 0 [] ∷ getD tb 1 [] ∷ getD tb 2 [] ∷ getD tb 3 [] ∷ [])
+rows-shape tb s = rw (four tb [] (s .rows)) s
+
+-- what a station's parts must be for its memory to be sound
+pub record Parts (x : TdmaTime) (tb : Table) (ms ns : List ℕ) (rs : List Record) (st : List ℕ) : Type 0 where
+  pub time : Valid x
+  pub shape : FourRowsOfEighteen tb
+  pub entries : soundTable tb ≡ true
+  pub four-counters : length ms ≡ 4
+  pub counters : soundCounters ms ≡ true
+  pub four-counts : length ns ≡ 4
+  pub places : length rs ≡ 64
+  pub cells : length st ≡ 16384
+  pub octets : Octets st
+  pub queue : soundQueue ns rs st ≡ true
+
+pub parts-memory : (x : TdmaTime) (tb : Table) (ms ns : List ℕ) (rs : List Record) (st : List ℕ) → Parts x tb ms ns rs st → SoundMemory (memory (stationOf x tb ms ns) rs st)
+parts-memory x tb ms ns rs st p =
+    let same = four tb [] (p .shape .rows) in
+    record {
+      station = parts-sound (stationOf x tb ms ns)
+          (record {
+            time = p .time;
+            table = ap soundTable same ∙ p .entries;
+            counters = p .counters;
+            counts = at-all soundCount ns 0 (λ i h. le-leb (getD ns i 0) 16 (queue-at ns rs st (p .queue) i h .0));
+          });
+      queue = p .queue;
+      places = p .places;
+      cells = p .cells;
+      table = rows-shape tb (p .shape);
+      counters = p .four-counters;
+      counts = p .four-counts;
+      octets = p .octets;
+    }
+
+pub memory-parts : (m : Memory) → SoundMemory m
+    → Parts (m .station .time) (tableOf (m .station)) (m .station .«next_usage_marker») (m .station .queued) (m .records) (m .store)
+memory-parts m h =
+    let p = sound-parts (m .station) (h .station) in
+    record {
+      time = p .time;
+      shape = h .table;
+      entries = p .table;
+      four-counters = h .counters;
+      counters = p .counters;
+      four-counts = h .counts;
+      places = h .places;
+      cells = h .cells;
+      octets = h .octets;
+      queue = h .queue;
+    }
+
+-- ---- advance
+
+pub advance-keeps : (m : Memory) → SoundMemory m → SoundMemory (advanceMemory m .memory)
+unfolding advanceMemory advanceCall
+advance-keeps m h =
+    ask-elim (λ (a : Answer). SoundMemory (memory (a .station) (m .records) (m .store))) (isStationSound (m .station) ∷ []) _ _ (λ r. h)
+    (λ yes.
+    let p = memory-parts m h in
+    parts-memory _ _ _ _ _ _
+    (record {
+      time = timeOf-valid (slotOf (m .station .time) + 1);
+      shape = store-shape (tableOf (m .station)) _ _ (p .shape);
+      entries = cleared-sound (tableOf (m .station)) (nextTime (m .station .time)) (p .shape) (p .entries);
+      four-counters = p .four-counters;
+      counters = p .counters;
+      four-counts = p .four-counts;
+      places = p .places;
+      cells = p .cells;
+      octets = p .octets;
+      queue = p .queue;
+    }))
+
+-- ---- a new station
+
+abbrev zeros : ℕ → List ℕ
+zeros n = replicate {A = ℕ} n 0
+
+-- 256 octets of a run of zeros are a zero cell
+zeros-cell : (n d : ℕ) → d + 256 ≤ n → take 256 (drop d (zeros n)) ≡ zeroCell
+unfolding zeroCell
+zeros-cell n d h =
+    let e : n ≡ d + (256 + (n - d - 256)) = omega arith in
+    let split : zeros n ≡ zeros d ++ (zeros 256 ++ zeros (n - d - 256)) =
+    ap (λ (k : ℕ). zeros k) e ∙ sym (replicate-append-replicate {A = ℕ} d (256 + (n - d - 256)) 0)
+    ∙ ap (λ (l : List ℕ). zeros d ++ l) (sym (replicate-append-replicate {A = ℕ} 256 (n - d - 256) 0)) in
+    ap (λ (l : List ℕ). take 256 (drop d l)) split
+    ∙ ap (take 256) (drop-at (zeros d) (zeros 256 ++ zeros (n - d - 256)) d (length-replicate {A = ℕ} d 0))
+    ∙ take-at (zeros 256) (zeros (n - d - 256)) 256 (length-replicate {A = ℕ} 256 0)
+
+empty-place : soundPlace false emptyRecord zeroCell ≡ true
+unfolding soundPlace
+empty-place = and-both _ (cleanPast 0 zeroCell) is-empty zero-clean
+
+-- "every place and cell empty"
+pub empty-queue-sound : (k a b : ℕ) → a ≡ 16 * k → b ≡ 4096 * k → soundQueue (zeros k) (replicate a emptyRecord) (zeros b) ≡ true
+empty-queue-sound k a b ea eb = queue-all (zeros k) (replicate a emptyRecord) (zeros b) (λ u h. timeslot u (omega (arith, h, length-replicate {A = ℕ} k 0)))
+  where
+    timeslot : (u : ℕ) → u < k → (getD (zeros k) u 0 ≤ 16) × (soundPlaces 16 (getD (zeros k) u 0) (drop (16 * u) (replicate a emptyRecord)) (drop (256 * (16 * u)) (zeros b)) ≡ true)
+    timeslot u h =
+        rw (getD-replicate {A = ℕ} k u 0 0 h) (
+          omega arith,
+          places-all 16 0 (drop (16 * u) (replicate a emptyRecord)) (drop (256 * (16 * u)) (zeros b))
+              (λ i l.
+              rw (
+                le-ltb i 0 (omega arith),
+                rec-shift (16 * u) (replicate a emptyRecord) i ∙ getD-replicate a (16 * u + i) emptyRecord emptyRecord (omega arith),
+                cell-shift (16 * u) (zeros b) i ∙ zeros-cell b (256 * (16 * u + i)) (omega arith),
+              ) empty-place),
+        )
+
+empty-entries : soundTable emptyTable ≡ true
+unfolding all
+empty-entries = refl
+
+counters-at-4 : soundCounters (replicate 4 4) ≡ true
+unfolding all
+counters-at-4 = refl
+
+pub new-sound : (x : TdmaTime) → Valid x → SoundMemory (newMemory x)
+unfolding newMemory
+new-sound x h =
+    parts-memory x emptyTable (replicate 4 4) (zeros 4) (replicate 64 emptyRecord) (zeros 16384)
+    (record {
+      time = h;
+      shape = empty-shape;
+      entries = empty-entries;
+      four-counters = refl;
+      counters = counters-at-4;
+      four-counts = refl;
+      places = length-replicate 64 emptyRecord;
+      cells = length-replicate {A = ℕ} 16384 0;
+      octets = octets-zero 16384;
+      queue = empty-queue-sound 4 64 16384 refl refl;
+    })
+
+-- ---- acks and records
+
+module _ (m : Memory) (t : ℕ) (h : SoundMemory m) (low : 1 ≤ t) (high : t ≤ 4) (room : getD (m .station .queued) (t - 1) 0 < 16) where
+  abbrev ns : List ℕ
+  ns = m .station .queued
+
+  abbrev inside : t - 1 < length ns
+  inside = omega (arith, h .counts, low, high)
+
+  -- the memory with a record queued, where the queue stays sound
+  joined : (r : Record) (st : List ℕ) (tb : Table) (ms : List ℕ) → FourRowsOfEighteen tb → soundTable tb ≡ true → length ms ≡ 4 → soundCounters ms ≡ true
+      → length st ≡ 16384 → Octets st → soundQueue (enqueued ns (m .records) (t - 1) r .counts) (enqueued ns (m .records) (t - 1) r .records) st ≡ true
+      → SoundMemory (memory (stationOf (m .station .time) tb ms (enqueued ns (m .records) (t - 1) r .counts)) (enqueued ns (m .records) (t - 1) r .records) st)
+  joined r st tb ms shape entries four-ms counters size octets sound =
+      parts-memory (m .station .time) tb ms _ _ st
+      (record {
+        time = memory-parts m h .time;
+        shape = shape;
+        entries = entries;
+        four-counters = four-ms;
+        counters = counters;
+        four-counts = length-set ns (t - 1) (getD ns (t - 1) 0 + 1) ∙ h .counts;
+        places = record-queued m t r .places ∙ h .places;
+        cells = size;
+        octets = octets;
+        queue = sound;
+      })
+
+  abbrev places : length (m .records) ≡ 16 * length ns
+  places = omega (arith, h .counts, h .places)
+
+  abbrev cells : length (m .store) ≡ 4096 * length ns
+  cells = omega (arith, h .counts, h .cells)
+
+  abbrev p : Parts (m .station .time) (tableOf (m .station)) (m .station .«next_usage_marker») ns (m .records) (m .store)
+  p = memory-parts m h
+
+  ack-joined : (kind n : ℕ) → legalAddress kind n ≡ true → SoundMemory (withRecord m t (ackRecord kind n))
+  ack-joined kind n a =
+      joined (ackRecord kind n) (m .store) (tableOf (m .station)) (m .station .«next_usage_marker») (p .shape) (p .entries) (p .four-counters) (p .counters) (h .cells) (h .octets)
+      (ack-joins ns (m .records) (m .store) (t - 1) inside room places cells (h .queue) kind n (h .octets) a .sound)
+
+  tma-joined : (kind n : ℕ) (tag : OptU16) (header : QueuedHeader) (bits : ℕ) (sdu : List ℕ) → legalAddress kind n ≡ true
+      → legalOffered (resourceOf (offeredRecord kind n tag header bits) 0 0) ≡ true → presentSdu bits sdu ≡ true
+      → SoundMemory (withSdu m t (offeredRecord kind n tag header bits) sdu)
+  tma-joined kind n tag header bits sdu a l s =
+      let r = offeredRecord kind n tag header bits in
+      let q = offered-joins ns (m .records) (m .store) (t - 1) inside room places cells (h .queue) kind n tag header bits sdu (h .octets) a l s in
+      joined r (withCell (m .store) ns (t - 1) (cellOf bits sdu)) (tableOf (m .station)) (m .station .«next_usage_marker») (p .shape) (p .entries) (p .four-counters) (p .counters)
+      (sdu-queued m t r sdu (h .cells) low high room .cells ∙ h .cells) (q .octets) (q .sound)
+
+  -- ---- requests
+
+  module _ (kind n : ℕ) (address : legalAddress kind n ≡ true) (a : CapAnswer) (shape : FourRowsOfEighteen (uplinkTable a)) (entries : soundTable (uplinkTable a) ≡ true)
+      (four-ms : length (a .«next_usage_marker») ≡ 4) (counters : soundCounters (a .«next_usage_marker») ≡ true) where
+    grant-joined : (cap delay : ℕ) (mk : OptU8) → cap ≤ 15 → delay ≤ 13 → optFits 6 mk ≡ true
+        → SoundMemory (requestOutcome (grantQueued (m .station) (m .records) t kind n a (CapReply.Granted cap delay mk)) (m .store) .memory)
+    unfolding grantQueued
+    grant-joined cap delay mk c d w =
+        joined (grantRecord kind n (grantOctet cap delay) mk) (m .store) (uplinkTable a) (a .«next_usage_marker») shape entries four-ms counters (h .cells) (h .octets)
+        (grant-joins ns (m .records) (m .store) (t - 1) inside room places cells (h .queue) kind n (grantOctet cap delay) mk (h .octets) address
+        (lt-ltb (grantOctet cap delay) (2 ^ 8) (omega (arith, c, d))) w .sound)
+
+    answer-joined : (x : CapReply) → ((cap delay : ℕ) (mk : OptU8) → x ≡ CapReply.Granted cap delay mk → (cap ≤ 15) × (delay ≤ 13) × (optFits 6 mk ≡ true))
+        → SoundMemory (requestOutcome (grantQueued (m .station) (m .records) t kind n a x) (m .store) .memory)
+    unfolding grantQueued
+    answer-joined CapReply.NoRun f = h
+    answer-joined CapReply.TooLate f = h
+    answer-joined (CapReply.Granted cap delay mk) f = let g = f cap delay mk refl in grant-joined cap delay mk (g .0) (g .1) (g .2)
+
+-- what a request leaves of table and counters has their lengths
+module _ (tb : Table) (ms : List ℕ) (r : Request) where
+  after-shape : (w : Verdict) → FourRowsOfEighteen tb → FourRowsOfEighteen (tableAfter tb ms r w)
+  unfolding tableAfter
+  after-shape noRun s = s
+  after-shape tooLate s = s
+  after-shape (grant g) s = reserve-shape _ _ _ _ tb s
+
+  pub answer-shape : (now : TdmaTime) → FourRowsOfEighteen tb → FourRowsOfEighteen (uplinkTable (answer tb ms now r))
+  unfolding answer given
+  answer-shape now s = rows-shape (tableAfter tb ms r (verdict (tableView tb) (slotOf now) r)) (after-shape (verdict (tableView tb) (slotOf now) r) s)
+
+  drawn-four : length ms ≡ 4 → (b : Bool) → length (cond b (drawn ms (r .timeslot)) ms) ≡ 4
+  drawn-four l true = length-set ms (r .timeslot - 1) _ ∙ l
+  drawn-four l false = l
+
+  after-four : (w : Verdict) → length ms ≡ 4 → length (countersAfter ms r w) ≡ 4
+  unfolding countersAfter markersAfter
+  after-four noRun l = l
+  after-four tooLate l = l
+  after-four (grant g) l = drawn-four l (draws (r .code))
+
+  pub answer-four : (now : TdmaTime) → length ms ≡ 4 → length (answer tb ms now r .«next_usage_marker») ≡ 4
+  unfolding answer given
+  answer-four now l = after-four _ l
+
+  -- a marker drawn from sound counters has six bits
+  drawn-fits : (b : Bool) → soundCounter (getD ms (r .timeslot - 1) 0) ≡ true → optFits 6 (cond b (OptU8.Of (getD ms (r .timeslot - 1) 0)) OptU8.Absent) ≡ true
+  drawn-fits true e =
+      lt-ltb (getD ms (r .timeslot - 1) 0) (2 ^ 6) (omega (arith, leb-true (getD ms (r .timeslot - 1) 0) 62 (and-right (leb 4 (getD ms (r .timeslot - 1) 0)) (leb (getD ms (r .timeslot - 1) 0) 62) e)))
+  drawn-fits false e = refl
+
+  marker-fits : length ms ≡ 4 → soundCounters ms ≡ true → 1 ≤ r .timeslot → r .timeslot ≤ 4 → optFits 6 (markerOf ms r) ≡ true
+  unfolding markerOf
+  marker-fits l e a b = drawn-fits (draws (r .code)) (all-at soundCounter ms (r .timeslot - 1) 0 (omega (arith, l, a, b)) e)
+
+-- ---- the calls
+
+pub ack-keeps : (m : Memory) (t kind n : ℕ) → SoundMemory m → SoundMemory (ackCall m t kind n .memory)
+unfolding ackCall
+ack-keeps m t kind n h =
+    ask-elim (λ (o : Outcome Reply). SoundMemory (o .memory)) (ackQuestions m t kind n) _ _ (λ r. h)
+    (λ yes.
+    let ts = timeslot-range t (yes .1 .1 .1 .0) in
+    ack-joined m t h (ts .0) (ts .1) (room-left (m .station .queued) t (yes .1 .1 .1 .1 .1 .0)) kind n (yes .1 .1 .1 .1 .0))
+
+pub tma-keeps : (m : Memory) (t kind n : ℕ) (tag : OptU16) (header : QueuedHeader) (bits : ℕ) (sdu : List ℕ) → SoundMemory m → SoundMemory (tmaCall m t kind n tag header bits sdu .memory)
+unfolding tmaCall
+tma-keeps m t kind n tag header bits sdu h =
+    ask-elim (λ (o : Outcome Reply). SoundMemory (o .memory)) (tmaQuestions m t (offeredRecord kind n tag header bits) sdu) _ _ (λ r. h)
+    (λ yes.
+    let ts = timeslot-range t (yes .1 .1 .1 .0) in
+    tma-joined m t h (ts .0) (ts .1) (room-left (m .station .queued) t (yes .1 .1 .1 .1 .1 .1 .1 .0)) kind n tag header bits sdu (yes .1 .1 .1 .1 .0) (yes .1 .1 .1 .1 .1 .0) (yes .1 .1 .1 .1 .1 .1 .0))
+
+pub request-keeps : (m : Memory) (t code kind n : ℕ) → SoundMemory m → SoundMemory (requestCall m t code kind n .memory)
+unfolding requestCall requestAnswered
+request-keeps m t code kind n h =
+    ask-elim (λ (o : Outcome RequestReply). SoundMemory (o .memory)) (requestQuestions m t code kind n) _ _ (λ r. h)
+    (λ yes.
+    let ts = timeslot-range t (yes .1 .1 .1 .0) in
+    let p = memory-parts m h in
+    let tb = tableOf (m .station) in
+    let ms = m .station .«next_usage_marker» in
+    let r : Request = record { timeslot = t; code = code; number = n } in
+    let good : Proper tb ms (m .station .time) r =
+    record {
+      shape = p .shape;
+      entries = p .entries;
+      four = p .four-counters;
+      counters = p .counters;
+      time = p .time;
+      timeslot-low = ts .0;
+      timeslot-high = ts .1;
+      code = leb-true code 15 (yes .1 .1 .1 .1 .0);
+      number = address-number kind n (yes .1 .1 .1 .1 .1 .0);
+    } in
+    let g = granted-exactly tb ms (m .station .time) r good in
+    answer-joined m t h (ts .0) (ts .1) (room-left (m .station .queued) t (yes .1 .1 .1 .1 .1 .1 .0)) kind n (yes .1 .1 .1 .1 .1 .0)
+    (answer tb ms (m .station .time) r) (answer-shape tb ms r (m .station .time) (p .shape)) (g .sound) (answer-four tb ms r (m .station .time) (p .four-counters)) (g .sound-counters)
+    (answer tb ms (m .station .time) r .reply)
+    (λ cap delay mk e.
+    let k = grant-holds tb ms (m .station .time) r cap delay mk e in
+    (k .cap-fits, k .delay-fits, rw (k .marker-drawn) (marker-fits tb ms r (p .four-counters) (p .counters) (ts .0) (ts .1)))))
+
+pub every-call-keeps : EveryCallKeeps
+every-call-keeps = record { new = new-sound; advance = advance-keeps; request = request-keeps; ack = ack-keeps; tma = tma-keeps }
+
+-- of a sound memory questions 1 and 2 are answered yes: what is asked of the arguments decides
+pub sound-asks : {A : Type 0} (m : Memory) (qs : List Question) (done : A) (refused : Refusal → A) → SoundMemory m
+    → ask (isStationSound (m .station) ∷ areLengthsRight m ∷ isQueueSound m ∷ qs) done refused ≡ ask qs done refused
+unfolding ask
+sound-asks m qs done refused h = rw (h .station, right-lengths m (h .places) (h .cells), h .queue)

@@ -1,0 +1,7 @@
+pub mod AskLaws
+pub mod StationLaws
+pub mod QuestionLaws
+pub mod GrantLaws
+pub mod QueuesLaws
+pub mod KeptLaws
+pub mod EntryLaws

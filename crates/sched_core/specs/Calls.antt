@@ -1,0 +1,143 @@
+-- Document 01: each call as its whole outcome, the reply and the memory after it. Assumes nothing.
+use mathlib.Core.List.{List, [], _∷_}
+use Prim.Native.Nat.{ℕ, _-_}
+use lib.ListN.{replicate}
+use Rattle.optional.specs.declared.OptU16.{OptU16}
+use Rattle.tdma_time.specs.declared.TdmaTime.{TdmaTime}
+use Rattle.tdma_time.specs.Time.{slotOf}
+use Rattle.slot_codes.specs.Codes.{grantOctet}
+use Rattle.uplink.specs.declared.PhyBlockNum.{PhyBlockNum}
+use Rattle.uplink.specs.declared.CapAnswer.{CapAnswer}
+use Rattle.uplink.specs.declared.CapReply.{CapReply}
+use Rattle.uplink.specs.UplinkEntry.{entryAt, ownerOf, usageOf}
+use Rattle.uplink.specs.Request.{answer}
+use Rattle.uplink.specs.Request.{tableOf as uplinkTable}
+use Rattle.dl_record.specs.declared.Record.{Record}
+use Rattle.dl_record.specs.declared.QueuedHeader.{QueuedHeader}
+use Rattle.dl_record.specs.Record.{emptyRecord, grantRecord, ackRecord, offeredRecord}
+use Rattle.sdu_store.specs.Cells.{cellOf}
+use Rattle.dl_queue.specs.Queue.{enqueued, withCell}
+use Rattle.sched_core.specs.declared.Station.{Station}
+use Rattle.sched_core.specs.declared.Refusal.{Refusal}
+use Rattle.sched_core.specs.declared.Reply.{Reply}
+use Rattle.sched_core.specs.declared.RequestReply.{RequestReply}
+use Rattle.sched_core.specs.declared.OwnerReply.{OwnerReply}
+use Rattle.sched_core.specs.declared.UsageReply.{UsageReply}
+use Rattle.sched_core.specs.declared.Answer.{Answer}
+use Rattle.sched_core.specs.declared.CoreAnswer.{CoreAnswer}
+use Rattle.sched_core.specs.declared.RequestCoreAnswer.{RequestCoreAnswer}
+use Rattle.sched_core.specs.Station.{tableOf, stationOf, newStation, advancedStation, withQueued}
+use Rattle.sched_core.specs.Questions.{Memory, memory, Question, isStationSound, isTimeSound, requestQuestions, ackQuestions, tmaQuestions, ask, refusalNumber}
+
+-- document 01's numbers of the replies: "number (0 done)", else the question answered no
+abbrev pub replyNumber : Reply → ℕ
+replyNumber Reply.Done = 0
+replyNumber (Reply.Refused r) = refusalNumber r
+
+abbrev pub requestNumber : RequestReply → ℕ
+requestNumber (RequestReply.Granted capacity delay marker) = 0
+requestNumber (RequestReply.Refused r) = refusalNumber r
+
+abbrev pub ownerNumber : OwnerReply → ℕ
+ownerNumber (OwnerReply.Owner o) = 0
+ownerNumber (OwnerReply.Refused r) = refusalNumber r
+
+abbrev pub usageReplyNumber : UsageReply → ℕ
+usageReplyNumber (UsageReply.Usage u) = 0
+usageReplyNumber (UsageReply.Refused r) = refusalNumber r
+
+-- ---- calls on the station alone
+
+abbrev pub answerOf : Reply → Station → Answer
+answerOf r s = record { reply = r; station = s }
+
+-- new: "a time given to the call is judged". The station of a time that is not in range is refused by every call.
+unfoldable pub newCall : TdmaTime → Answer
+newCall x = ask (isTimeSound x ∷ []) (answerOf Reply.Done (newStation x)) (λ r. answerOf (Reply.Refused r) (newStation x))
+
+-- advance
+unfoldable pub advanceCall : Station → Answer
+advanceCall s = ask (isStationSound s ∷ []) (answerOf Reply.Done (advancedStation s)) (λ r. answerOf (Reply.Refused r) s)
+
+-- owner and usage of the slot at a time
+unfoldable pub ownerCall : Station → TdmaTime → PhyBlockNum → OwnerReply
+ownerCall s x half = ask (isStationSound s ∷ isTimeSound x ∷ []) (OwnerReply.Owner (ownerOf half (entryAt (tableOf s) (slotOf x)))) OwnerReply.Refused
+
+unfoldable pub usageCall : Station → TdmaTime → UsageReply
+usageCall s x = ask (isStationSound s ∷ isTimeSound x ∷ []) (UsageReply.Usage (usageOf (entryAt (tableOf s) (slotOf x)))) UsageReply.Refused
+
+-- ---- calls that queue
+
+-- all that a call answers and leaves
+pub record Outcome (R : Type 0) : Type 0 where
+  pub reply : R
+  pub memory : Memory
+
+abbrev pub outcome : {R : Type 0} → R → Memory → Outcome R
+outcome r m = record { reply = r; memory = m }
+
+-- "On a no, the number is the whole reply and each lent bit and the state are those that came in."
+abbrev pub judged : {R : Type 0} → (Refusal → R) → Memory → List Question → Outcome R → Outcome R
+judged refused m qs done = ask qs done (λ r. outcome (refused r) m)
+
+-- "A timeslot's records fill its places from the first": the memory with a record more for timeslot t
+abbrev pub withRecord : Memory → ℕ → Record → Memory
+withRecord m t r =
+    let q = enqueued (m .station .queued) (m .records) (t - 1) r in
+    memory (withQueued (m .station) (q .counts)) (q .records) (m .store)
+
+-- "an SDU moves with its record": with its first bits in the record's cell too
+abbrev pub withSdu : Memory → ℕ → Record → List ℕ → Memory
+withSdu m t r sdu =
+    let q = enqueued (m .station .queued) (m .records) (t - 1) r in
+    memory (withQueued (m .station) (q .counts)) (q .records) (withCell (m .store) (m .station .queued) (t - 1) (cellOf (r .bits) sdu))
+
+abbrev pub requestCoreAnswer : RequestReply → Station → List Record → RequestCoreAnswer
+requestCoreAnswer r s rs = record { reply = r; station = s; records = rs }
+
+-- "Reference: `ul_process_cap_req`, then `dl_enqueue_grant`.": questions 9 and 10, then the grant is queued, and table and counters
+-- are those of the answer
+unfoldable pub grantQueued : Station → List Record → ℕ → ℕ → ℕ → CapAnswer → CapReply → RequestCoreAnswer
+grantQueued s rs t kind n a CapReply.NoRun = requestCoreAnswer (RequestReply.Refused Refusal.NoRun) s rs
+grantQueued s rs t kind n a CapReply.TooLate = requestCoreAnswer (RequestReply.Refused Refusal.TooLate) s rs
+grantQueued s rs t kind n a (CapReply.Granted capacity delay marker) =
+    let q = enqueued (s .queued) rs (t - 1) (grantRecord kind n (grantOctet capacity delay) marker) in
+    requestCoreAnswer (RequestReply.Granted capacity delay marker) (stationOf (s .time) (uplinkTable a) (a .«next_usage_marker») (q .counts)) (q .records)
+
+-- what a request is answered that questions 1 to 8 let pass
+unfoldable pub requestAnswered : Station → List Record → ℕ → ℕ → ℕ → ℕ → RequestCoreAnswer
+requestAnswered s rs t code kind n =
+    let a = answer (tableOf s) (s .«next_usage_marker») (s .time) (record { timeslot = t; code = code; number = n }) in
+    grantQueued s rs t kind n a (a .reply)
+
+-- what a body answers, with the store after it, as an outcome
+abbrev pub queueOutcome : CoreAnswer → List ℕ → Outcome Reply
+queueOutcome a st = outcome (a .reply) (memory (a .station) (a .records) st)
+
+abbrev pub requestOutcome : RequestCoreAnswer → List ℕ → Outcome RequestReply
+requestOutcome a st = outcome (a .reply) (memory (a .station) (a .records) st)
+
+-- request
+unfoldable pub requestCall : Memory → ℕ → ℕ → ℕ → ℕ → Outcome RequestReply
+requestCall m t code kind n =
+    judged RequestReply.Refused m (requestQuestions m t code kind n) (requestOutcome (requestAnswered (m .station) (m .records) t code kind n) (m .store))
+
+-- queue an ack
+unfoldable pub ackCall : Memory → ℕ → ℕ → ℕ → Outcome Reply
+ackCall m t kind n = judged Reply.Refused m (ackQuestions m t kind n) (outcome Reply.Done (withRecord m t (ackRecord kind n)))
+
+-- queue a record
+unfoldable pub tmaCall : Memory → ℕ → ℕ → ℕ → OptU16 → QueuedHeader → ℕ → List ℕ → Outcome Reply
+tmaCall m t kind n tag header bits sdu =
+    let r = offeredRecord kind n tag header bits in
+    judged Reply.Refused m (tmaQuestions m t r sdu) (outcome Reply.Done (withSdu m t r sdu))
+
+-- ---- a history's memory
+
+-- "on a new station at any valid time, every place and cell empty"
+unfoldable pub newMemory : TdmaTime → Memory
+newMemory x = memory (newStation x) (replicate 64 emptyRecord) (replicate 16384 0)
+
+-- an advance leaves queue and store
+unfoldable pub advanceMemory : Memory → Outcome Reply
+advanceMemory m = outcome (advanceCall (m .station) .reply) (memory (advanceCall (m .station) .station) (m .records) (m .store))

@@ -1,0 +1,4 @@
+pub mod Station
+pub mod Questions
+pub mod Calls
+pub mod Invariant
