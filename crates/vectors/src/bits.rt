@@ -1,5 +1,4 @@
 // Fields of any width in a run of octets, most significant bit first.
-use crate::show;
 
 // A field of 11 bits across three octets of ones, and what is read there again.
 fn eleven_bits() {

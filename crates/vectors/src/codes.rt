@@ -1,5 +1,4 @@
 // Document 01, "Request and grant": the tables of codes, and the grant octet.
-use crate::show;
 use slot_codes::basic_slotgrant::BasicSlotgrant;
 use slot_codes::reservation_requirement::RequirementRead;
 use slot_codes::reservation_requirement::ReservationRequirement;

@@ -1,5 +1,4 @@
 // Fill bits wanted, written and removed.
-use crate::show;
 use fillbits::FillRemoval;
 
 // How many fill bits a PDU of `total` bits wants in a room of `room` bits.

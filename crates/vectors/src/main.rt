@@ -3,7 +3,6 @@ mod bits;
 mod codes;
 mod fill;
 mod pdus;
-mod show;
 mod time;
 mod uplink_requests;
 

@@ -1,5 +1,4 @@
 // Document 01, "Block": blocks read header by header, and headers written alone.
-use crate::show;
 use mac_pdus::Address;
 use mac_pdus::AddressKind;
 use mac_pdus::ChanAllocElement;

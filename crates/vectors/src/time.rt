@@ -1,5 +1,4 @@
 // Document 01, "Time": a time is printed as h m f t.
-use crate::show;
 use tdma_time::TdmaTime;
 ghost use Prim.Native.Nat.{_≤_};
 ghost use Rattle.tdma_time.specs.Time.{Valid};

@@ -1,5 +1,4 @@
 // Document 01, "Request and grant" and "Uplink entry": requests one after the other, and what the table then shows.
-use crate::show;
 use optional::OptU8;
 use optional::OptU32;
 use tdma_time::TdmaTime;

@@ -1,10 +1,10 @@
--- `show::octets` meets its contract: each index is within the buffer. Assumes nothing.
+-- `octets` meets its contract: each index is within the buffer. Assumes nothing.
 use mathlib.Core.Path.{_≡_}
 use Prim.Native.Nat.{_-_}
 use lib.ListN.{length}
 use borrow.Author.Needs.{needs}
-use Rattle.vectors.proofs.show.octets.Statement.{statement}
-use Rattle.vectors.proofs.show.octets.Tie as tie
+use Rattle.show.proofs.octets.Statement.{statement}
+use Rattle.show.proofs.octets.Tie as tie
 
 abbrev Inv-loop : tie.InvT-loop
 Inv-loop s i₀ i-end i = i-end ≡ length s

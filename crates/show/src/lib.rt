@@ -1,4 +1,4 @@
-// Words and numbers on standard output.
+// Words and numbers on standard output, for the programs that show results.
 
 // A word, as it is.
 pub fn word(text: &[u8]) {
