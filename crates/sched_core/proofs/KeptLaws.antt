@@ -6,7 +6,7 @@ use Prim.Native.Nat.{ℕ, zero, _+_, _-_, _*_, _^_, _≤_, _<_}
 use native.Mathlib.Omega.{arith}
 use lib.Dec.{leb}
 use lib.ListN.{length, getD, take, drop, replicate, length-set, length-replicate, getD-replicate, replicate-append-replicate}
-use lib.Seq.{take-at, drop-at}
+use lib.Seq.{take-at, drop-at, length-paste}
 use borrow.Author.Tests.{leb-true, le-leb, lt-ltb, le-ltb}
 use Rattle.optional.specs.declared.OptU8.{OptU8}
 use Rattle.optional.specs.declared.OptU16.{OptU16}
@@ -34,18 +34,25 @@ use Rattle.dl_record.proofs.RecordLaws.{is-empty}
 use Rattle.dl_record.proofs.Tests.{and-both, and-right}
 use Rattle.sdu_store.specs.Cells.{cleanPast, cellOf}
 use Rattle.sdu_store.proofs.OctetLaws.{Octets, octets-zero}
-use Rattle.dl_queue.specs.Queue.{zeroCell, enqueued, withCell}
+use Rattle.dl_queue.specs.Queue.{Item, zeroCell, enqueued, withCell, recordsOf, cellsOf, Cells}
 use Rattle.dl_queue.specs.Questions.{soundPlace, soundPlaces, soundQueue}
 use Rattle.dl_queue.proofs.PushLaws.{rec-shift, cell-shift}
 use Rattle.dl_queue.proofs.SoundLaws.{queue-at, queue-all, places-all, zero-clean}
+use Rattle.dl_queue.proofs.SetLaws.{length-records, length-cells}
 use Rattle.dl_queue.proofs.EnqueueLaws.{grant-joins, ack-joins, offered-joins}
+use Rattle.dl_merge.proofs.MergeLaws.{all-weaken}
+use Rattle.dl_merge.proofs.SoundMerge.{OneCell, each-cells}
+use Rattle.dl_send.proofs.KeptLaws.{Staying}
+use Rattle.dl_build.specs.Build.{builtOf}
+use Rattle.dl_build.proofs.AfterBuild.{build-stays, build-holds}
 use Rattle.sched_core.specs.declared.Answer.{Answer}
 use Rattle.sched_core.specs.declared.Refusal.{Refusal}
 use Rattle.sched_core.specs.declared.Reply.{Reply}
 use Rattle.sched_core.specs.declared.RequestReply.{RequestReply}
+use Rattle.sched_core.specs.declared.BuildReply.{BuildReply}
 use Rattle.sched_core.specs.Station.{tableOf, stationOf}
-use Rattle.sched_core.specs.Questions.{Memory, memory, Question, soundCount, requestQuestions, ackQuestions, tmaQuestions, isStationSound, areLengthsRight, isQueueSound, ask}
-use Rattle.sched_core.specs.Calls.{Outcome, withRecord, withSdu, requestOutcome, grantQueued, requestAnswered, requestCall, ackCall, tmaCall, advanceCall, newMemory, advanceMemory}
+use Rattle.sched_core.specs.Questions.{Memory, memory, Question, soundCount, requestQuestions, ackQuestions, tmaQuestions, buildQuestions, isStationSound, areLengthsRight, isQueueSound, ask}
+use Rattle.sched_core.specs.Calls.{Outcome, withRecord, withSdu, requestOutcome, grantQueued, requestAnswered, requestCall, ackCall, tmaCall, BuildOutcome, notBuilt, current, buildsNow, builtNow, withLeft, blockBuilt, buildCall, advanceCall, newMemory, advanceMemory}
 use Rattle.sched_core.specs.Invariant.{SoundMemory, EveryCallKeeps}
 use Rattle.sched_core.proofs.AskLaws.{ask-elim}
 use Rattle.sched_core.proofs.StationLaws.{sound-parts, parts-sound}
@@ -355,8 +362,43 @@ request-keeps m t code kind n h =
     let k = grant-holds tb ms (m .station .time) r cap delay mk e in
     (k .cap-fits, k .delay-fits, rw (k .marker-drawn) (marker-fits tb ms r (p .four-counters) (p .counters) (ts .0) (ts .1)))))
 
+-- what a build leaves: the timeslot's queue is shorter or as long, and every other stays
+left-sound : (m : Memory) → SoundMemory m → SoundMemory (withLeft m (current (m .station)) (builtNow m))
+unfolding builtNow
+left-sound m h =
+    let p = memory-parts m h in
+    let ns = m .station .queued in
+    let t = current (m .station) in
+    let left : List (Item (List ℕ)) = builtOf ns (m .records) (m .store) t .left in
+    let inside : t < length ns = omega (arith, p .four-counts) in
+    let many : length (m .records) ≡ 16 * length ns = omega (arith, p .places, p .four-counts) in
+    let size : length (m .store) ≡ 4096 * length ns = omega (arith, p .cells, p .four-counts) in
+    let whole : Cells left = each-cells left (all-weaken Staying OneCell (λ x q. q .stored .cell) left (build-stays ns (m .records) (m .store) t inside many size (h .queue))) in
+    let q = build-holds ns (m .records) (m .store) t inside many size (h .queue) (h .octets) in
+    parts-memory _ _ _ _ _ _
+    (record {
+      time = p .time;
+      shape = p .shape;
+      entries = p .entries;
+      four-counters = p .four-counters;
+      counters = p .counters;
+      four-counts = length-set ns _ _ ∙ p .four-counts;
+      places = length-paste (m .records) (16 * t) (recordsOf 16 left) 16 (omega (arith, p .places)) (omega (arith, length-records 16 left)) ∙ p .places;
+      cells = length-paste (m .store) (256 * (16 * t)) (cellsOf 16 left) 4096 (omega (arith, p .cells)) (omega (arith, length-cells 16 left whole)) ∙ p .cells;
+      octets = q .octets;
+      queue = q .sound;
+    })
+
+pub build-keeps : (m : Memory) (block : List ℕ) → SoundMemory m → SoundMemory (buildCall m block .memory)
+unfolding buildCall
+build-keeps m block h = ask-elim (λ (o : BuildOutcome). SoundMemory (o .memory)) (buildQuestions m block) _ _ (λ r. h) (λ yes. go (buildsNow (m .station)))
+  where
+    go : (b : Bool) → SoundMemory (cond b (blockBuilt m (current (m .station)) (builtNow m)) (notBuilt BuildReply.NoBlock m block) .memory)
+    go true = left-sound m h
+    go false = h
+
 pub every-call-keeps : EveryCallKeeps
-every-call-keeps = record { new = new-sound; advance = advance-keeps; request = request-keeps; ack = ack-keeps; tma = tma-keeps }
+every-call-keeps = record { new = new-sound; advance = advance-keeps; request = request-keeps; ack = ack-keeps; tma = tma-keeps; build = build-keeps }
 
 -- of a sound memory questions 1 and 2 are answered yes: what is asked of the arguments decides
 pub sound-asks : {A : Type 0} (m : Memory) (qs : List Question) (done : A) (refused : Refusal → A) → SoundMemory m

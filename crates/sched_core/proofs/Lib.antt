@@ -5,3 +5,4 @@ pub mod GrantLaws
 pub mod QueuesLaws
 pub mod KeptLaws
 pub mod EntryLaws
+pub mod BuildCallLaws

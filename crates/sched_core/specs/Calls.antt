@@ -1,10 +1,13 @@
 -- Document 01: each call as its whole outcome, the reply and the memory after it. Assumes nothing.
+use mathlib.Core.Path.{_≡_}
+use mathlib.Core.Bool.{Bool, _&&_, cond}
 use mathlib.Core.List.{List, [], _∷_}
 use Prim.Native.Nat.{ℕ, _-_}
-use lib.ListN.{replicate}
+use lib.Dec.{ltb}
+use lib.ListN.{length, getD, replicate}
 use Rattle.optional.specs.declared.OptU16.{OptU16}
 use Rattle.tdma_time.specs.declared.TdmaTime.{TdmaTime}
-use Rattle.tdma_time.specs.Time.{slotOf}
+use Rattle.tdma_time.specs.Time.{slotOf, timeslot, usable}
 use Rattle.slot_codes.specs.Codes.{grantOctet}
 use Rattle.uplink.specs.declared.PhyBlockNum.{PhyBlockNum}
 use Rattle.uplink.specs.declared.CapAnswer.{CapAnswer}
@@ -12,22 +15,28 @@ use Rattle.uplink.specs.declared.CapReply.{CapReply}
 use Rattle.uplink.specs.UplinkEntry.{entryAt, ownerOf, usageOf}
 use Rattle.uplink.specs.Request.{answer}
 use Rattle.uplink.specs.Request.{tableOf as uplinkTable}
+use Rattle.mac_reader.specs.PduList.{blockBits}
 use Rattle.dl_record.specs.declared.Record.{Record}
 use Rattle.dl_record.specs.declared.QueuedHeader.{QueuedHeader}
 use Rattle.dl_record.specs.Record.{emptyRecord, grantRecord, ackRecord, offeredRecord}
 use Rattle.sdu_store.specs.Cells.{cellOf}
-use Rattle.dl_queue.specs.Queue.{enqueued, withCell}
+use Rattle.dl_queue.specs.Queue.{enqueued, withCell, withQueue, withCells}
+use Rattle.dl_send.specs.Send.{Sent, blockOf}
+use Rattle.dl_send.specs.Progress.{tagRow}
+use Rattle.dl_build.specs.Build.{builtOf}
 use Rattle.sched_core.specs.declared.Station.{Station}
 use Rattle.sched_core.specs.declared.Refusal.{Refusal}
 use Rattle.sched_core.specs.declared.Reply.{Reply}
 use Rattle.sched_core.specs.declared.RequestReply.{RequestReply}
+use Rattle.sched_core.specs.declared.BuildReply.{BuildReply}
 use Rattle.sched_core.specs.declared.OwnerReply.{OwnerReply}
 use Rattle.sched_core.specs.declared.UsageReply.{UsageReply}
 use Rattle.sched_core.specs.declared.Answer.{Answer}
 use Rattle.sched_core.specs.declared.CoreAnswer.{CoreAnswer}
 use Rattle.sched_core.specs.declared.RequestCoreAnswer.{RequestCoreAnswer}
+use Rattle.sched_core.specs.declared.BuildCoreAnswer.{BuildCoreAnswer}
 use Rattle.sched_core.specs.Station.{tableOf, stationOf, newStation, advancedStation, withQueued}
-use Rattle.sched_core.specs.Questions.{Memory, memory, Question, isStationSound, isTimeSound, requestQuestions, ackQuestions, tmaQuestions, ask, refusalNumber}
+use Rattle.sched_core.specs.Questions.{Memory, memory, Question, isStationSound, isTimeSound, requestQuestions, ackQuestions, tmaQuestions, buildQuestions, ask, refusalNumber}
 
 -- document 01's numbers of the replies: "number (0 done)", else the question answered no
 abbrev pub replyNumber : Reply → ℕ
@@ -37,6 +46,11 @@ replyNumber (Reply.Refused r) = refusalNumber r
 abbrev pub requestNumber : RequestReply → ℕ
 requestNumber (RequestReply.Granted capacity delay marker) = 0
 requestNumber (RequestReply.Refused r) = refusalNumber r
+
+abbrev pub buildNumber : BuildReply → ℕ
+buildNumber BuildReply.Built = 0
+buildNumber BuildReply.NoBlock = 0
+buildNumber (BuildReply.Refused r) = refusalNumber r
 
 abbrev pub ownerNumber : OwnerReply → ℕ
 ownerNumber (OwnerReply.Owner o) = 0
@@ -131,6 +145,59 @@ unfoldable pub tmaCall : Memory → ℕ → ℕ → ℕ → OptU16 → QueuedHea
 tmaCall m t kind n tag header bits sdu =
     let r = offeredRecord kind n tag header bits in
     judged Reply.Refused m (tmaQuestions m t r sdu) (outcome Reply.Done (withSdu m t r sdu))
+
+-- ---- a build
+
+-- all that a build answers and leaves: "Tags of finished records come back in order", and the caller's block
+pub record BuildOutcome : Type 0 where
+  pub reply : BuildReply
+  pub tags : List ℕ
+  pub memory : Memory
+  pub block : List ℕ
+
+-- a build that writes nothing
+abbrev pub notBuilt : BuildReply → Memory → List ℕ → BuildOutcome
+notBuilt r m block = record { reply = r; tags = []; memory = m; block = block }
+
+-- "A build works on the current timeslot": counted from 0
+abbrev pub current : Station → ℕ
+current s = timeslot (slotOf (s .time)) - 1
+
+-- "Frame 18, or nothing queued, gives none"
+unfoldable pub buildsNow : Station → Bool
+buildsNow s = usable (slotOf (s .time)) && ltb 0 (getD (s .queued) (current s) 0)
+
+-- "A build [..] merges, then takes waiting and started records in queue order, then records."
+unfoldable pub builtNow : Memory → Sent (List ℕ)
+builtNow m = builtOf (m .station .queued) (m .records) (m .store) (current (m .station))
+
+-- "What did not finish stays, in the order taken": as the queue of timeslot t, counted from 0, with its cells
+abbrev pub withLeft : Memory → ℕ → Sent (List ℕ) → Memory
+withLeft m t x =
+    let q = withQueue (m .station .queued) (m .records) t (x .left) in
+    memory (withQueued (m .station) (q .counts)) (q .records) (withCells (m .store) t (x .left))
+
+-- "268 bits in 34 octets, the last four bits zero."
+abbrev pub blockBuilt : Memory → ℕ → Sent (List ℕ) → BuildOutcome
+blockBuilt m t x =
+    record { reply = BuildReply.Built; tags = x .tags; memory = withLeft m t x; block = blockOf 34 (blockBits (x .pdus)) }
+
+-- build: "Frame 18, or nothing queued, gives none and leaves the lent block; in frame 18 nothing is merged or altered."
+unfoldable pub buildCall : Memory → List ℕ → BuildOutcome
+buildCall m block =
+    ask (buildQuestions m block) (cond (buildsNow (m .station)) (blockBuilt m (current (m .station)) (builtNow m)) (notBuilt BuildReply.NoBlock m block))
+    (λ r. notBuilt (BuildReply.Refused r) m block)
+
+-- what the body of a build answers for an outcome: sixteen tags, zeros behind those that come back
+abbrev pub buildCoreAnswer : BuildOutcome → BuildCoreAnswer
+buildCoreAnswer o =
+    record { reply = o .reply; tags = tagRow 16 (o .tags); «tag_count» = length (o .tags); station = o .memory .station; records = o .memory .records }
+
+-- and the caller's buffers after it
+pub record BuildAnswered (o : BuildOutcome) (a : BuildCoreAnswer) (store' block' : List ℕ) : Type 0 where
+  pub answer : a ≡ buildCoreAnswer o
+  pub store : store' ≡ o .memory .store
+  pub block : block' ≡ o .block
 
 -- ---- a history's memory
 

@@ -14,7 +14,7 @@ use Rattle.sched_core.specs.declared.Reply.{Reply}
 use Rattle.sched_core.specs.declared.RequestReply.{RequestReply}
 use Rattle.sched_core.specs.Station.{tableOf}
 use Rattle.sched_core.specs.Questions.{Memory, soundStation}
-use Rattle.sched_core.specs.Calls.{newMemory, advanceMemory, requestCall, ackCall, tmaCall}
+use Rattle.sched_core.specs.Calls.{newMemory, advanceMemory, requestCall, ackCall, tmaCall, buildCall}
 
 -- a sound memory, of the lengths that its types and question 2 give it
 pub record SoundMemory (m : Memory) : Type 0 where
@@ -35,6 +35,7 @@ pub record EveryCallKeeps : Type 0 where
   pub ack : (m : Memory) (t kind n : ℕ) → SoundMemory m → SoundMemory (ackCall m t kind n .memory)
   pub tma : (m : Memory) (t kind n : ℕ) (tag : OptU16) (header : QueuedHeader) (bits : ℕ) (sdu : List ℕ) → SoundMemory m
       → SoundMemory (tmaCall m t kind n tag header bits sdu .memory)
+  pub build : (m : Memory) (block : List ℕ) → SoundMemory m → SoundMemory (buildCall m block .memory)
 
 -- a call was done
 abbrev pub isDone : Reply → Bool

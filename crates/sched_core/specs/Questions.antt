@@ -66,6 +66,13 @@ isTimeSound x = question (valid x) Refusal.Unsound
 abbrev pub areLengthsRight : Memory → Question
 areLengthsRight m = question (eqb (length (m .records)) 64 && eqb (length (m .store)) 16384) Refusal.Lengths
 
+-- and of the block: "268 bits in 34 octets"
+abbrev pub isBlockLength : List ℕ → Bool
+isBlockLength block = eqb (length block) 34
+
+abbrev pub isBlockLengthRight : List ℕ → Question
+isBlockLengthRight block = question (isBlockLength block) Refusal.Lengths
+
 -- "Records and cells are looked at only after 2 has passed"
 abbrev pub isQueueSound : Memory → Question
 isQueueSound m = question (soundQueue (m .station .queued) (m .records) (m .store)) Refusal.Unsound
@@ -120,6 +127,10 @@ tmaQuestions m t r sdu =
     ∷ isSduPresent (r .bits) sdu
     ∷ isQueueOpen m t
     ∷ []
+
+-- those put to a build: 1 for the state, 2, and 1 for records and cells
+abbrev pub buildQuestions : Memory → List ℕ → List Question
+buildQuestions m block = isStationSound (m .station) ∷ areLengthsRight m ∷ isBlockLengthRight block ∷ isQueueSound m ∷ []
 
 -- "On a no, the number is the whole reply": what follows where every answer is yes, else the refusal of the first no
 unfoldable pub ask : {A : Type 0} → List Question → A → (Refusal → A) → A

@@ -1,0 +1,201 @@
+-- "A grant keeps its name through merging into the header written": what ties number, grant and name of each queued record together ties those of each
+-- header written, and of what stays (`built-tied`). Assumes nothing.
+use mathlib.Core.Path.{_≡_, refl, sym, ap, subst, _∙_}
+use mathlib.Core.Bool.{Bool, true, false, _||_, cond}
+use mathlib.Core.Option.{Option, none}
+use mathlib.Core.List.{List, [], _∷_, _++_, map}
+use Prim.Native.Nat.{ℕ, zero, suc, _+_, _-_, _*_, _/_, min, _<_}
+use native.Mathlib.Omega.{arith}
+use native.Mathlib.Nat.{le-of-suc-le-suc, not-suc-le-zero}
+use lib.Dec.{leb, ltb}
+use lib.ListN.{length, getD, take}
+use Rattle.optional.specs.declared.OptU8.{OptU8}
+use Rattle.optional.specs.declared.OptU16.{OptU16}
+use Rattle.bitbuffer.specs.Bits.{part}
+use Rattle.fillbits.specs.Fill.{fillWanted}
+use Rattle.mac_pdus.specs.declared.ResourceHeader.{ResourceHeader}
+use Rattle.mac_pdus.specs.declared.PduHeader.{PduHeader}
+use Rattle.mac_pdus.specs.Headers.{nullHeader}
+use Rattle.mac_pdus.specs.Legal.{ssiOnAir, addressOnAir, onAir, numberOf}
+use Rattle.mac_reader.specs.PduList.{Pdu, null, header}
+use Rattle.dl_record.specs.declared.Kind.{Kind}
+use Rattle.dl_record.specs.declared.Record.{Record}
+use Rattle.dl_record.specs.Record.{addressKindOf}
+use Rattle.dl_queue.specs.Queue.{Item}
+use Rattle.dl_merge.specs.Merge.{isRecord, only, mergeNamed}
+use Rattle.dl_merge.proofs.MergeLaws.{All}
+use Rattle.dl_merge.proofs.NameLaws.{Tied, merge-tied}
+use Rattle.bs_frag.specs.NextPdu.{fillFlag, headerOf, headerSize, wholePdu, firstPdu, fragPdu, endPdu, Next, beginWith, begin, continue, isStarted, next, endOctets}
+use Rattle.bs_frag.specs.declared.Outcome.{Outcome}
+use Rattle.bs_frag.specs.declared.Outcome.the-variants.{Finished, Waiting, Started}
+use Rattle.dl_send.specs.Send.{kept, isUnderway, nullIn, turn, sendAll}
+use Rattle.dl_send.proofs.KeptLaws.{all-append}
+use Rattle.dl_build.specs.Build.{inOrder, buildList}
+use Rattle.history.specs.Queues.{built}
+use Rattle.history.specs.Model.{NamedSdu, namedSdu, namedLoads, namesSent}
+
+-- ---- two lists, element by element
+
+abbrev pub Along : {A B : Type 0} → (A → B → Type 0) → List A → List B → Type 0
+Along P [] [] = Unit {0}
+Along P [] (b ∷ bs) = ⊥
+Along P (a ∷ ls) [] = ⊥
+Along P (a ∷ ls) (b ∷ bs) = P a b × Along P ls bs
+
+module _ {A B : Type 0} (P : A → B → Type 0) where
+  along-const : (b : B) (ls : List A) → All (λ a. P a b) ls → Along P ls (map (λ (a : A). b) ls)
+  along-const b [] h = tt
+  along-const b (a ∷ ls) h = (h .0, along-const b ls (h .1))
+
+  along-append : (ls ls′ : List A) (bs bs′ : List B) → Along P ls bs → Along P ls′ bs′ → Along P (ls ++ ls′) (bs ++ bs′)
+  along-append [] ls′ [] bs′ h k = k
+  along-append [] ls′ (b ∷ bs) bs′ h k = absurd h
+  along-append (a ∷ ls) ls′ [] bs′ h k = absurd h
+  along-append (a ∷ ls) ls′ (b ∷ bs) bs′ h k = (h .0, along-append ls ls′ bs bs′ (h .1) k)
+
+  pub along-at : (ls : List A) (bs : List B) → Along P ls bs → (i : ℕ) → i < length ls → (a₀ : A) (b₀ : B) → P (getD ls i a₀) (getD bs i b₀)
+  along-at [] bs h i l a₀ b₀ = absurd (not-suc-le-zero l)
+  along-at (a ∷ ls) [] h i l a₀ b₀ = absurd h
+  along-at (a ∷ ls) (b ∷ bs) h zero l a₀ b₀ = h .0
+  along-at (a ∷ ls) (b ∷ bs) h (suc i) l a₀ b₀ = along-at ls bs (h .1) i (le-of-suc-le-suc l) a₀ b₀
+
+-- ---- the header of a record
+
+ssi-number : (n : ℕ) (label : OptU16) (marker : OptU8) → numberOf (ssiOnAir n label marker) ≡ n
+ssi-number n OptU16.Absent OptU8.Absent = refl
+ssi-number n OptU16.Absent (OptU8.Of m) = refl
+ssi-number n (OptU16.Of e) marker = refl
+
+address-number : (k n : ℕ) (label : OptU16) (marker : OptU8) → numberOf (addressOnAir (addressKindOf k) n label marker) ≡ n
+unfolding addressOnAir
+address-number zero n label marker = ssi-number n label marker
+address-number (suc zero) n label marker = ssi-number n label marker
+address-number (suc (suc k)) n label marker = ssi-number n label marker
+
+header-number : (r : Record) (fill len : ℕ) → numberOf (headerOf r fill len .address) ≡ r .number
+unfolding headerOf onAir
+header-number r fill len = address-number (r .«address_kind») (r .number) (r .header .«event_label») (r .header .«usage_marker»)
+
+header-grant : (r : Record) (fill len : ℕ) → headerOf r fill len .«slot_granting_element» ≡ r .header .«slot_granting_element»
+unfolding headerOf onAir
+header-grant r fill len = refl
+
+-- the MAC-RESOURCE in a header
+abbrev resourceIn : PduHeader → ResourceHeader
+resourceIn (PduHeader.Resource h) = h
+resourceIn (PduHeader.Frag f) = nullHeader
+resourceIn (PduHeader.End e) = nullHeader
+
+no-grant : {octet : ℕ} → OptU8.Absent ≡ OptU8.Of octet → ⊥
+no-grant e = let z : _≡_ {A = ℕ} 0 1 = cc in omega arith
+
+module _ (R : ℕ → OptU8 → Option ℕ → Type 0) where
+  -- if a PDU has a grant, then its number, the grant and this name are tied together
+  abbrev pub GrantIn : Pdu → Option ℕ → Type 0
+  GrantIn p name = (h : ResourceHeader) (octet : ℕ) → header p ≡ PduHeader.Resource h → h .«slot_granting_element» ≡ OptU8.Of octet → R (numberOf (h .address)) (OptU8.Of octet) name
+
+  -- a PDU with the header of a record
+  resource-in : (r : Record) (name : Option ℕ) → R (r .number) (r .header .«slot_granting_element») name → (p : Pdu) (fill len : ℕ) → header p ≡ PduHeader.Resource (headerOf r fill len) → GrantIn p name
+  resource-in r name k p fill len e h octet q g =
+      let same : headerOf r fill len ≡ h = ap resourceIn (sym e ∙ q) in
+      let number : r .number ≡ numberOf (h .address) = sym (header-number r fill len) ∙ ap (λ (x : ResourceHeader). numberOf (x .address)) same in
+      let grant : r .header .«slot_granting_element» ≡ OptU8.Of octet = sym (header-grant r fill len) ∙ ap (λ (x : ResourceHeader). x .«slot_granting_element») same ∙ g in
+      subst (λ (n : ℕ). R n (OptU8.Of octet) name) number (subst (λ (o : OptU8). R (r .number) o name) grant k)
+
+  -- a PDU with no grant in its header
+  none-in : (p : Pdu) (name : Option ℕ) → resourceIn (header p) .«slot_granting_element» ≡ OptU8.Absent → GrantIn p name
+  none-in p name e h octet q g = absurd (no-grant (sym e ∙ ap (λ (x : PduHeader). resourceIn x .«slot_granting_element») q ∙ g))
+
+  -- ---- a record's turn
+
+  abbrev AllIn : Option ℕ → Next → Type 0
+  AllIn name n = All (λ p. GrantIn p name) (n .pdus)
+
+  one-of : (name : Option ℕ) (a b : Bool) (x y z : Next) → AllIn name x → AllIn name y → AllIn name z → AllIn name (cond a x (cond b y z))
+  one-of name true b x y z p q r = p
+  one-of name false true x y z p q r = q
+  one-of name false false x y z p q r = r
+
+  begin-in : (room : ℕ) (r : Record) (sdu : List ℕ) (name : Option ℕ) → R (r .number) (r .header .«slot_granting_element») name → AllIn name (begin room r sdu)
+  unfolding begin beginWith header
+  begin-in room r sdu name k =
+      let fill : ℕ = fillWanted room (headerSize r + r .bits) in
+      let part-sdu : List ℕ = take (room - headerSize r) sdu in
+      one-of name (leb (headerSize r + r .bits) room) (ltb room 32 || ltb room (headerSize r)) _ _ _
+      (resource-in r name k (wholePdu r sdu fill) (fillFlag fill) ((headerSize r + r .bits + fill) / 8) refl, tt)
+      tt
+      (resource-in r name k (firstPdu r part-sdu) 0 63 refl, tt)
+
+  continue-in : (room : ℕ) (r : Record) (sdu : List ℕ) (name : Option ℕ) → AllIn name (continue room r sdu)
+  unfolding continue header
+  continue-in room r sdu name =
+      let rest : ℕ = r .bits - r .sent in
+      let size : ℕ = endOctets rest * 8 in
+      let n : ℕ = min (room - 4) rest in
+      one-of name (leb size room) (ltb room 16) _ _ _
+      (none-in (endPdu (endOctets rest) (part sdu (r .sent) rest) (size - (13 + rest))) name refl, tt)
+      tt
+      (none-in (fragPdu (part sdu (r .sent) n) (room - 4 - n)) name refl, tt)
+
+  next-in : (room : ℕ) (r : Record) (sdu : List ℕ) (name : Option ℕ) → R (r .number) (r .header .«slot_granting_element») name → AllIn name (next room r sdu)
+  unfolding next
+  next-in room r sdu name k = go (isStarted (r .kind))
+    where
+      go : (b : Bool) → AllIn name (cond b (continue room r sdu) (begin room r sdu))
+      go true = continue-in room r sdu name
+      go false = begin-in room r sdu name k
+
+  null-in : (room : ℕ) → All (λ p. GrantIn p none) (nullIn room)
+  unfolding header
+  null-in room = go (ltb room 16)
+    where
+      go : (b : Bool) → All (λ p. GrantIn p none) (cond b [] (null ∷ []))
+      go true = tt
+      go false = (none-in null none refl, tt)
+
+  -- ---- a list of records
+
+  kept-tied : (o : Outcome) (x : Item NamedSdu) → Tied R x → All (Tied R) (kept o x)
+  kept-tied Finished x k = tt
+  kept-tied Waiting x k = (k, tt)
+  kept-tied (Started n) x k = (k, tt)
+
+  left-tied : (room : ℕ) (xs : List (Item NamedSdu)) → All (Tied R) xs → All (Tied R) (sendAll namedSdu room xs .left)
+  unfolding sendAll
+  left-tied room [] h = tt
+  left-tied room (x ∷ xs) h =
+      let s : Next = turn namedSdu room x in
+      all-append (Tied R) (kept (s .outcome) x) (sendAll namedSdu (s .room) xs .left) (kept-tied (s .outcome) x (h .0)) (left-tied (s .room) xs (h .1))
+
+  pdus-tied : (room : ℕ) (xs : List (Item NamedSdu)) → All (Tied R) xs → Along GrantIn (sendAll namedSdu room xs .pdus) (namesSent room xs)
+  unfolding sendAll namesSent
+  pdus-tied room [] h = along-const GrantIn none (nullIn room) (null-in room)
+  pdus-tied room (x ∷ xs) h =
+      let s : Next = turn namedSdu room x in
+      along-append GrantIn (s .pdus) (sendAll namedSdu (s .room) xs .pdus) (map (λ (p : Pdu). x .load .name) (s .pdus)) (namesSent (s .room) xs)
+      (along-const GrantIn (x .load .name) (s .pdus) (next-in room (x .rec) (x .load .sdu) (x .load .name) (h .0))) (pdus-tied (s .room) xs (h .1))
+
+  only-tied : (p : Kind → Bool) (xs : List (Item NamedSdu)) → All (Tied R) xs → All (Tied R) (only p xs)
+  unfolding only
+  only-tied p [] h = tt
+  only-tied p (x ∷ xs) h = go (p (x .rec .kind)) (only-tied p xs (h .1))
+    where
+      go : (b : Bool) → All (Tied R) (only p xs) → All (Tied R) (cond b (x ∷ only p xs) (only p xs))
+      go true ih = (h .0, ih)
+      go false ih = ih
+
+  merged-tied : (xs : List (Item NamedSdu)) → All (Tied R) xs → All (Tied R) (inOrder (mergeNamed [] xs))
+  unfolding inOrder
+  merged-tied xs h =
+      let m : All (Tied R) (mergeNamed [] xs) = merge-tied R [] xs h in
+      all-append (Tied R) (only isUnderway (mergeNamed [] xs)) (only isRecord (mergeNamed [] xs)) (only-tied isUnderway (mergeNamed [] xs) m) (only-tied isRecord (mergeNamed [] xs) m)
+
+  -- ---- a build
+
+  pub built-left : (xs : List (Item NamedSdu)) → All (Tied R) xs → All (Tied R) (built namedLoads xs .left)
+  unfolding built buildList
+  built-left xs h = left-tied 268 (inOrder (mergeNamed [] xs)) (merged-tied xs h)
+
+  pub built-tied : (xs : List (Item NamedSdu)) → All (Tied R) xs → Along GrantIn (built namedLoads xs .pdus) (namesSent 268 (inOrder (mergeNamed [] xs)))
+  unfolding built buildList
+  built-tied xs h = pdus-tied 268 (inOrder (mergeNamed [] xs)) (merged-tied xs h)

@@ -1,0 +1,108 @@
+-- Demand 3: one claim about a whole history. Assumes nothing.
+--
+-- xs is any list of calls on a new station at time x. A call of the history is a way to cut the list, `before ++ c ∷ since`; the reference
+-- model as the call met it is `modelAt x before`.
+use mathlib.Core.Path.{_≡_}
+use mathlib.Core.Logic.{_↔_}
+use mathlib.Core.Option.{none, some}
+use mathlib.Core.List.{List, [], _∷_, _++_, List·Memᴰ}
+use Prim.Native.Nat.{ℕ, zero, suc, _+_, _≤_, _<_}
+use lib.ListN.{length, getD}
+use Rattle.optional.specs.declared.OptU8.{OptU8}
+use Rattle.optional.specs.declared.OptU32.{OptU32}
+use Rattle.tdma_time.specs.declared.TdmaTime.{TdmaTime}
+use Rattle.tdma_time.specs.Time.{slotOf, clock, firstUsable, timeslot}
+use Rattle.slot_codes.specs.Codes.{grantOctet, capacityOf, delayOf}
+use Rattle.uplink.specs.HalfSlot.{Half, HalfSlot}
+use Rattle.uplink.specs.UplinkEntry.{tableView}
+use Rattle.uplink.specs.Request.{msHalfSlots}
+use Rattle.mac_pdus.specs.declared.ResourceHeader.{ResourceHeader}
+use Rattle.mac_pdus.specs.declared.PduHeader.{PduHeader}
+use Rattle.mac_pdus.specs.Legal.{numberOf}
+use Rattle.mac_reader.specs.Reader.{noHeader, readBlock}
+use Rattle.sched_core.specs.Station.{tableOf}
+use Rattle.sched_core.specs.Invariant.{SoundMemory}
+use Rattle.history.specs.UplinkCall.{CapacityRequest, granted}
+use Rattle.history.specs.UplinkModel as uplink
+use Rattle.history.specs.UplinkClaim.{farthest}
+use Rattle.history.specs.Call.{Call, advance, request, enqueueAck, enqueueRecord, build, read, replied, block}
+use Rattle.history.specs.Queues.{queueAt}
+use Rattle.history.specs.Model.{Model, modelReply, modelAt, namesBuilt}
+use Rattle.history.specs.Memory.{memoryReply, memoryAt}
+
+-- what the model reserves for a request
+abbrev pub reserved : CapacityRequest → Model → List HalfSlot
+reserved a m = uplink.reserved a (length (queueAt (m .queues) (a .timeslot))) (m .uplink)
+
+-- "Requests are apart by the slots advanced between them"
+unfoldable pub slotsAdvanced : List Call → ℕ
+slotsAdvanced [] = zero
+slotsAdvanced (advance ∷ xs) = suc (slotsAdvanced xs)
+slotsAdvanced (request a ∷ xs) = slotsAdvanced xs
+slotsAdvanced (enqueueAck o ∷ xs) = slotsAdvanced xs
+slotsAdvanced (enqueueRecord o ∷ xs) = slotsAdvanced xs
+slotsAdvanced (build b ∷ xs) = slotsAdvanced xs
+slotsAdvanced (read ∷ xs) = slotsAdvanced xs
+
+-- the i-th header that the reader lists in a block is this MAC-RESOURCE, with this grant octet
+pub record GrantRead (octets : List ℕ) (i : ℕ) (h : ResourceHeader) (octet : ℕ) : Type 0 where
+  pub listed : i < readBlock 34 octets .count
+  pub header : getD (readBlock 34 octets .headers) i noHeader .header ≡ PduHeader.Resource h
+  pub grant : h .«slot_granting_element» ≡ OptU8.Of octet
+
+-- The granted request of a history that a grant is named after: the name is the request's place, the octet is that of its grant, and timeslot and
+-- address number are the request's.
+pub record Origin (x : TdmaTime) (xs : List Call) (t number octet name : ℕ) : Type 0 where
+  pub before : List Call
+  pub since : List Call
+  pub asker : CapacityRequest
+  pub cut : xs ≡ before ++ request asker ∷ since
+  pub place : length before ≡ name
+  pub its-timeslot : asker .timeslot ≡ t
+  pub its-number : asker .number ≡ number
+  pub capacity : ℕ
+  pub delay : ℕ
+  pub marker : OptU8
+  pub reply : modelReply (request asker) (modelAt x before) ≡ replied (granted capacity delay marker)
+  pub its-octet : grantOctet capacity delay ≡ octet
+
+-- the half-slots reserved for a request met by model m, and those that a mobile station derives from a grant octet at slot b, are equal exactly
+-- when the first usable slot of the timeslot at or after the request's time is the first at or after b
+abbrev pub DerivedAt : Model → CapacityRequest → ℕ → ℕ → Type 0
+DerivedAt m a octet b =
+    (reserved a m ≡ msHalfSlots (a .timeslot) (capacityOf octet) (delayOf octet) b)
+    ↔ (clock (firstUsable (a .timeslot) (m .uplink .now)) ≡ clock (firstUsable (a .timeslot) b))
+
+-- Half-slot y stands reserved under number w: a request of number w reserved it, and its slot is not passed.
+pub record Standing (x : TdmaTime) (xs : List Call) (y : HalfSlot) (w : ℕ) : Type 0 where
+  pub before : List Call
+  pub since : List Call
+  pub asker : CapacityRequest
+  pub cut : xs ≡ before ++ request asker ∷ since
+  pub number : asker .number ≡ w
+  pub has : List·Memᴰ y (reserved asker (modelAt x before))
+  pub off : ℕ
+  pub there : y .time ≡ clock (modelAt x before .uplink .now + off)
+  pub soon : off < 68
+  pub not-passed : slotsAdvanced since ≤ off
+
+pub record Demand3 (x : TdmaTime) (xs : List Call) : Type 0 where
+  -- "The station grants the requests, with those grants, and builds the blocks that the book does, and no others."
+  pub replies : (before since : List Call) (c : Call) → xs ≡ before ++ c ∷ since → memoryReply c (memoryAt x before) ≡ modelReply c (modelAt x before)
+  -- each grant that is read in a built block is named after a granted request, and is that request's grant; what was reserved for the request is
+  -- what a mobile station derives from the grant, read at the block's slot, exactly when the two first usable slots are one
+  pub derived : (before since : List Call) (b : List ℕ) → xs ≡ before ++ build b ∷ since → (octets tags : List ℕ)
+      → memoryReply (build b) (memoryAt x before) ≡ block octets tags
+      → (i : ℕ) (h : ResourceHeader) (octet : ℕ) → GrantRead octets i h octet
+      → (name : ℕ) × (getD (namesBuilt (modelAt x before)) i none ≡ some name)
+      × (o : Origin x before (timeslot (modelAt x before .uplink .now)) (numberOf (h .address)) octet name)
+      × DerivedAt (modelAt x (o .before)) (o .asker) octet (modelAt x before .uplink .now)
+  -- two requests at most 65,535 hyperframes apart reserve no half-slot both
+  pub disjoint : (before between since : List Call) (a a′ : CapacityRequest) → xs ≡ before ++ request a ∷ between ++ request a′ ∷ since → slotsAdvanced between ≤ farthest
+      → (y : HalfSlot) → List·Memᴰ y (reserved a (modelAt x before)) → List·Memᴰ y (reserved a′ (modelAt x (before ++ request a ∷ between))) → ⊥
+  -- in the 68 slots from now on the table has taken exactly the half-slots reserved and not passed, each under its request's number
+  pub table : (k : ℕ) → k < 68 → (h : Half) (w : ℕ)
+      → (tableView (tableOf (memoryAt x xs .station)) (slotOf (memoryAt x xs .station .time) + k) h ≡ OptU32.Of w)
+      ↔ Standing x xs (record { time = clock (slotOf (memoryAt x xs .station .time) + k); half = h }) w
+  -- what the code holds is sound: question 1 is never answered no
+  pub sound : SoundMemory (memoryAt x xs)

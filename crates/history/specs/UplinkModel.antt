@@ -1,0 +1,89 @@
+-- The reference model (document 01's book), its uplink: what the calls of a history come to, with no table. Assumes nothing.
+use mathlib.Core.Bool.{Bool, true, false, _&&_, cond}
+use mathlib.Core.List.{List, [], _∷_}
+use Prim.Native.Nat.{ℕ, _+_}
+use lib.Dec.{eqb}
+use Rattle.optional.specs.declared.OptU32.{OptU32}
+use Rattle.tdma_time.specs.declared.TdmaTime.{TdmaTime}
+use Rattle.tdma_time.specs.Time.{slotOf, clock}
+use Rattle.uplink.specs.HalfSlot.{Half, firstHalf, secondHalf, HalfSlot, View}
+use Rattle.uplink.specs.Request.{Request, Verdict, verdict, reservedBy, countersAfter, replyTo}
+use Rattle.history.specs.UplinkCall.{CapacityRequest, asked, UplinkCall, advance, request, other, UplinkReply, done, refused, asReply, question}
+
+-- a half-slot that is taken, and the address number that it is taken under
+pub record Taken : Type 0 where
+  pub what : HalfSlot
+  pub who : ℕ
+
+-- now's slot, the timeslots' marker counters, and the half-slots taken
+pub record UplinkModel : Type 0 where
+  pub now : ℕ
+  pub markers : List ℕ
+  pub taken : List Taken
+
+-- "It begins at the new station's time, markers at 4, no half-slot taken"
+unfoldable pub newModel : TdmaTime → UplinkModel
+newModel x = record { now = slotOf x; markers = 4 ∷ 4 ∷ 4 ∷ 4 ∷ []; taken = [] }
+
+-- ---- what is taken
+
+abbrev pub sameHalf : Half → Half → Bool
+sameHalf firstHalf firstHalf = true
+sameHalf firstHalf secondHalf = false
+sameHalf secondHalf firstHalf = false
+sameHalf secondHalf secondHalf = true
+
+-- under which number a half of the slot of a time is taken
+unfoldable pub takenBy : List Taken → ℕ → Half → OptU32
+takenBy [] t h = OptU32.Absent
+takenBy (x ∷ xs) t h = let rest : OptU32 = takenBy xs t h in cond (eqb (x .what .time) t && sameHalf (x .what .half) h) (OptU32.Of (x .who)) rest
+
+abbrev pub modelView : List Taken → View
+modelView xs c h = takenBy xs (clock c) h
+
+-- "frees the half-slots of the slot left"
+unfoldable pub freed : List Taken → ℕ → List Taken
+freed [] t = []
+freed (x ∷ xs) t = let rest : List Taken = freed xs t in cond (eqb (x .what .time) t) rest (x ∷ rest)
+
+-- "stand as taken under its address number"
+unfoldable pub takes : List HalfSlot → ℕ → List Taken → List Taken
+takes [] who xs = xs
+takes (y ∷ ys) who xs = takes ys who (record { what = y; who = who } ∷ xs)
+
+-- ---- a request
+
+-- "A request looks at its timeslot's 17 slots from the first at or after now, those of frame 18 left out. It takes the earliest n in
+-- succession with both halves free, or for half a slot the first with a free half": 9 and 10 are asked of the model
+unfoldable pub modelVerdict : UplinkModel → Request → Verdict
+modelVerdict m r = verdict (modelView (m .taken)) (m .now) r
+
+-- "The half-slots it takes, in order, [..] are its reserved list": none where a question is answered no
+unfoldable pub reserved : CapacityRequest → ℕ → UplinkModel → List HalfSlot
+reserved a queued m =
+    cond (eqb (question a queued) 0) (reservedBy (modelView (m .taken)) (a .code) (modelVerdict m (asked a))) []
+
+-- the model with what a verdict reserves taken, and the marker drawn; a refusal reserves and draws nothing
+unfoldable pub settled : Request → Verdict → UplinkModel → UplinkModel
+settled r w m =
+    record {
+      now = m .now;
+      markers = countersAfter (m .markers) r w;
+      taken = takes (reservedBy (modelView (m .taken)) (r .code) w) (r .number) (m .taken);
+    }
+
+-- ---- a call
+
+-- "An advance takes the next time and frees the half-slots of the slot left." "A refused call, or one that only reads, changes nothing."
+unfoldable pub modelAfter : UplinkCall → UplinkModel → UplinkModel
+modelAfter advance m = record { now = clock (m .now + 1); markers = m .markers; taken = freed (m .taken) (m .now) }
+modelAfter (request a queued) m = cond (eqb (question a queued) 0) (settled (asked a) (modelVerdict m (asked a)) m) m
+modelAfter other m = m
+
+unfoldable pub modelReply : UplinkCall → UplinkModel → UplinkReply
+modelReply advance m = done
+modelReply (request a queued) m =
+    cond (eqb (question a queued) 0)
+    (asReply (replyTo (modelView (m .taken)) (m .markers) (asked a) (modelVerdict m (asked a))))
+    (refused (question a queued))
+modelReply other m = done
