@@ -22,3 +22,4 @@ pub mod Refinement
 pub mod RefinedBuild
 pub mod RefinedHistory
 pub mod Demand3
+pub mod StarredCases

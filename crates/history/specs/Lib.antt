@@ -9,3 +9,4 @@ pub mod Model
 pub mod Station
 pub mod Memory
 pub mod Demand3
+pub mod StarredCases
