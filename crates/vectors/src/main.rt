@@ -1,5 +1,6 @@
 // Runs examples of each crate and prints what they answer, a line each; the file `stdout` holds what must be printed.
 mod bits;
+mod chunks;
 mod codes;
 mod fill;
 mod pdus;
@@ -13,4 +14,5 @@ fn main() {
     fill::run();
     uplink_requests::run();
     pdus::run();
+    chunks::run();
 }
