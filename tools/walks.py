@@ -24,7 +24,10 @@ LEAF_CALLS = {'empty_record': '[0u16; 22]'}
 
 # Their callers, by level: each calls covered functions and derived ones of lower levels, and of a reference to such structs it takes
 # nothing else but the length.
-LEVELS = [['load_64', 'save_64']]
+LEVELS = [
+    ['load_64', 'save_64'],
+    ['ul_process_cap_req', 'dl_enqueue_random_access_ack', 'dl_enqueue_tma', 'dl_build_block'],
+]
 
 # For a derived function that others call: its body in the twin of its callers, any value of its type.
 STUBS = {

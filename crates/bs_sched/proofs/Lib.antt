@@ -1,4 +1,5 @@
 pub mod QueueLaws
+pub mod EntryLaws
 -- derived by tools/derive.py:
 pub mod Mirs
 pub mod Rows_Record
@@ -6,3 +7,7 @@ pub mod Walked_record_at
 pub mod Walked_put_record
 pub mod Walked_load_64
 pub mod Walked_save_64
+pub mod Walked_ul_process_cap_req
+pub mod Walked_dl_enqueue_random_access_ack
+pub mod Walked_dl_enqueue_tma
+pub mod Walked_dl_build_block

@@ -1,9 +1,37 @@
 // The public entries: the functions over the caller's queue.
+use dl_record::QueuedHeader;
 use dl_record::Record;
+use optional::OptU16;
+use sched_core::Answer;
+use sched_core::BuildReply;
+use sched_core::OwnerReply;
+use sched_core::Refusal;
+use sched_core::Reply;
+use sched_core::RequestAnswer;
+use sched_core::RequestReply;
+use sched_core::Station;
+use sched_core::UsageReply;
+use tdma_time::TdmaTime;
+use uplink::PhyBlockNum;
 ghost use mathlib.Core.Path.{_≡_};
+ghost use mathlib.Core.List.{[]};
 ghost use lib.ListN.{set};
 ghost use Rattle.dl_record.specs.Record.{emptyRecord};
+ghost use Rattle.sched_core.specs.declared.Reply.{Reply};
+ghost use Rattle.sched_core.specs.declared.RequestReply.{RequestReply};
+ghost use Rattle.sched_core.specs.declared.BuildReply.{BuildReply};
+ghost use Rattle.sched_core.specs.Questions.{memory};
+ghost use Rattle.sched_core.specs.Calls.{answerOf, outcome, newCall, advanceCall, ownerCall, usageCall, requestCall, ackCall, tmaCall, buildCall};
 ghost use Rattle.bs_sched.specs.Queue.{recordAt, first64, copied};
+ghost use Rattle.bs_sched.specs.Entries.{requestAnswerOf, buildAnswerOf, buildLeft, leftBy};
+
+// What a build answers: the reply, the tags of the records that are finished, and the station after the call.
+pub struct BuildAnswer {
+    pub reply: BuildReply,
+    pub tags: [u16; 16],
+    pub tag_count: u8,
+    pub station: Station,
+}
 
 // The record of an empty place.
 fn empty_record() -> Record
@@ -54,5 +82,212 @@ pub fn save_64(queue: &mut [Record], records: [Record; 64])
     while i < 64 {
         put_record(queue, i, records[i]);
         i += 1;
+    }
+}
+
+// A refusal: the number is the whole reply, and the station is as it came in.
+fn refused(refusal: Refusal, station: Station) -> Answer
+    ensures { λ r. ⌜ r ≡ answerOf (Reply.Refused refusal) station ⌝ }
+{
+    Answer {
+        reply: Reply::Refused(refusal),
+        station: station,
+    }
+}
+
+fn request_refused(refusal: Refusal, station: Station) -> RequestAnswer
+    ensures { λ r. ⌜ r ≡ requestAnswerOf (RequestReply.Refused refusal) station ⌝ }
+{
+    RequestAnswer {
+        reply: RequestReply::Refused(refusal),
+        station: station,
+    }
+}
+
+fn build_refused(refusal: Refusal, station: Station) -> BuildAnswer
+    ensures { λ r. ⌜ r ≡ buildAnswerOf (BuildReply.Refused refusal) [] station ⌝ }
+{
+    BuildAnswer {
+        reply: BuildReply::Refused(refusal),
+        tags: [0u16; 16],
+        tag_count: 0,
+        station: station,
+    }
+}
+
+// A new station at a time: an empty table and queues, and markers at 4.
+pub fn new(time: TdmaTime) -> Answer
+    ensures { λ r. ⌜ r ≡ newCall time ⌝ }
+{
+    sched_core::new(time)
+}
+
+// One slot on.
+pub fn advance(s: Station) -> Answer
+    ensures { λ r. ⌜ r ≡ advanceCall s ⌝ }
+{
+    sched_core::advance(s)
+}
+
+// Who holds the first half of the slot at a time, the second, or both.
+pub fn ul_get_slot_owner(s: Station, ts: TdmaTime, slot: PhyBlockNum) -> OwnerReply
+    ensures { λ r. ⌜ r ≡ ownerCall s ts slot ⌝ }
+{
+    sched_core::ul_get_slot_owner(s, ts, slot)
+}
+
+// How the slot at a time is used.
+pub fn ul_get_usage(s: Station, ts: TdmaTime) -> UsageReply
+    ensures { λ r. ⌜ r ≡ usageCall s ts ⌝ }
+{
+    sched_core::ul_get_usage(s, ts)
+}
+
+// A request for capacity.
+pub fn ul_process_cap_req(
+    s: Station,
+    queue: &mut [Record],
+    store: &[u8],
+    timeslot: u8,
+    code: u8,
+    kind: u8,
+    number: u32,
+) -> RequestAnswer
+    ensures { λ r. ⌜ outcome (r .reply) (memory (r .station) (now (queue .exit)) (now (store .entry))) ≡ requestCall (memory s (now (queue .entry)) (now (store .entry))) timeslot code kind number ⌝ }
+{
+    if !sched_core::station_is_sound(s) {
+        return request_refused(Refusal::Unsound, s);
+    }
+    if queue.len() != 64 {
+        return request_refused(Refusal::Lengths, s);
+    }
+    if store.len() != 16384 {
+        return request_refused(Refusal::Lengths, s);
+    }
+    let records = load_64(queue);
+    let done = sched_core::request_core(s, records, store, timeslot, code, kind, number);
+    let after = done.records;
+    save_64(queue, after);
+    let reply = done.reply;
+    let station = done.station;
+    RequestAnswer {
+        reply: reply,
+        station: station,
+    }
+}
+
+// An acknowledgement of a random access is queued.
+pub fn dl_enqueue_random_access_ack(
+    s: Station,
+    queue: &mut [Record],
+    store: &[u8],
+    timeslot: u8,
+    kind: u8,
+    number: u32,
+) -> Answer
+    ensures { λ r. ⌜ outcome (r .reply) (memory (r .station) (now (queue .exit)) (now (store .entry))) ≡ ackCall (memory s (now (queue .entry)) (now (store .entry))) timeslot kind number ⌝ }
+{
+    if !sched_core::station_is_sound(s) {
+        return refused(Refusal::Unsound, s);
+    }
+    if queue.len() != 64 {
+        return refused(Refusal::Lengths, s);
+    }
+    if store.len() != 16384 {
+        return refused(Refusal::Lengths, s);
+    }
+    let records = load_64(queue);
+    let done = sched_core::ack_core(s, records, store, timeslot, kind, number);
+    let after = done.records;
+    save_64(queue, after);
+    let reply = done.reply;
+    let station = done.station;
+    Answer {
+        reply: reply,
+        station: station,
+    }
+}
+
+// A record is queued with its SDU.
+pub fn dl_enqueue_tma(
+    s: Station,
+    queue: &mut [Record],
+    store: &mut [u8],
+    timeslot: u8,
+    kind: u8,
+    number: u32,
+    tag: OptU16,
+    header: QueuedHeader,
+    bits: u16,
+    sdu: &[u8],
+) -> Answer
+    ensures { λ r. ⌜ outcome (r .reply) (memory (r .station) (now (queue .exit)) (now (store .exit))) ≡ tmaCall (memory s (now (queue .entry)) (now (store .entry))) timeslot kind number tag header bits (now (sdu .entry)) ⌝ }
+{
+    if !sched_core::station_is_sound(s) {
+        return refused(Refusal::Unsound, s);
+    }
+    if queue.len() != 64 {
+        return refused(Refusal::Lengths, s);
+    }
+    if store.len() != 16384 {
+        return refused(Refusal::Lengths, s);
+    }
+    let records = load_64(queue);
+    let done = sched_core::tma_core(
+        s,
+        records,
+        store,
+        timeslot,
+        kind,
+        number,
+        tag,
+        header,
+        bits,
+        sdu,
+    );
+    let after = done.records;
+    save_64(queue, after);
+    let reply = done.reply;
+    let station = done.station;
+    Answer {
+        reply: reply,
+        station: station,
+    }
+}
+
+// The block of the current slot is built.
+pub fn dl_build_block(
+    s: Station,
+    queue: &mut [Record],
+    store: &mut [u8],
+    block: &mut [u8],
+) -> BuildAnswer
+    ensures { λ r. ⌜ buildLeft r (now (queue .exit)) (now (store .exit)) (now (block .exit)) ≡ leftBy (buildCall (memory s (now (queue .entry)) (now (store .entry))) (now (block .entry))) ⌝ }
+{
+    if !sched_core::station_is_sound(s) {
+        return build_refused(Refusal::Unsound, s);
+    }
+    if queue.len() != 64 {
+        return build_refused(Refusal::Lengths, s);
+    }
+    if store.len() != 16384 {
+        return build_refused(Refusal::Lengths, s);
+    }
+    if block.len() != 34 {
+        return build_refused(Refusal::Lengths, s);
+    }
+    let records = load_64(queue);
+    let done = sched_core::build_core(s, records, store, block);
+    let after = done.records;
+    save_64(queue, after);
+    let reply = done.reply;
+    let tags = done.tags;
+    let tag_count = done.tag_count;
+    let station = done.station;
+    BuildAnswer {
+        reply: reply,
+        tags: tags,
+        tag_count: tag_count,
+        station: station,
     }
 }

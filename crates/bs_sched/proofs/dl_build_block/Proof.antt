@@ -1,0 +1,64 @@
+-- `bs_sched::dl_build_block` meets its contract, by its derivation (`Proof/Lts.antt`): the first two questions, then the body on the queue's records.
+mod Lts
+mod Tie
+use mathlib.Core.Path.{_≡_}
+use mathlib.Core.Bool.{true}
+use borrow.Author.Needs.{needs}
+use Rattle.sched_core.specs.Questions.{Memory, memory, soundStation}
+use Rattle.sched_core.proofs.AskLaws.{said-no, said-yes}
+use Rattle.sched_core.proofs.QuestionLaws.{queue-not-64, store-not-16384}
+use Rattle.bs_sched.proofs.EntryLaws.{build-saved, build-unsound, build-lengths, build-not-34}
+use Rattle.bs_sched.proofs.dl_build_block.Statement.{statement}
+use Rattle.bs_sched.proofs.dl_build_block.Proof.Tie as tie
+
+abbrev all : tie.Start → Memory
+all s = memory (s .args .s) (s .args .queue .now) (s .args .store .now)
+
+-- what the first question has told
+sound : (c : tie.Else1) → soundStation (c .before .before .before .before .args .s) ≡ true
+sound c = said-yes (c .before .station-is-sound .ensures) (c .if1 .left)
+
+returns : tie.Need-returns
+returns c =
+    let k = c .before .before in
+    let s = k .before .before .before in
+    rw (c .build-refused .ensures) (build-unsound (all s) _ (said-no (k .station-is-sound .ensures) (c .before .if1 .taken)))
+
+returns-2 : tie.Need-returns-2
+returns-2 c =
+    let e = c .before .before in
+    let s = e .before .before .before .before in
+    rw (c .build-refused2 .ensures) (build-lengths (all s) _ (sound e) (queue-not-64 (all s) (c .before .if2 .taken)))
+
+returns-3 : tie.Need-returns-3
+returns-3 c =
+    let k = c .before .before in
+    let e = k .before in
+    let s = e .before .before .before .before in
+    rw (c .build-refused3 .ensures) (build-lengths (all s) _ (sound e) (store-not-16384 (all s) (k .if2 .left) (c .before .if3 .taken)))
+
+returns-4 : tie.Need-returns-4
+returns-4 c =
+    let k = c .before .before in
+    let e = k .before .before in
+    let s = e .before .before .before .before in
+    rw (c .build-refused4 .ensures) (build-not-34 (all s) _ (sound e) (k .before .if2 .left) (k .if3 .left) (c .before .if4 .taken))
+
+build-core-requires : tie.Need-build-core-requires
+build-core-requires c κs =
+    let k = c .before .before .before .before in
+    (sound (k .before .before .before), k .before .if3 .left, k .if4 .left)
+
+returns-5 : tie.Need-returns-5
+returns-5 c =
+    let v = c .before .before .before in
+    let d = v .before .before .before .before .before .before .before in
+    let l = d .before .before .before in
+    let k = l .before .before in
+    let s = k .before .before .before .before .before .before .before in
+    build-saved _ _ _ (d .build-core .result) (k .before .before .if2 .left) (l .load-64 .ensures) (v .save-64 .ensures) (s .args .s) (s .args .store .now) _ _ _ (d .build-core .ensures)
+
+pub dl-build-block-spec : {M : Type 1} → statement M
+dl-build-block-spec =
+    tie.close
+    (tie.spec (λ c κs. search needs) (λ c κs. search needs) returns (λ c κs. search needs) returns-2 (λ c κs. search needs) returns-3 (λ c κs. search needs) returns-4 (λ c κs. search needs) build-core-requires (λ c κs. search needs) (λ c. search needs) (λ c. search needs) (λ c. search needs) returns-5)
