@@ -165,7 +165,7 @@ pub fn ul_process_cap_req(
         return request_refused(Refusal::Lengths, s);
     }
     let records = load_64(queue);
-    let done = sched_core::request_core(s, records, store, timeslot, code, kind, number);
+    let done = request_core::request_core(s, records, store, timeslot, code, kind, number);
     let after = done.records;
     save_64(queue, after);
     let reply = done.reply;
@@ -197,7 +197,7 @@ pub fn dl_enqueue_random_access_ack(
         return refused(Refusal::Lengths, s);
     }
     let records = load_64(queue);
-    let done = sched_core::ack_core(s, records, store, timeslot, kind, number);
+    let done = enqueue_core::ack_core(s, records, store, timeslot, kind, number);
     let after = done.records;
     save_64(queue, after);
     let reply = done.reply;
@@ -233,7 +233,7 @@ pub fn dl_enqueue_tma(
         return refused(Refusal::Lengths, s);
     }
     let records = load_64(queue);
-    let done = sched_core::tma_core(
+    let done = enqueue_core::tma_core(
         s,
         records,
         store,
@@ -277,7 +277,7 @@ pub fn dl_build_block(
         return build_refused(Refusal::Lengths, s);
     }
     let records = load_64(queue);
-    let done = sched_core::build_core(s, records, store, block);
+    let done = build_core::build_core(s, records, store, block);
     let after = done.records;
     save_64(queue, after);
     let reply = done.reply;

@@ -5,4 +5,3 @@ pub mod GrantLaws
 pub mod QueuesLaws
 pub mod KeptLaws
 pub mod EntryLaws
-pub mod BuildCallLaws

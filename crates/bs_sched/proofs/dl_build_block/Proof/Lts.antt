@@ -656,7 +656,7 @@ b42 = Syntax.assign (Syntax.place 24 []) (Syntax.aggregate ((Syntax.copy (Syntax
     []))) ∷ []))
 
 abbrev b43 : Syntax.Body
-b43 = Syntax.call "sched_core::build_core" ((Syntax.copy (Syntax.place 1 [])) ∷ (Syntax.copy (Syntax.place 5 [])) ∷ (Syntax.copy (Syntax.place 22 []))
+b43 = Syntax.call "build_core::build_core" ((Syntax.copy (Syntax.place 1 [])) ∷ (Syntax.copy (Syntax.place 5 [])) ∷ (Syntax.copy (Syntax.place 22 []))
     ∷ (Syntax.copy (Syntax.place 24 [])) ∷ []) (Syntax.place 6 [])
 
 abbrev b44 : Syntax.Body
@@ -1512,7 +1512,7 @@ module _ (claims· : Claims) where
       Closed = (𝓤 : URA.URA M) (H : Wp.Heap 𝓤) (A : Atoms.Atoms 𝓤) (W : Kit.Given 𝓤 H A) (𝓣 : Wp.Tables 𝓤 H) (known0 : Plain.Known 𝓤 H A W 𝓣 0 ps·0
           r·0 (claims· .0) (claims· .1) "sched_core::station_is_sound") (known1 : Plain.Known 𝓤 H A W 𝓣 0 ps·1 r·1 (claims· .2) (claims· .3)
           "bs_sched::build_refused") (known2 : Plain.Known 𝓤 H A W 𝓣 1 ps·2 r·2 (claims· .4) (claims· .5) "bs_sched::load_64") (known3 : Plain.Known 𝓤
-          H A W 𝓣 2 ps·3 r·3 (claims· .6) (claims· .7) "sched_core::build_core") (known4 : Plain.Known 𝓤 H A W 𝓣 1 ps·4 r·4 (claims· .8) (claims· .9)
+          H A W 𝓣 2 ps·3 r·3 (claims· .6) (claims· .7) "build_core::build_core") (known4 : Plain.Known 𝓤 H A W 𝓣 1 ps·4 r·4 (claims· .8) (claims· .9)
           "bs_sched::save_64") → Statement.Triple 𝓤 (Wp.WpFn 𝓤 H (𝓣 .C) (𝓣 .Λ) (Function.fnOf 3 ps r xs m hs body)) (Function.plainOf 𝓤 H A 3 ps r
           Pre· Post·)
 
@@ -1827,7 +1827,7 @@ module _ (claims· : Claims) where
         abbrev Knowns : Type 1
         Knowns = Plain.Known 𝓤 H A W 𝓣 0 ps·0 r·0 (claims· .0) (claims· .1) "sched_core::station_is_sound" × Plain.Known 𝓤 H A W 𝓣 0 ps·1 r·1 (claims·
             .2) (claims· .3) "bs_sched::build_refused" × Plain.Known 𝓤 H A W 𝓣 1 ps·2 r·2 (claims· .4) (claims· .5) "bs_sched::load_64" × Plain.Known
-            𝓤 H A W 𝓣 2 ps·3 r·3 (claims· .6) (claims· .7) "sched_core::build_core" × Plain.Known 𝓤 H A W 𝓣 1 ps·4 r·4 (claims· .8) (claims· .9)
+            𝓤 H A W 𝓣 2 ps·3 r·3 (claims· .6) (claims· .7) "build_core::build_core" × Plain.Known 𝓤 H A W 𝓣 1 ps·4 r·4 (claims· .8) (claims· .9)
             "bs_sched::save_64"
 
       module _ (κs : Lifetimes.Lfts 3) (qs : Lifetimes.Shares 3) where
@@ -3172,7 +3172,7 @@ module _ (claims· : Claims) where
 
           d72 : Typed.Typed 𝓤 H A 𝓣 E G57 b63 Δ0 (at72 bs)
           d72 = Typed.s-seq 𝓤 H A W 𝓣 E G57 G58 b43 b62 Δ0 (Typed.both (s52 bs)) (at71 bs) (Plain.t-call-plain 𝓤 H A W 𝓣 2 ps·3 r·3 (claims· .6)
-              (claims· .7) "sched_core::build_core" (known .3) E (λ pos β. β) G57 (
+              (claims· .7) "build_core::build_core" (known .3) E (λ pos β. β) G57 (
                 record { pos = 1; st = []; d = 0; at = λ x. x },
                 (
                   record {
@@ -5005,7 +5005,7 @@ module _ (claims· : Claims) where
         module _ {M : Type 1} (𝓤 : URA.URA M) (H : Wp.Heap 𝓤) (A : Atoms.Atoms 𝓤) (W : Kit.Given 𝓤 H A) (𝓣 : Wp.Tables 𝓤 H) (known0 : Plain.Known 𝓤 H
             A W 𝓣 0 ps·0 r·0 (claims· .0) (claims· .1) "sched_core::station_is_sound") (known1 : Plain.Known 𝓤 H A W 𝓣 0 ps·1 r·1 (claims· .2)
             (claims· .3) "bs_sched::build_refused") (known2 : Plain.Known 𝓤 H A W 𝓣 1 ps·2 r·2 (claims· .4) (claims· .5) "bs_sched::load_64") (known3
-            : Plain.Known 𝓤 H A W 𝓣 2 ps·3 r·3 (claims· .6) (claims· .7) "sched_core::build_core") (known4 : Plain.Known 𝓤 H A W 𝓣 1 ps·4 r·4 (claims·
+            : Plain.Known 𝓤 H A W 𝓣 2 ps·3 r·3 (claims· .6) (claims· .7) "build_core::build_core") (known4 : Plain.Known 𝓤 H A W 𝓣 1 ps·4 r·4 (claims·
             .8) (claims· .9) "bs_sched::save_64") where
           pub spec : Statement.Triple 𝓤 (Wp.WpFn 𝓤 H (𝓣 .C) (𝓣 .Λ) (Function.fnOf 3 ps r xs m hs body)) (Function.plainOf 𝓤 H A 3 ps r Pre· Post·)
           spec = Plain.t-fn-plain 𝓤 H A W 𝓣 3 ps r xs m hs body (λ κs qs bs. Φ bs) (λ κs qs bs bd. typed κs qs 𝓤 H A W 𝓣 (

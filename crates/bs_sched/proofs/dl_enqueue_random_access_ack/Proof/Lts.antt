@@ -563,8 +563,8 @@ abbrev b29 : Syntax.Body
 b29 = Syntax.call "bs_sched::load_64" ((Syntax.copy (Syntax.place 19 [])) ∷ []) (Syntax.place 7 [])
 
 abbrev b30 : Syntax.Body
-b30 = Syntax.call "sched_core::ack_core" ((Syntax.copy (Syntax.place 1 [])) ∷ (Syntax.copy (Syntax.place 7 [])) ∷ (Syntax.copy (Syntax.place 3 [])) ∷
-    (Syntax.copy (Syntax.place 4 [])) ∷ (Syntax.copy (Syntax.place 5 [])) ∷ (Syntax.copy (Syntax.place 6 [])) ∷ []) (Syntax.place 8 [])
+b30 = Syntax.call "enqueue_core::ack_core" ((Syntax.copy (Syntax.place 1 [])) ∷ (Syntax.copy (Syntax.place 7 [])) ∷ (Syntax.copy (Syntax.place 3 []))
+    ∷ (Syntax.copy (Syntax.place 4 [])) ∷ (Syntax.copy (Syntax.place 5 [])) ∷ (Syntax.copy (Syntax.place 6 [])) ∷ []) (Syntax.place 8 [])
 
 abbrev b31 : Syntax.Body
 b31 = Syntax.assign (Syntax.place 9 []) (Syntax.rvOpd (Syntax.copy (Syntax.place 8 ((Syntax.field 2) ∷ []))))
@@ -1274,7 +1274,7 @@ module _ (claims· : Claims) where
       Closed = (𝓤 : URA.URA M) (H : Wp.Heap 𝓤) (A : Atoms.Atoms 𝓤) (W : Kit.Given 𝓤 H A) (𝓣 : Wp.Tables 𝓤 H) (known0 : Plain.Known 𝓤 H A W 𝓣 0 ps·0
           r·0 (claims· .0) (claims· .1) "sched_core::station_is_sound") (known1 : Plain.Known 𝓤 H A W 𝓣 0 ps·1 r·1 (claims· .2) (claims· .3)
           "bs_sched::refused") (known2 : Plain.Known 𝓤 H A W 𝓣 1 ps·2 r·2 (claims· .4) (claims· .5) "bs_sched::load_64") (known3 : Plain.Known 𝓤 H A W
-          𝓣 1 ps·3 r·3 (claims· .6) (claims· .7) "sched_core::ack_core") (known4 : Plain.Known 𝓤 H A W 𝓣 1 ps·4 r·4 (claims· .8) (claims· .9)
+          𝓣 1 ps·3 r·3 (claims· .6) (claims· .7) "enqueue_core::ack_core") (known4 : Plain.Known 𝓤 H A W 𝓣 1 ps·4 r·4 (claims· .8) (claims· .9)
           "bs_sched::save_64") → Statement.Triple 𝓤 (Wp.WpFn 𝓤 H (𝓣 .C) (𝓣 .Λ) (Function.fnOf 2 ps r xs m hs body)) (Function.plainOf 𝓤 H A 2 ps r
           Pre· Post·)
 
@@ -1529,7 +1529,7 @@ module _ (claims· : Claims) where
         abbrev Knowns : Type 1
         Knowns = Plain.Known 𝓤 H A W 𝓣 0 ps·0 r·0 (claims· .0) (claims· .1) "sched_core::station_is_sound" × Plain.Known 𝓤 H A W 𝓣 0 ps·1 r·1 (claims·
             .2) (claims· .3) "bs_sched::refused" × Plain.Known 𝓤 H A W 𝓣 1 ps·2 r·2 (claims· .4) (claims· .5) "bs_sched::load_64" × Plain.Known 𝓤 H A
-            W 𝓣 1 ps·3 r·3 (claims· .6) (claims· .7) "sched_core::ack_core" × Plain.Known 𝓤 H A W 𝓣 1 ps·4 r·4 (claims· .8) (claims· .9)
+            W 𝓣 1 ps·3 r·3 (claims· .6) (claims· .7) "enqueue_core::ack_core" × Plain.Known 𝓤 H A W 𝓣 1 ps·4 r·4 (claims· .8) (claims· .9)
             "bs_sched::save_64"
 
       module _ (κs : Lifetimes.Lfts 2) (qs : Lifetimes.Shares 2) where
@@ -2277,7 +2277,7 @@ module _ (claims· : Claims) where
 
           d62 : Typed.Typed 𝓤 H A 𝓣 E G49 b46 Δ0 (at62 bs)
           d62 = Typed.s-seq 𝓤 H A W 𝓣 E G49 G50 b30 b45 Δ0 (Typed.both (s45 bs)) (at61 bs) (Plain.t-call-plain 𝓤 H A W 𝓣 1 ps·3 r·3 (claims· .6)
-              (claims· .7) "sched_core::ack_core" (known .3) E (λ pos β. β) G49 (
+              (claims· .7) "enqueue_core::ack_core" (known .3) E (λ pos β. β) G49 (
                 record { pos = 1; st = []; d = 0; at = λ x. x },
                 (
                   record {
@@ -3541,8 +3541,8 @@ module _ (claims· : Claims) where
         module _ {M : Type 1} (𝓤 : URA.URA M) (H : Wp.Heap 𝓤) (A : Atoms.Atoms 𝓤) (W : Kit.Given 𝓤 H A) (𝓣 : Wp.Tables 𝓤 H) (known0 : Plain.Known 𝓤 H
             A W 𝓣 0 ps·0 r·0 (claims· .0) (claims· .1) "sched_core::station_is_sound") (known1 : Plain.Known 𝓤 H A W 𝓣 0 ps·1 r·1 (claims· .2)
             (claims· .3) "bs_sched::refused") (known2 : Plain.Known 𝓤 H A W 𝓣 1 ps·2 r·2 (claims· .4) (claims· .5) "bs_sched::load_64") (known3 :
-            Plain.Known 𝓤 H A W 𝓣 1 ps·3 r·3 (claims· .6) (claims· .7) "sched_core::ack_core") (known4 : Plain.Known 𝓤 H A W 𝓣 1 ps·4 r·4 (claims· .8)
-            (claims· .9) "bs_sched::save_64") where
+            Plain.Known 𝓤 H A W 𝓣 1 ps·3 r·3 (claims· .6) (claims· .7) "enqueue_core::ack_core") (known4 : Plain.Known 𝓤 H A W 𝓣 1 ps·4 r·4 (claims·
+            .8) (claims· .9) "bs_sched::save_64") where
           pub spec : Statement.Triple 𝓤 (Wp.WpFn 𝓤 H (𝓣 .C) (𝓣 .Λ) (Function.fnOf 2 ps r xs m hs body)) (Function.plainOf 𝓤 H A 2 ps r Pre· Post·)
           spec = Plain.t-fn-plain 𝓤 H A W 𝓣 2 ps r xs m hs body (λ κs qs bs. Φ bs) (λ κs qs bs bd. typed κs qs 𝓤 H A W 𝓣 (
             known0,

@@ -698,9 +698,9 @@ b31 = Syntax.assign (Syntax.place 25 []) (Syntax.aggregate ((Syntax.copy (Syntax
     []))) ∷ []))
 
 abbrev b32 : Syntax.Body
-b32 = Syntax.call "sched_core::tma_core" ((Syntax.copy (Syntax.place 1 [])) ∷ (Syntax.copy (Syntax.place 11 [])) ∷ (Syntax.copy (Syntax.place 25 []))
-    ∷ (Syntax.copy (Syntax.place 4 [])) ∷ (Syntax.copy (Syntax.place 5 [])) ∷ (Syntax.copy (Syntax.place 6 [])) ∷ (Syntax.copy (Syntax.place 7 [])) ∷
-    (Syntax.copy (Syntax.place 8 [])) ∷ (Syntax.copy (Syntax.place 9 [])) ∷ (Syntax.copy (Syntax.place 10 [])) ∷ []) (Syntax.place 12 [])
+b32 = Syntax.call "enqueue_core::tma_core" ((Syntax.copy (Syntax.place 1 [])) ∷ (Syntax.copy (Syntax.place 11 [])) ∷ (Syntax.copy (Syntax.place 25
+    [])) ∷ (Syntax.copy (Syntax.place 4 [])) ∷ (Syntax.copy (Syntax.place 5 [])) ∷ (Syntax.copy (Syntax.place 6 [])) ∷ (Syntax.copy (Syntax.place 7
+    [])) ∷ (Syntax.copy (Syntax.place 8 [])) ∷ (Syntax.copy (Syntax.place 9 [])) ∷ (Syntax.copy (Syntax.place 10 [])) ∷ []) (Syntax.place 12 [])
 
 abbrev b33 : Syntax.Body
 b33 = Syntax.assign (Syntax.place 13 []) (Syntax.rvOpd (Syntax.copy (Syntax.place 12 ((Syntax.field 2) ∷ []))))
@@ -1570,7 +1570,7 @@ module _ (claims· : Claims) where
       Closed = (𝓤 : URA.URA M) (H : Wp.Heap 𝓤) (A : Atoms.Atoms 𝓤) (W : Kit.Given 𝓤 H A) (𝓣 : Wp.Tables 𝓤 H) (known0 : Plain.Known 𝓤 H A W 𝓣 0 ps·0
           r·0 (claims· .0) (claims· .1) "sched_core::station_is_sound") (known1 : Plain.Known 𝓤 H A W 𝓣 0 ps·1 r·1 (claims· .2) (claims· .3)
           "bs_sched::refused") (known2 : Plain.Known 𝓤 H A W 𝓣 1 ps·2 r·2 (claims· .4) (claims· .5) "bs_sched::load_64") (known3 : Plain.Known 𝓤 H A W
-          𝓣 2 ps·3 r·3 (claims· .6) (claims· .7) "sched_core::tma_core") (known4 : Plain.Known 𝓤 H A W 𝓣 1 ps·4 r·4 (claims· .8) (claims· .9)
+          𝓣 2 ps·3 r·3 (claims· .6) (claims· .7) "enqueue_core::tma_core") (known4 : Plain.Known 𝓤 H A W 𝓣 1 ps·4 r·4 (claims· .8) (claims· .9)
           "bs_sched::save_64") → Statement.Triple 𝓤 (Wp.WpFn 𝓤 H (𝓣 .C) (𝓣 .Λ) (Function.fnOf 3 ps r xs m hs body)) (Function.plainOf 𝓤 H A 3 ps r
           Pre· Post·)
 
@@ -1885,7 +1885,7 @@ module _ (claims· : Claims) where
         abbrev Knowns : Type 1
         Knowns = Plain.Known 𝓤 H A W 𝓣 0 ps·0 r·0 (claims· .0) (claims· .1) "sched_core::station_is_sound" × Plain.Known 𝓤 H A W 𝓣 0 ps·1 r·1 (claims·
             .2) (claims· .3) "bs_sched::refused" × Plain.Known 𝓤 H A W 𝓣 1 ps·2 r·2 (claims· .4) (claims· .5) "bs_sched::load_64" × Plain.Known 𝓤 H A
-            W 𝓣 2 ps·3 r·3 (claims· .6) (claims· .7) "sched_core::tma_core" × Plain.Known 𝓤 H A W 𝓣 1 ps·4 r·4 (claims· .8) (claims· .9)
+            W 𝓣 2 ps·3 r·3 (claims· .6) (claims· .7) "enqueue_core::tma_core" × Plain.Known 𝓤 H A W 𝓣 1 ps·4 r·4 (claims· .8) (claims· .9)
             "bs_sched::save_64"
 
       module _ (κs : Lifetimes.Lfts 3) (qs : Lifetimes.Shares 3) where
@@ -3237,11 +3237,12 @@ module _ (claims· : Claims) where
 
           d78 : Typed.Typed 𝓤 H A 𝓣 E G62 b48 Δ0 (at78 bs)
           d78 = Typed.s-seq 𝓤 H A W 𝓣 E G62 G63 b32 b47 Δ0 (Typed.both (s58 bs)) (at77 bs) (Plain.t-call-plain 𝓤 H A W 𝓣 2 ps·3 r·3 (claims· .6)
-              (claims· .7) "sched_core::tma_core" (known .3) E (λ pos β. β) G62 (
+              (claims· .7) "enqueue_core::tma_core" (known .3) E (λ pos β. β) G62 (
                 record { pos = 1; st = []; d = 0; at = λ x. x },
                 (
                   record {
-                    pos = 11;
+                    pos =
+                        11;
                     st = [];
                     d = 0;
                     at = λ x. x;
@@ -5016,8 +5017,8 @@ module _ (claims· : Claims) where
         module _ {M : Type 1} (𝓤 : URA.URA M) (H : Wp.Heap 𝓤) (A : Atoms.Atoms 𝓤) (W : Kit.Given 𝓤 H A) (𝓣 : Wp.Tables 𝓤 H) (known0 : Plain.Known 𝓤 H
             A W 𝓣 0 ps·0 r·0 (claims· .0) (claims· .1) "sched_core::station_is_sound") (known1 : Plain.Known 𝓤 H A W 𝓣 0 ps·1 r·1 (claims· .2)
             (claims· .3) "bs_sched::refused") (known2 : Plain.Known 𝓤 H A W 𝓣 1 ps·2 r·2 (claims· .4) (claims· .5) "bs_sched::load_64") (known3 :
-            Plain.Known 𝓤 H A W 𝓣 2 ps·3 r·3 (claims· .6) (claims· .7) "sched_core::tma_core") (known4 : Plain.Known 𝓤 H A W 𝓣 1 ps·4 r·4 (claims· .8)
-            (claims· .9) "bs_sched::save_64") where
+            Plain.Known 𝓤 H A W 𝓣 2 ps·3 r·3 (claims· .6) (claims· .7) "enqueue_core::tma_core") (known4 : Plain.Known 𝓤 H A W 𝓣 1 ps·4 r·4 (claims·
+            .8) (claims· .9) "bs_sched::save_64") where
           pub spec : Statement.Triple 𝓤 (Wp.WpFn 𝓤 H (𝓣 .C) (𝓣 .Λ) (Function.fnOf 3 ps r xs m hs body)) (Function.plainOf 𝓤 H A 3 ps r Pre· Post·)
           spec = Plain.t-fn-plain 𝓤 H A W 𝓣 3 ps r xs m hs body (λ κs qs bs. Φ bs) (λ κs qs bs bd. typed κs qs 𝓤 H A W 𝓣 (
             known0,

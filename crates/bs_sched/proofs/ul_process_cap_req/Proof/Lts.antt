@@ -571,7 +571,7 @@ abbrev b29 : Syntax.Body
 b29 = Syntax.call "bs_sched::load_64" ((Syntax.copy (Syntax.place 20 [])) ∷ []) (Syntax.place 8 [])
 
 abbrev b30 : Syntax.Body
-b30 = Syntax.call "sched_core::request_core" ((Syntax.copy (Syntax.place 1 [])) ∷ (Syntax.copy (Syntax.place 8 [])) ∷ (Syntax.copy (Syntax.place 3
+b30 = Syntax.call "request_core::request_core" ((Syntax.copy (Syntax.place 1 [])) ∷ (Syntax.copy (Syntax.place 8 [])) ∷ (Syntax.copy (Syntax.place 3
     [])) ∷ (Syntax.copy (Syntax.place 4 [])) ∷ (Syntax.copy (Syntax.place 5 [])) ∷ (Syntax.copy (Syntax.place 6 [])) ∷ (Syntax.copy (Syntax.place 7
     [])) ∷ []) (Syntax.place 9 [])
 
@@ -1307,9 +1307,9 @@ module _ (claims· : Claims) where
       Closed = (𝓤 : URA.URA M) (H : Wp.Heap 𝓤) (A : Atoms.Atoms 𝓤) (W : Kit.Given 𝓤 H A) (𝓣 : Wp.Tables 𝓤 H) (known0 : Plain.Known 𝓤 H A W 𝓣 0 ps·0
           r·0 (claims· .0) (claims· .1) "sched_core::station_is_sound") (known1 : Plain.Known 𝓤 H A W 𝓣 0 ps·1 r·1 (claims· .2) (claims· .3)
           "bs_sched::request_refused") (known2 : Plain.Known 𝓤 H A W 𝓣 1 ps·2 r·2 (claims· .4) (claims· .5) "bs_sched::load_64") (known3 : Plain.Known
-          𝓤 H A W 𝓣 1 ps·3 r·3 (claims· .6) (claims· .7) "sched_core::request_core") (known4 : Plain.Known 𝓤 H A W 𝓣 1 ps·4 r·4 (claims· .8) (claims·
-          .9) "bs_sched::save_64") → Statement.Triple 𝓤 (Wp.WpFn 𝓤 H (𝓣 .C) (𝓣 .Λ) (Function.fnOf 2 ps r xs m hs body)) (Function.plainOf 𝓤 H A 2 ps r
-          Pre· Post·)
+          𝓤 H A W 𝓣 1 ps·3 r·3 (claims· .6) (claims· .7) "request_core::request_core") (known4 : Plain.Known 𝓤 H A W 𝓣 1 ps·4 r·4 (claims· .8)
+          (claims· .9) "bs_sched::save_64") → Statement.Triple 𝓤 (Wp.WpFn 𝓤 H (𝓣 .C) (𝓣 .Λ) (Function.fnOf 2 ps r xs m hs body)) (Function.plainOf 𝓤 H
+          A 2 ps r Pre· Post·)
 
     module _ where
       abbrev at0 : (bs : List.List Nat.ℕ) → Typed.TF T15 O1
@@ -1574,7 +1574,7 @@ module _ (claims· : Claims) where
         abbrev Knowns : Type 1
         Knowns = Plain.Known 𝓤 H A W 𝓣 0 ps·0 r·0 (claims· .0) (claims· .1) "sched_core::station_is_sound" × Plain.Known 𝓤 H A W 𝓣 0 ps·1 r·1 (claims·
             .2) (claims· .3) "bs_sched::request_refused" × Plain.Known 𝓤 H A W 𝓣 1 ps·2 r·2 (claims· .4) (claims· .5) "bs_sched::load_64" ×
-            Plain.Known 𝓤 H A W 𝓣 1 ps·3 r·3 (claims· .6) (claims· .7) "sched_core::request_core" × Plain.Known 𝓤 H A W 𝓣 1 ps·4 r·4 (claims· .8)
+            Plain.Known 𝓤 H A W 𝓣 1 ps·3 r·3 (claims· .6) (claims· .7) "request_core::request_core" × Plain.Known 𝓤 H A W 𝓣 1 ps·4 r·4 (claims· .8)
             (claims· .9) "bs_sched::save_64"
 
       module _ (κs : Lifetimes.Lfts 2) (qs : Lifetimes.Shares 2) where
@@ -2372,12 +2372,12 @@ module _ (claims· : Claims) where
 
           d66 : Typed.Typed 𝓤 H A 𝓣 E G52 b46 Δ0 (at66 bs)
           d66 = Typed.s-seq 𝓤 H A W 𝓣 E G52 G53 b30 b45 Δ0 (Typed.both (s48 bs)) (at65 bs) (Plain.t-call-plain 𝓤 H A W 𝓣 1 ps·3 r·3 (claims· .6)
-              (claims· .7) "sched_core::request_core" (known .3) E (λ pos β. β) G52 (
+              (claims· .7) "request_core::request_core" (known .3) E (λ pos β. β) G52 (
                 record { pos = 1; st = []; d = 0; at = λ x. x },
                 (
                   record {
-                    pos =
-                        8;
+                    pos
+                        = 8;
                     st = [];
                     d = 0;
                     at = λ x. x;
@@ -3667,7 +3667,7 @@ module _ (claims· : Claims) where
         module _ {M : Type 1} (𝓤 : URA.URA M) (H : Wp.Heap 𝓤) (A : Atoms.Atoms 𝓤) (W : Kit.Given 𝓤 H A) (𝓣 : Wp.Tables 𝓤 H) (known0 : Plain.Known 𝓤 H
             A W 𝓣 0 ps·0 r·0 (claims· .0) (claims· .1) "sched_core::station_is_sound") (known1 : Plain.Known 𝓤 H A W 𝓣 0 ps·1 r·1 (claims· .2)
             (claims· .3) "bs_sched::request_refused") (known2 : Plain.Known 𝓤 H A W 𝓣 1 ps·2 r·2 (claims· .4) (claims· .5) "bs_sched::load_64")
-            (known3 : Plain.Known 𝓤 H A W 𝓣 1 ps·3 r·3 (claims· .6) (claims· .7) "sched_core::request_core") (known4 : Plain.Known 𝓤 H A W 𝓣 1 ps·4
+            (known3 : Plain.Known 𝓤 H A W 𝓣 1 ps·3 r·3 (claims· .6) (claims· .7) "request_core::request_core") (known4 : Plain.Known 𝓤 H A W 𝓣 1 ps·4
             r·4 (claims· .8) (claims· .9) "bs_sched::save_64") where
           pub spec : Statement.Triple 𝓤 (Wp.WpFn 𝓤 H (𝓣 .C) (𝓣 .Λ) (Function.fnOf 2 ps r xs m hs body)) (Function.plainOf 𝓤 H A 2 ps r Pre· Post·)
           spec = Plain.t-fn-plain 𝓤 H A W 𝓣 2 ps r xs m hs body (λ κs qs bs. Φ bs) (λ κs qs bs bd. typed κs qs 𝓤 H A W 𝓣 (

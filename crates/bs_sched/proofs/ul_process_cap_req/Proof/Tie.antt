@@ -14,9 +14,9 @@ use Rattle.bs_sched.proofs.ul_process_cap_req.Code
 use Rattle.bs_sched.proofs.ul_process_cap_req.Key
 use Rattle.bs_sched.proofs.ul_process_cap_req.Proof.Lts
 use Rattle.bs_sched.proofs.ul_process_cap_req.Statement
-use Rattle.sched_core.proofs.request_core.Met
-use Rattle.sched_core.proofs.request_core.Reads
-use Rattle.sched_core.proofs.request_core.Symbol
+use Rattle.request_core.proofs.request_core.Met
+use Rattle.request_core.proofs.request_core.Reads
+use Rattle.request_core.proofs.request_core.Symbol
 use Rattle.sched_core.proofs.station_is_sound.Met as Met'
 use Rattle.sched_core.proofs.station_is_sound.Reads as Reads'
 use Rattle.sched_core.proofs.station_is_sound.Symbol as Symbol'
@@ -542,6 +542,6 @@ module _ {M : Type 1} where
         𝓡 = 𝓡;
       } Code.env Symbol'3.name Symbol'3.routine Code.calls-bs-sched·request-refused (Met'3.met 𝓤 H 𝓜 𝓖 𝓡)) (Reads''.known
       record { M = M; 𝓤 = 𝓤; H = H; 𝓜 = 𝓜; 𝓖 = 𝓖; 𝓡 = 𝓡 } Code.env Symbol''.name Symbol''.routine Code.calls-bs-sched·load-64 (Met''.met 𝓤 H 𝓜 𝓖 𝓡))
-      (Reads.known record { M = M; 𝓤 = 𝓤; H = H; 𝓜 = 𝓜; 𝓖 = 𝓖; 𝓡 = 𝓡 } Code.env Symbol.name Symbol.routine Code.calls-sched-core·request-core (Met.met
-      𝓤 H 𝓜 𝓖 𝓡)) (Reads'4.known record { M = M; 𝓤 = 𝓤; H = H; 𝓜 = 𝓜; 𝓖 = 𝓖; 𝓡 = 𝓡 } Code.env Symbol'4.name Symbol'4.routine
+      (Reads.known record { M = M; 𝓤 = 𝓤; H = H; 𝓜 = 𝓜; 𝓖 = 𝓖; 𝓡 = 𝓡 } Code.env Symbol.name Symbol.routine Code.calls-request-core·request-core
+      (Met.met 𝓤 H 𝓜 𝓖 𝓡)) (Reads'4.known record { M = M; 𝓤 = 𝓤; H = H; 𝓜 = 𝓜; 𝓖 = 𝓖; 𝓡 = 𝓡 } Code.env Symbol'4.name Symbol'4.routine
       Code.calls-bs-sched·save-64 (Met'4.met 𝓤 H 𝓜 𝓖 𝓡))

@@ -4,13 +4,13 @@ use mathlib.Core.List.{List}
 use borrow.Author.Needs.{needs}
 use borrow.Author.Tests.{le-leb, lt-leb}
 use lib.ListN.{length}
 use Rattle.sched_core.specs.Questions.{memory, Question, requestQuestions}
 use Rattle.sched_core.specs.Calls.{requestOutcome, requestCall}
 use Rattle.sched_core.proofs.AskLaws.{said-no, said-yes, FirstYes, first-no, every-yes}
 use Rattle.sched_core.proofs.QuestionLaws.{right-lengths, timeslot-range, room-left}
 use Rattle.sched_core.proofs.StationLaws.{sound-parts}
-use Rattle.sched_core.proofs.request_core.Statement.{statement}
-use Rattle.sched_core.proofs.request_core.Tie as tie
+use Rattle.request_core.proofs.request_core.Statement.{statement}
+use Rattle.request_core.proofs.request_core.Tie as tie
 
 abbrev questions : tie.Start → List Question
 questions s =

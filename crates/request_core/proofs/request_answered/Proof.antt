@@ -2,10 +2,10 @@
 use mathlib.Core.Path.{_≡_, _∙_}
 use borrow.Author.Needs.{needs}
 use Rattle.uplink.specs.Request.{answer}
 use Rattle.sched_core.specs.Station.{tableOf}
 use Rattle.sched_core.proofs.GrantLaws.{answered-no-run, answered-too-late, answered-grant, grant-fits}
-use Rattle.sched_core.proofs.request_answered.Statement.{statement}
-use Rattle.sched_core.proofs.request_answered.Tie as tie
+use Rattle.request_core.proofs.request_answered.Statement.{statement}
+use Rattle.request_core.proofs.request_answered.Tie as tie
 
 -- what the search answered is what the definition says
 searched : (c : tie.After-ul-process-cap-req) → let a = c .before .before .before .before .args in

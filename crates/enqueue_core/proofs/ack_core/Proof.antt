@@ -5,12 +5,12 @@ use Prim.Native.Nat.{_≤_}
 use native.Mathlib.Omega.{arith}
 use borrow.Author.Needs.{needs}
 use lib.ListN.{length}
 use Rattle.sched_core.specs.Questions.{memory, Question, ackQuestions}
 use Rattle.sched_core.specs.Calls.{queueOutcome, ackCall}
 use Rattle.sched_core.proofs.AskLaws.{said-no, said-yes, FirstYes, first-no, every-yes}
 use Rattle.sched_core.proofs.QuestionLaws.{right-lengths, timeslot-range, room-left}
-use Rattle.sched_core.proofs.ack_core.Statement.{statement}
-use Rattle.sched_core.proofs.ack_core.Tie as tie
+use Rattle.enqueue_core.proofs.ack_core.Statement.{statement}
+use Rattle.enqueue_core.proofs.ack_core.Tie as tie
 
 abbrev questions : tie.Start → List Question
 questions s =

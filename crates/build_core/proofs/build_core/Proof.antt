@@ -9,13 +9,13 @@ use lib.ListN.{length, getD}
 use Rattle.tdma_time.specs.Time.{Valid}
 use Rattle.tdma_time.proofs.TimeLaws.{slotOf-timeslot}
 use Rattle.dl_queue.specs.Questions.{soundQueue}
 use Rattle.sched_core.specs.Questions.{Memory, memory}
 use Rattle.sched_core.specs.Calls.{buildsNow}
 use Rattle.sched_core.proofs.AskLaws.{said-no, said-yes}
 use Rattle.sched_core.proofs.StationLaws.{sound-parts}
-use Rattle.sched_core.proofs.BuildCallLaws.{builds-now, unsound-answered, none-answered, built-answered}
-use Rattle.sched_core.proofs.build_core.Statement.{statement}
-use Rattle.sched_core.proofs.build_core.Tie as tie
+use Rattle.build_core.proofs.BuildCallLaws.{builds-now, unsound-answered, none-answered, built-answered}
+use Rattle.build_core.proofs.build_core.Statement.{statement}
+use Rattle.build_core.proofs.build_core.Tie as tie
 
 abbrev all : tie.Start → Memory
 all s = memory (s .args .station) (s .args .records) (s .args .store .now)

@@ -6,12 +6,12 @@ use native.Mathlib.Omega.{arith}
 use borrow.Author.Needs.{needs}
 use lib.ListN.{length}
 use Rattle.dl_record.specs.Record.{offeredRecord}
 use Rattle.sched_core.specs.Questions.{memory, Question, tmaQuestions}
 use Rattle.sched_core.specs.Calls.{queueOutcome, tmaCall}
 use Rattle.sched_core.proofs.AskLaws.{said-no, said-yes, FirstYes, first-no, every-yes}
 use Rattle.sched_core.proofs.QuestionLaws.{right-lengths, timeslot-range, sdu-range, room-left}
-use Rattle.sched_core.proofs.tma_core.Statement.{statement}
-use Rattle.sched_core.proofs.tma_core.Tie as tie
+use Rattle.enqueue_core.proofs.tma_core.Statement.{statement}
+use Rattle.enqueue_core.proofs.tma_core.Tie as tie
 
 abbrev questions : tie.Start → List Question
 questions s =

@@ -1,7 +1,7 @@
 -- What `is_usable` says of the time. Assumes nothing.
 use borrow.Author.Needs.{needs}
-use Rattle.sched_core.proofs.builds_at.Statement.{statement}
-use Rattle.sched_core.proofs.builds_at.Tie as tie
+use Rattle.build_core.proofs.builds_at.Statement.{statement}
+use Rattle.build_core.proofs.builds_at.Tie as tie
 
 returns : tie.Need-returns
 returns c = rw (c .is-usable .ensures)

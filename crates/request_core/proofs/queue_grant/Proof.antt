@@ -1,8 +1,8 @@
 -- The grant joins its timeslot's queue. Assumes nothing.
 use borrow.Author.Needs.{needs}
 use Rattle.sched_core.specs.Calls.{grantQueued}
-use Rattle.sched_core.proofs.queue_grant.Statement.{statement}
-use Rattle.sched_core.proofs.queue_grant.Tie as tie
+use Rattle.request_core.proofs.queue_grant.Statement.{statement}
+use Rattle.request_core.proofs.queue_grant.Tie as tie
 
 returns : tie.Need-returns
 unfolding grantQueued

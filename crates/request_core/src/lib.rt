@@ -1,0 +1,148 @@
+// A request for capacity: the questions in order, the search, and the grant queued.
+use dl_record::Record;
+use optional::OptU8;
+use sched_core::Refusal;
+use sched_core::RequestCoreAnswer;
+use sched_core::RequestReply;
+use sched_core::Station;
+use uplink::CapAnswer;
+use uplink::CapReply;
+ghost use mathlib.Core.Path.{_≡_};
+ghost use mathlib.Core.Bool.{true};
+ghost use Prim.Native.Nat.{_-_, _≤_, _<_};
+ghost use lib.ListN.{length, getD};
+ghost use Rattle.tdma_time.specs.Time.{Valid};
+ghost use Rattle.uplink.specs.declared.CapReply.{CapReply};
+ghost use Rattle.sched_core.specs.declared.RequestReply.{RequestReply};
+ghost use Rattle.sched_core.specs.Questions.{soundStation, memory};
+ghost use Rattle.sched_core.specs.Calls.{grantQueued, requestAnswered, requestCall, requestOutcome};
+
+fn request_refused(refusal: Refusal, station: Station, records: [Record; 64]) -> RequestCoreAnswer
+    ensures { λ r. ⌜ r ≡ record { reply = RequestReply.Refused refusal; station = station; records = records } ⌝ }
+{
+    RequestCoreAnswer {
+        reply: RequestReply::Refused(refusal),
+        station: station,
+        records: records,
+    }
+}
+
+// A grant is queued; table and counters are those of the answer.
+fn queue_grant(
+    station: Station,
+    records: [Record; 64],
+    timeslot: u8,
+    kind: u8,
+    number: u32,
+    answer: CapAnswer,
+    capacity: u8,
+    delay: u8,
+    usage_marker: OptU8,
+) -> RequestCoreAnswer
+    requires { ⌜ (1 ≤ timeslot) × (timeslot ≤ 4) × (getD (station .queued) (timeslot - 1) 0 < 16) ⌝ }
+    requires { ⌜ (capacity ≤ 15) × (delay ≤ 13) ⌝ }
+    ensures { λ r. ⌜ r ≡ grantQueued station records timeslot kind number answer (CapReply.Granted capacity delay «usage_marker») ⌝ }
+{
+    let queued = station.queued;
+    let t = (timeslot - 1) as usize;
+    let octet = capacity * 16 + delay;
+    let q = dl_queue::enqueue_grant(queued, records, t, kind, number, octet, usage_marker);
+    let counts = q.counts;
+    let after = q.records;
+    let time = station.time;
+    let row1 = answer.row1;
+    let row2 = answer.row2;
+    let row3 = answer.row3;
+    let row4 = answer.row4;
+    let counters = answer.next_usage_marker;
+    let next = Station {
+        time: time,
+        row1: row1,
+        row2: row2,
+        row3: row3,
+        row4: row4,
+        next_usage_marker: counters,
+        queued: counts,
+    };
+    RequestCoreAnswer {
+        reply: RequestReply::Granted {
+            capacity: capacity,
+            delay: delay,
+            usage_marker: usage_marker,
+        },
+        station: next,
+        records: after,
+    }
+}
+
+// Questions 9 and 10, then the grant is queued.
+fn request_answered(
+    station: Station,
+    records: [Record; 64],
+    timeslot: u8,
+    code: u8,
+    kind: u8,
+    number: u32,
+) -> RequestCoreAnswer
+    requires { ⌜ Valid (station .time) ⌝ }
+    requires { ⌜ (1 ≤ timeslot) × (timeslot ≤ 4) × (getD (station .queued) (timeslot - 1) 0 < 16) ⌝ }
+    ensures { λ r. ⌜ r ≡ requestAnswered station records timeslot code kind number ⌝ }
+{
+    let now = station.time;
+    let counters = station.next_usage_marker;
+    let table = sched_core::table_of(station);
+    let answer = uplink::ul_process_cap_req(table, counters, now, timeslot, code, number);
+    let reply = answer.reply;
+    match reply {
+        CapReply::NoRun => request_refused(Refusal::NoRun, station, records),
+        CapReply::TooLate => request_refused(Refusal::TooLate, station, records),
+        CapReply::Granted {
+            capacity,
+            delay,
+            usage_marker,
+        } => queue_grant(
+            station,
+            records,
+            timeslot,
+            kind,
+            number,
+            answer,
+            capacity,
+            delay,
+            usage_marker,
+        ),
+    }
+}
+
+// The body of a request for capacity, after questions 1 for the state and 2.
+pub fn request_core(
+    station: Station,
+    records: [Record; 64],
+    store: &[u8],
+    timeslot: u8,
+    code: u8,
+    kind: u8,
+    number: u32,
+) -> RequestCoreAnswer
+    requires { ⌜ soundStation station ≡ true ⌝ }
+    requires { ⌜ length (now store) ≡ 16384 ⌝ }
+    ensures { λ r. ⌜ requestOutcome r (now (store .entry)) ≡ requestCall (memory station records (now (store .entry))) timeslot code kind number ⌝ }
+{
+    let queued = station.queued;
+    if !dl_queue::queue_is_sound(queued, records, store) {
+        return request_refused(Refusal::Unsound, station, records);
+    }
+    if !sched_core::timeslot_is_legal(timeslot) {
+        return request_refused(Refusal::Timeslot, station, records);
+    }
+    if 15 < code {
+        return request_refused(Refusal::Requirement, station, records);
+    }
+    if !dl_record::address_is_legal(kind, number) {
+        return request_refused(Refusal::Address, station, records);
+    }
+    if !sched_core::has_room(queued, timeslot) {
+        return request_refused(Refusal::QueueFull, station, records);
+    }
+    request_answered(station, records, timeslot, code, kind, number)
+}
