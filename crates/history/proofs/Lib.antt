@@ -23,3 +23,4 @@ pub mod RefinedBuild
 pub mod RefinedHistory
 pub mod Demand3
 pub mod StarredCases
+pub mod ReadLaws

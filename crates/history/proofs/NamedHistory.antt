@@ -217,7 +217,7 @@ module _ (x : TdmaTime) (xs : List Call) (k : modelAt x xs .count ≡ length xs)
       go : (right : Bool) → Everywhere x (xs ++ build b ∷ []) (cond right (afterBuild namedLoads (m .uplink .now) (m .queues)) (m .queues))
       go true = after-build _ e
       go false = e
-  after-call read e = e
+  after-call (read q) e = e
 
 named-more : (x : TdmaTime) (xs : List Call) (c : Call) → Named x xs → Named x (xs ++ c ∷ [])
 unfolding modelAfter

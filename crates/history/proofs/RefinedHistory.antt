@@ -14,7 +14,7 @@ use Rattle.sched_core.specs.Invariant.{SoundMemory}
 use Rattle.sched_core.proofs.KeptLaws as core
 use Rattle.history.specs.UplinkStation as uplinkStation
 use Rattle.history.specs.UplinkStation.{Sound}
-use Rattle.history.specs.Call.{Call, advance, request, enqueueAck, enqueueRecord, build, read, replied}
+use Rattle.history.specs.Call.{Reading, Call, advance, request, enqueueAck, enqueueRecord, build, read, replied}
 use Rattle.history.specs.Queues.{queueAt, replyOf}
 use Rattle.history.specs.Station.{Station, newStation, stationAfter, stationReply, stationRun, stationAt}
 use Rattle.history.specs.Memory.{memoryAfter, memoryReply, memoryRun, memoryAt}
@@ -22,11 +22,12 @@ use Rattle.history.proofs.UplinkOfWhole.{whole-sound}
 use Rattle.history.proofs.StoredHistory.{InCell, stored-history}
 use Rattle.history.proofs.Refinement.{Refines, station-sound, advanced, advance-reply, request-refines, request-reply, ack-refines, ack-reply, rec-refines, rec-reply}
 use Rattle.history.proofs.RefinedBuild.{build-refines, build-reply}
+use Rattle.history.proofs.ReadLaws.{read-reply}
 
 module _ (m : Memory) (s : Station) (h : Refines m s) (u : Sound (s .uplink)) (c : (t : ℕ) → 1 ≤ t → All InCell (queueAt (s .queues) t)) where
-  read-refines : Refines m (stationAfter read s)
+  read-refines : (q : Reading) → Refines m (stationAfter (read q) s)
   unfolding stationAfter uplinkStation.stationAfter
-  read-refines = record { time = h .time; markers = h .markers; table = h .table; lists = h .lists; sound = h .sound; octets = h .octets; counts = h .counts; places = h .places; cells = h .cells }
+  read-refines q = record { time = h .time; markers = h .markers; table = h .table; lists = h .lists; sound = h .sound; octets = h .octets; counts = h .counts; places = h .places; cells = h .cells }
 
   pub refined-after : (x : Call) → Refines (memoryAfter x m) (stationAfter x s)
   unfolding memoryAfter
@@ -35,7 +36,7 @@ module _ (m : Memory) (s : Station) (h : Refines m s) (u : Sound (s .uplink)) (c
   refined-after (enqueueAck o) = ack-refines m s h u o
   refined-after (enqueueRecord o) = rec-refines m s h u o
   refined-after (build b) = build-refines m s h u c b
-  refined-after read = read-refines
+  refined-after (read q) = read-refines q
 
   pub refined-reply : (x : Call) → memoryReply x m ≡ stationReply x s
   unfolding memoryReply stationReply replyOf uplinkStation.stationReply
@@ -44,7 +45,7 @@ module _ (m : Memory) (s : Station) (h : Refines m s) (u : Sound (s .uplink)) (c
   refined-reply (enqueueAck o) = ap replied (ack-reply m s h u o)
   refined-reply (enqueueRecord o) = ap replied (rec-reply m s h u o)
   refined-reply (build b) = build-reply m s h u c b
-  refined-reply read = refl
+  refined-reply (read q) = ap replied (read-reply q m (station-sound m s h u))
 
 -- ---- a new one
 

@@ -280,7 +280,7 @@ after-call (build b) s h e = go (isBlockLength b)
     go : (right : Bool) → Everywhere (cond right (afterBuild cellLoads (slotOf (s .uplink .now)) (s .queues)) (s .queues))
     go true = after-build _ (s .queues) e
     go false = e
-after-call read s h e = e
+after-call (read q) s h e = e
 
 stored-run : (xs : List Call) (s : Station) → Sound (s .uplink) → Everywhere (s .queues) → Everywhere (stationRun xs s .queues)
 unfolding stationRun stationAfter

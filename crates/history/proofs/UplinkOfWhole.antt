@@ -13,7 +13,7 @@ use Rattle.uplink.specs.UplinkEntry.{tableView}
 use Rattle.history.specs.UplinkCall as uplinkCall
 use Rattle.history.specs.UplinkCall.{CapacityRequest, UplinkCall}
 use Rattle.history.specs.UplinkModel as uplinkModel
-use Rattle.history.specs.UplinkModel.{UplinkModel, takenBy}
+use Rattle.history.specs.UplinkModel.{UplinkModel, modelView, takenBy}
 use Rattle.history.specs.UplinkStation as uplinkStation
 use Rattle.history.specs.UplinkStation.{Sound}
 use Rattle.history.specs.UplinkHistory as uplinkHistory
@@ -56,7 +56,7 @@ same-advances (request a ∷ xs) m = same-advances xs _
 same-advances (enqueueAck o ∷ xs) m = same-advances xs _
 same-advances (enqueueRecord o ∷ xs) m = same-advances xs _
 same-advances (build b ∷ xs) m = same-advances xs _
-same-advances (read ∷ xs) m = same-advances xs _
+same-advances (read q ∷ xs) m = same-advances xs _
 
 at-uplink : (x : TdmaTime) (xs : List Call) → modelAt x xs .uplink ≡ uplinkHistory.modelAt x (uplinkCalls xs (newModel x))
 unfolding newModel
@@ -106,7 +106,7 @@ lift-here (request a′) xs m a queued since h t =
 lift-here (enqueueAck o) xs m a queued since h t = absurd (let z : _≡_ {A = ℕ} 2 1 = ap kind h in omega arith)
 lift-here (enqueueRecord o) xs m a queued since h t = absurd (let z : _≡_ {A = ℕ} 2 1 = ap kind h in omega arith)
 lift-here (build b) xs m a queued since h t = absurd (let z : _≡_ {A = ℕ} 2 1 = ap kind h in omega arith)
-lift-here read xs m a queued since h t = absurd (let z : _≡_ {A = ℕ} 2 1 = ap kind h in omega arith)
+lift-here (read q) xs m a queued since h t = absurd (let z : _≡_ {A = ℕ} 2 1 = ap kind h in omega arith)
 
 lift : (xs : List Call) (m : Model) (before : List UplinkCall) (a : CapacityRequest) (queued : ℕ) (since : List UplinkCall) → uplinkCalls xs m ≡ before ++ uplinkCall.request a queued ∷ since → Lifted xs m before a queued since
 unfolding uplinkCalls modelRun
@@ -178,14 +178,20 @@ module _ (x : TdmaTime) (v : Valid x) where
         not-passed = rw (same-advances (s .since) m′) (s .not-passed);
       }
 
+  -- table and model agree on each half of the 68 slots from now on
+  pub whole-view : (xs : List Call) (k : ℕ) → k < 68 → (h : Half)
+      → tableView (stationAt x xs .uplink .table) (slotOf (stationAt x xs .uplink .now) + k) h ≡ modelView (modelAt x xs .uplink .taken) (slotOf (stationAt x xs .uplink .now) + k) h
+  whole-view xs k l h =
+      let a : Alike (stationAt x xs .uplink) (modelAt x xs .uplink) = whole-histories xs (newStation x) (newModel x) (whole-new x v) .uplink in
+      rw (a .now) (a .matched .agree (modelAt x xs .uplink .now + k) (omega arith) (omega arith) h)
+
   pub whole-table : (xs : List Call) (k : ℕ) → k < 68 → (h : Half) (w : ℕ)
       → (tableView (stationAt x xs .uplink .table) (slotOf (stationAt x xs .uplink .now) + k) h ≡ OptU32.Of w)
       ↔ Standing x xs (record { time = clock (slotOf (stationAt x xs .uplink .now) + k); half = h }) w
   whole-table xs k l h w =
       let s : Station = stationAt x xs in
-      let a : Alike (s .uplink) (modelAt x xs .uplink) = whole-histories xs (newStation x) (newModel x) (whole-new x v) .uplink in
       let same : tableView (s .uplink .table) (slotOf (s .uplink .now) + k) h ≡ takenBy (uplinkHistory.modelAt x (uplinkCalls xs (newModel x)) .taken) (clock (slotOf (s .uplink .now) + k)) h =
-      rw (a .now) (a .matched .agree (modelAt x xs .uplink .now + k) (omega arith) (omega arith) h) ∙ ap (λ (u : UplinkModel). takenBy (u .taken) (clock (slotOf (s .uplink .now) + k)) h) (at-uplink x xs) in (
+      whole-view xs k l h ∙ ap (λ (u : UplinkModel). takenBy (u .taken) (clock (slotOf (s .uplink .now) + k)) h) (at-uplink x xs) in (
         λ e. whole-standing xs _ w (taken-standing x v (uplinkCalls xs (newModel x)) _ h w (sym same ∙ e)),
         λ t. same ∙ standing-taken x v (uplinkCalls xs (newModel x)) _ w (uplink-standing xs _ w t),
       )

@@ -84,7 +84,7 @@ module _ (qs : Queues (List ℕ)) (ms : Queues NamedSdu) (h : Held qs ms) where
   same-call (enqueueAck o) = refl
   same-call (enqueueRecord o) = refl
   same-call (build b) = refl
-  same-call read = refl
+  same-call (read q) = refl
 
   request-held : (a : CapacityRequest) (name : ℕ) (reply : UplinkReply) → Held (afterRequest a zeroCell reply qs) (afterRequest a (model.named name) reply ms)
   request-held a name done = h
@@ -136,7 +136,7 @@ module _ (qs : Queues (List ℕ)) (ms : Queues NamedSdu) (h : Held qs ms) where
   after-held name now reply (enqueueAck o) = ack-held o
   after-held name now reply (enqueueRecord o) = record-held o
   after-held name now reply (build b) = build-held now (isBlockLength b)
-  after-held name now reply read = h
+  after-held name now reply (read q) = h
 
   pub same-pdus : (t : ℕ) → built cellLoads (queueAt qs t) .pdus ≡ built namedLoads (queueAt ms t) .pdus
   same-pdus t = ap (λ (s : Sent (List ℕ)). s .pdus) (same-built qs ms h t)
@@ -155,7 +155,7 @@ module _ (qs : Queues (List ℕ)) (ms : Queues NamedSdu) (h : Held qs ms) where
   same-reply now reply (enqueueAck o) = rw (same-count qs ms h (o .timeslot))
   same-reply now reply (enqueueRecord o) = rw (same-count qs ms h (o .timeslot))
   same-reply now reply (build b) = ap (λ (r : Reply). cond (isBlockLength b) r (replied (refused 2))) (same-block now)
-  same-reply now reply read = refl
+  same-reply now reply (read q) = refl
 
 -- ---- station and model
 

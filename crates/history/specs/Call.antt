@@ -4,6 +4,9 @@ use mathlib.Core.List.{List}
 use Prim.Native.Nat.{ℕ}
 use lib.Dec.{ltb}
 use Rattle.optional.specs.declared.OptU16.{OptU16}
+use Rattle.tdma_time.specs.declared.TdmaTime.{TdmaTime}
+use Rattle.tdma_time.specs.Time.{valid}
+use Rattle.uplink.specs.declared.PhyBlockNum.{PhyBlockNum}
 use Rattle.mac_pdus.specs.Legal.{legalOffered}
 use Rattle.dl_record.specs.declared.QueuedHeader.{QueuedHeader}
 use Rattle.dl_record.specs.declared.Record.{Record}
@@ -31,6 +34,15 @@ pub record RecordOffer : Type 0 where
 abbrev pub recordOf : RecordOffer → Record
 recordOf o = offeredRecord (o .kind) (o .number) (o .tag) (o .header) (o .bits)
 
+-- "those that only read the station": who holds a half of the slot at a time or both, and how that slot is used
+pub data Reading : Type 0 where
+  owner : TdmaTime → PhyBlockNum → Reading
+  usage : TdmaTime → Reading
+
+abbrev pub timeRead : Reading → TdmaTime
+timeRead (owner x half) = x
+timeRead (usage x) = x
+
 -- "Its calls are advances, requests, queueings, builds and those that only read the station"; a build with its block, "whatever it holds"
 pub data Call : Type 0 where
   advance : Call
@@ -38,7 +50,7 @@ pub data Call : Type 0 where
   enqueueAck : AckOffer → Call
   enqueueRecord : RecordOffer → Call
   build : List ℕ → Call
-  read : Call
+  read : Reading → Call
 
 -- what the uplink or the queue replies; a block's octets with the tags of finished records; or none built
 pub data Reply : Type 0 where
@@ -47,6 +59,10 @@ pub data Reply : Type 0 where
   noBlock : Reply
 
 -- ---- questions, where so many are queued for the timeslot: the number of the first that is answered no, or 0
+
+-- 1: "a time given to the call is judged here too"
+unfoldable pub readQuestion : Reading → ℕ
+readQuestion q = cond (valid (timeRead q)) 0 1
 
 -- 3, 5 and 8
 unfoldable pub ackQuestion : AckOffer → ℕ → ℕ

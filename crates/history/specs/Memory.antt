@@ -5,10 +5,12 @@ use Rattle.tdma_time.specs.declared.TdmaTime.{TdmaTime}
 use Rattle.sched_core.specs.declared.Reply as core
 use Rattle.sched_core.specs.declared.RequestReply.{RequestReply}
 use Rattle.sched_core.specs.declared.BuildReply.{BuildReply}
+use Rattle.sched_core.specs.declared.OwnerReply.{OwnerReply}
+use Rattle.sched_core.specs.declared.UsageReply.{UsageReply}
 use Rattle.sched_core.specs.Questions.{Memory, refusalNumber}
-use Rattle.sched_core.specs.Calls.{requestCall, ackCall, tmaCall, BuildOutcome, buildCall, newMemory, advanceMemory}
+use Rattle.sched_core.specs.Calls.{ownerCall, usageCall, requestCall, ackCall, tmaCall, BuildOutcome, buildCall, newMemory, advanceMemory}
 use Rattle.history.specs.UplinkCall.{UplinkReply, done, refused, granted}
-use Rattle.history.specs.Call.{Call, advance, request, enqueueAck, enqueueRecord, build, read, Reply, replied, block, noBlock}
+use Rattle.history.specs.Call.{Reading, owner, usage, Call, advance, request, enqueueAck, enqueueRecord, build, read, Reply, replied, block, noBlock}
 
 -- ---- replies by document 01's numbers
 
@@ -19,6 +21,19 @@ queueReply (core.Reply.Refused r) = refused (refusalNumber r)
 abbrev pub requestReply : RequestReply → UplinkReply
 requestReply (RequestReply.Granted capacity delay marker) = granted capacity delay marker
 requestReply (RequestReply.Refused r) = refused (refusalNumber r)
+
+-- the owner or the usage itself is what `owners` and `usages` of `Demand3` say
+abbrev pub ownerReply : OwnerReply → UplinkReply
+ownerReply (OwnerReply.Owner o) = done
+ownerReply (OwnerReply.Refused r) = refused (refusalNumber r)
+
+abbrev pub usageReply : UsageReply → UplinkReply
+usageReply (UsageReply.Usage u) = done
+usageReply (UsageReply.Refused r) = refused (refusalNumber r)
+
+abbrev pub readReply : Reading → Memory → UplinkReply
+readReply (owner x half) m = ownerReply (ownerCall (m .station) x half)
+readReply (usage x) m = usageReply (usageCall (m .station) x)
 
 -- a build's block and tags
 abbrev pub builtReply : BuildReply → List ℕ → List ℕ → Reply
@@ -37,7 +52,7 @@ memoryAfter (request a) m = requestCall m (a .timeslot) (a .code) (a .kind) (a .
 memoryAfter (enqueueAck o) m = ackCall m (o .timeslot) (o .kind) (o .number) .memory
 memoryAfter (enqueueRecord o) m = tmaCall m (o .timeslot) (o .kind) (o .number) (o .tag) (o .header) (o .bits) (o .octets) .memory
 memoryAfter (build b) m = buildCall m b .memory
-memoryAfter read m = m
+memoryAfter (read q) m = m
 
 unfoldable pub memoryReply : Call → Memory → Reply
 memoryReply advance m = replied (queueReply (advanceMemory m .reply))
@@ -45,7 +60,7 @@ memoryReply (request a) m = replied (requestReply (requestCall m (a .timeslot) (
 memoryReply (enqueueAck o) m = replied (queueReply (ackCall m (o .timeslot) (o .kind) (o .number) .reply))
 memoryReply (enqueueRecord o) m = replied (queueReply (tmaCall m (o .timeslot) (o .kind) (o .number) (o .tag) (o .header) (o .bits) (o .octets) .reply))
 memoryReply (build b) m = buildReplied (buildCall m b)
-memoryReply read m = replied done
+memoryReply (read q) m = replied (readReply q m)
 
 unfoldable pub memoryRun : List Call → Memory → Memory
 memoryRun [] m = m

@@ -15,7 +15,7 @@ use Rattle.dl_build.specs.Build.{buildList}
 use Rattle.sched_core.specs.Questions.{isBlockLength}
 use Rattle.history.specs.UplinkCall as uplink
 use Rattle.history.specs.UplinkCall.{CapacityRequest, UplinkCall, UplinkReply, done, refused, granted}
-use Rattle.history.specs.Call.{AckOffer, RecordOffer, recordOf, Call, advance, request, enqueueAck, enqueueRecord, build, read, Reply, replied, block, noBlock, ackQuestion, recordQuestion}
+use Rattle.history.specs.Call.{AckOffer, RecordOffer, recordOf, Call, advance, request, enqueueAck, enqueueRecord, build, read, Reply, replied, block, noBlock, readQuestion, ackQuestion, recordQuestion}
 
 abbrev pub Queues : Type 0 → Type 0
 Queues C = List (List (Item C))
@@ -59,7 +59,7 @@ module _ {C : Type 0} where
   uplinkCall (enqueueAck o) qs = uplink.other
   uplinkCall (enqueueRecord o) qs = uplink.other
   uplinkCall (build b) qs = uplink.other
-  uplinkCall read qs = uplink.other
+  uplinkCall (read q) qs = uplink.other
 
 module _ {C : Type 0} (loads : Loads C) where
   unfoldable pub afterAck : AckOffer → Queues C → Queues C
@@ -84,7 +84,7 @@ module _ {C : Type 0} (loads : Loads C) where
   queuesAfter c now reply (enqueueAck o) qs = afterAck o qs
   queuesAfter c now reply (enqueueRecord o) qs = afterRecord o qs
   queuesAfter c now reply (build b) qs = cond (isBlockLength b) (afterBuild now qs) qs
-  queuesAfter c now reply read qs = qs
+  queuesAfter c now reply (read q) qs = qs
 
   -- a number as a reply
   abbrev pub numbered : ℕ → UplinkReply
@@ -103,4 +103,4 @@ module _ {C : Type 0} (loads : Loads C) where
   replyOf now reply (enqueueAck o) qs = replied (numbered (ackQuestion o (length (queueAt qs (o .timeslot)))))
   replyOf now reply (enqueueRecord o) qs = replied (numbered (recordQuestion o (length (queueAt qs (o .timeslot)))))
   replyOf now reply (build b) qs = cond (isBlockLength b) (buildReply now qs) (replied (refused 2))
-  replyOf now reply read qs = replied reply
+  replyOf now reply (read q) qs = replied (numbered (readQuestion q))
