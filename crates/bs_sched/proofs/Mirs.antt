@@ -20,7 +20,6 @@ use Rattle.uplink.proofs.AccessAssignUlUsage.Laws as uplink-AccessAssignUlUsage
 use Rattle.uplink.proofs.Opportunity.Laws as uplink-Opportunity-laws
 use Rattle.uplink.proofs.CapReply.Laws as uplink-CapReply-laws
 use Rattle.uplink.proofs.CapAnswer.Laws as uplink-CapAnswer-laws
-use Rattle.uplink.proofs.MarkerDrawn.Laws as uplink-MarkerDrawn-laws
 use Rattle.fillbits.proofs.FillRemoval.Laws as fillbits-FillRemoval-laws
 use Rattle.mac_pdus.proofs.Address.Laws as mac_pdus-Address-laws
 use Rattle.mac_pdus.proofs.ChanAllocElement.Laws as mac_pdus-ChanAllocElement-laws
@@ -122,9 +121,6 @@ uplink-CapReply = uplink-CapReply-laws.mir
 
 abbrev pub uplink-CapAnswer : Ty
 uplink-CapAnswer = uplink-CapAnswer-laws.mir
-
-abbrev pub uplink-MarkerDrawn : Ty
-uplink-MarkerDrawn = uplink-MarkerDrawn-laws.mir
 
 abbrev pub fillbits-FillRemoval : Ty
 fillbits-FillRemoval = fillbits-FillRemoval-laws.mir

@@ -91,7 +91,7 @@ fn request_answered(
     let now = station.time;
     let counters = station.next_usage_marker;
     let table = sched_core::table_of(station);
-    let answer = uplink::ul_process_cap_req(table, counters, now, timeslot, code, number);
+    let answer = ul_grant::ul_process_cap_req(table, counters, now, timeslot, code, number);
     let reply = answer.reply;
     match reply {
         CapReply::NoRun => request_refused(Refusal::NoRun, station, records),

@@ -2,7 +2,6 @@ pub mod Basics
 pub mod SearchLaws
 pub mod TableLaws
 pub mod FrameWalk
-pub mod MarkerLaws
 pub mod RequestLaws
 pub mod Everywhere
 pub mod AnswerLaws

@@ -63,7 +63,7 @@ fn request(before: CapAnswer, now: TdmaTime, timeslot: u8, code: u8, number: u32
     requires { ⌜ (1 ≤ timeslot) × (timeslot ≤ 4) ⌝ }
 {
     let counters = before.next_usage_marker;
-    let a = uplink::ul_process_cap_req(table_of(before), counters, now, timeslot, code, number);
+    let a = ul_grant::ul_process_cap_req(table_of(before), counters, now, timeslot, code, number);
     let said = a.reply;
     show::word(b"request at");
     show::number(now.h as u64);

@@ -1,9 +1,9 @@
 -- The counter is read, and steps. Assumes nothing.
 use mathlib.Core.Path.{refl}
 use borrow.Author.Needs.{needs}
-use Rattle.uplink.proofs.MarkerLaws.{next-round, next-step}
-use Rattle.uplink.proofs.alloc_usage_marker.Statement.{statement}
-use Rattle.uplink.proofs.alloc_usage_marker.Tie as tie
+use Rattle.ul_grant.proofs.MarkerLaws.{next-round, next-step}
+use Rattle.ul_grant.proofs.alloc_usage_marker.Statement.{statement}
+use Rattle.ul_grant.proofs.alloc_usage_marker.Tie as tie
 
 returns : tie.Need-returns
 returns c = (refl, rw (next-round _ (c .if1 .taken)))

@@ -4,11 +4,11 @@ use Prim.Native.Nat.{_≤_, _<_}
 use borrow.Author.Needs.{needs}
 use Rattle.optional.specs.declared.OptU8.{OptU8}
 use Rattle.slot_codes.specs.Codes.{slotsWanted}
 use Rattle.uplink.specs.declared.Entry.{Entry}
 use Rattle.uplink.specs.Request.{Request}
 use Rattle.uplink.proofs.AnswerLaws.{granted-by, entry-read, marker-drawn, marker-none}
-use Rattle.uplink.proofs.grant.Statement.{statement}
-use Rattle.uplink.proofs.grant.Tie as tie
+use Rattle.ul_grant.proofs.grant.Statement.{statement}
+use Rattle.ul_grant.proofs.grant.Tie as tie
 
 returns : tie.Need-returns
 returns c =

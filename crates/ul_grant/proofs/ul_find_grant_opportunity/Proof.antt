@@ -6,10 +6,10 @@ use native.Mathlib.Omega.{arith}
 use borrow.Author.Tests.{not-true, not-false}
 use borrow.Author.Needs.{needs}
 use Rattle.tdma_time.specs.Time.{firstOf, slotOf}
 use Rattle.uplink.specs.Functions.{asOpportunity}
 use Rattle.uplink.proofs.FrameWalk.{Looking, looking-begin, looking-none, looking-18, looking-block, looking-on, looking-end, first-at, walk-opportunity}
-use Rattle.uplink.proofs.ul_find_grant_opportunity.Statement.{statement}
-use Rattle.uplink.proofs.ul_find_grant_opportunity.Tie as tie
+use Rattle.ul_grant.proofs.ul_find_grant_opportunity.Statement.{statement}
+use Rattle.ul_grant.proofs.ul_find_grant_opportunity.Tie as tie
 
 abbrev Inv-frames : tie.InvT-frames
 Inv-frames t num-slots is-halfslot table row first start₀ run₀ skips₀ dist₀ start run skips dist = Looking table is-halfslot num-slots row first start run skips dist

@@ -4,10 +4,10 @@ use Prim.Native.Nat.{ℕ, _-_, _≤_, _<_}
 use native.Mathlib.Omega.{arith}
 use borrow.Author.Needs.{needs}
 use Rattle.tdma_time.specs.Time.{firstOf, slotOf}
 use Rattle.uplink.specs.Functions.{blockHalves}
 use Rattle.uplink.proofs.FrameWalk.{At, first-at, fill, fill-none, fill-end, fill-18, fill-one, fill-from}
-use Rattle.uplink.proofs.ul_reserve_grant.Statement.{statement}
-use Rattle.uplink.proofs.ul_reserve_grant.Tie as tie
+use Rattle.ul_grant.proofs.ul_reserve_grant.Statement.{statement}
+use Rattle.ul_grant.proofs.ul_reserve_grant.Tie as tie
 
 abbrev Inv-loop : tie.InvT-loop
 Inv-loop t start num-slots ssi block marker row first out₀ left₀ dist₀ out left dist =

@@ -1,8 +1,8 @@
 -- Both halves, or the first if it is free, else the second. Assumes nothing.
 use mathlib.Core.Path.{sym, _∙_}
 use borrow.Author.Needs.{needs}
-use Rattle.uplink.proofs.free_block.Statement.{statement}
-use Rattle.uplink.proofs.free_block.Tie as tie
+use Rattle.ul_grant.proofs.free_block.Statement.{statement}
+use Rattle.ul_grant.proofs.free_block.Tie as tie
 
 returns : tie.Need-returns
 returns c = rw (c .before .before .if1 .taken, sym (c .before .is-vacant .ensures) ∙ c .if2 .taken)

@@ -1,7 +1,7 @@
 -- A new marker, or the entry as it was. Assumes nothing.
 use borrow.Author.Needs.{needs}
-use Rattle.uplink.proofs.with_marker.Statement.{statement}
-use Rattle.uplink.proofs.with_marker.Tie as tie
+use Rattle.ul_grant.proofs.with_marker.Statement.{statement}
+use Rattle.ul_grant.proofs.with_marker.Tie as tie
 
 returns-2 : tie.Need-returns-2
 returns-2 c = rw (c .before .usage-marker .given .1)

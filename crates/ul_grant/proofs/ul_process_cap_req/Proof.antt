@@ -2,13 +2,13 @@
 use mathlib.Core.Path.{_≡_, sym, _∙_}
 use borrow.Author.Needs.{needs}
 use Rattle.slot_codes.specs.Codes.{slotsWanted, wantsHalf}
 use Rattle.uplink.specs.declared.Opportunity.{Opportunity}
 use Rattle.uplink.specs.Request.{Request}
 use Rattle.uplink.specs.Functions.{opportunity}
 use Rattle.uplink.proofs.RequestLaws.{wanted-pos}
 use Rattle.uplink.proofs.AnswerLaws.{found-at, answer-nothing, answer-late, answer-granted}
-use Rattle.uplink.proofs.ul_process_cap_req.Statement.{statement}
-use Rattle.uplink.proofs.ul_process_cap_req.Tie as tie
+use Rattle.ul_grant.proofs.ul_process_cap_req.Statement.{statement}
+use Rattle.ul_grant.proofs.ul_process_cap_req.Tie as tie
 
 -- what the search found is what the definition says
 searched : (c : tie.After-ul-find-grant-opportunity) → let a = c .before .before .args in

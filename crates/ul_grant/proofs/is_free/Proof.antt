@@ -1,7 +1,7 @@
 -- Both halves, or one of them. Assumes nothing.
 use borrow.Author.Needs.{needs}
-use Rattle.uplink.proofs.is_free.Statement.{statement}
-use Rattle.uplink.proofs.is_free.Tie as tie
+use Rattle.ul_grant.proofs.is_free.Statement.{statement}
+use Rattle.ul_grant.proofs.is_free.Tie as tie
 
 returns : tie.Need-returns
 returns c = rw (c .if1 .taken, c .before .is-vacant2 .ensures, c .before .before .is-vacant .ensures)

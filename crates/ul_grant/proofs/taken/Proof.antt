@@ -1,8 +1,8 @@
 -- One arm for each block. Assumes nothing.
 use borrow.Author.Needs.{needs}
 use Rattle.uplink.specs.UplinkEntry.{withHalves}
-use Rattle.uplink.proofs.taken.Statement.{statement}
-use Rattle.uplink.proofs.taken.Tie as tie
+use Rattle.ul_grant.proofs.taken.Statement.{statement}
+use Rattle.ul_grant.proofs.taken.Tie as tie
 
 returns : tie.Need-returns
 unfolding withHalves
