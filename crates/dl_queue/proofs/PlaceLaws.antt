@@ -9,9 +9,19 @@ use lib.ListN.{length, getD, drop, take, drop-of-length-le}
 use lib.Seq.{getD-drop, drop-drop, drop-cons}
 use borrow.Author.Tests.{lt-ltb, ltb-true, le-leb, lt-leb}
 use Rattle.dl_record.proofs.Tests.{same-test}
+use Rattle.dl_record.proofs.RecordLaws.{empty-is}
 use Rattle.dl_record.specs.declared.Record.{Record}
 use Rattle.dl_record.specs.Record.{emptyRecord}
+use Rattle.dl_record.specs.Questions.{isEmpty}
 use Rattle.dl_queue.specs.Questions.{soundPlace, soundPlaces, soundQueue}
+
+-- the empty record has no bits
+pub empty-bits : (r : Record) (clean : ℕ → Bool) → isEmpty r && clean 0 ≡ isEmpty r && clean (r .bits)
+empty-bits r clean = go (isEmpty r) refl
+  where
+    go : (b : Bool) → isEmpty r ≡ b → b && clean 0 ≡ b && clean (r .bits)
+    go true e = ap (λ (x : Record). clean (x .bits)) (sym (empty-is r e))
+    go false e = refl
 
 pub step : (k n : ℕ) (rs : List Record) (s : List ℕ)
     → soundPlaces (suc k) n rs s ≡ soundPlace (ltb 0 n) (getD rs 0 emptyRecord) (take 256 s) && soundPlaces k (n - 1) (drop 1 rs) (drop 256 s)

@@ -23,7 +23,7 @@ fn place_is_sound(filled: bool, r: Record, cell: &[u8]) -> bool
     if filled {
         dl_record::record_is_sound(r) & sdu_store::cell_is_clean(cell, r.bits)
     } else {
-        dl_record::record_is_empty(r) & sdu_store::cell_is_clean(cell, r.bits)
+        dl_record::record_is_empty(r) & sdu_store::cell_is_zero(cell)
     }
 }
 

@@ -17,6 +17,14 @@ pub fn any_bit(s: &[u8]) -> u8
     acc
 }
 
+// Whether all bits of a cell are zero. It looks at the whole cell, so that no octet is left over beside the wide steps.
+pub fn cell_is_zero(cell: &[u8]) -> bool
+    ensures { λ r. ⌜ r ≡ cleanPast 0 (now (cell .entry)) ⌝ }
+{
+    let any = any_bit(cell);
+    any == 0
+}
+
 // Whether the bits of a cell past the first `bits` are zero.
 pub fn cell_is_clean(cell: &[u8], bits: u16) -> bool
     ensures { λ r. ⌜ r ≡ cleanPast bits (now (cell .entry)) ⌝ }
