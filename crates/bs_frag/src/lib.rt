@@ -40,7 +40,7 @@ fn header_of(r: Record, fill: u8, len: u8) -> ResourceHeader
     ensures { λ h. ⌜ h ≡ headerOf r fill len ⌝ }
 {
     let m = dl_record::resource_of(r, fill, len);
-    mac_pdus::on_air(m)
+    mac_on_air::on_air(m)
 }
 
 // How many bits the header of a record has.

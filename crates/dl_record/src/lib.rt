@@ -176,7 +176,7 @@ pub fn header_is_legal(r: Record) -> bool
     ensures { λ b. ⌜ b ≡ legalQueued (resourceOf r 0 0) ⌝ }
 {
     let stored = resource_of(r, 0, 0);
-    mac_pdus::legal_queued(stored)
+    mac_legal::legal_queued(stored)
 }
 
 // Question 6 for a record offered to the queue.
@@ -184,7 +184,7 @@ pub fn offered_header_is_legal(r: Record) -> bool
     ensures { λ b. ⌜ b ≡ legalOffered (resourceOf r 0 0) ⌝ }
 {
     let offered = resource_of(r, 0, 0);
-    mac_pdus::legal_offered(offered)
+    mac_legal::legal_offered(offered)
 }
 
 // Question 7.

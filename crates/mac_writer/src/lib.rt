@@ -251,10 +251,10 @@ pub fn write_header(buf: &mut [u8], at: usize, h: MacResource) -> WriteReply
     if h.number >= 16777216 {
         return WriteReply::Refused(HeaderRefusal::Address);
     }
-    if !mac_pdus::legal_lone(h) {
+    if !mac_legal::legal_lone(h) {
         return WriteReply::Refused(HeaderRefusal::Header);
     }
-    let r = mac_pdus::on_air(h);
+    let r = mac_on_air::on_air(h);
     let n = mac_pdus::compute_header_len(r);
     if !room_for(buf.len(), at, n) {
         return WriteReply::Refused(HeaderRefusal::NoRoom);

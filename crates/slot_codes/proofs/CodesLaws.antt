@@ -1,87 +1,15 @@
--- Laws of the codes: code and case, octet and grant are inverse; what is granted is what was asked for. Assumes nothing.
+-- Laws of the codes as numbers: what is granted is what was asked for, and the octet holds its halves. Assumes nothing.
 use mathlib.Core.Path.{_≡_, refl, sym, ap, _∙_}
 use mathlib.Core.Bool.{Bool, true, false, cond, _&&_, and-eq-true-iff}
 use mathlib.Core.List.{List, [], _∷_, map}
-use Prim.Native.Nat.{ℕ, zero, suc, _-_, _/_, _%_, _≤_, _<_, min, max}
+use Prim.Native.Nat.{ℕ, zero, suc, _-_, _≤_, _<_, min}
 use native.Mathlib.Nat.{le-of-suc-le-suc, not-suc-le-zero, min-eq-left, min-eq-right}
 use native.Mathlib.Omega.{arith}
 use lib.Dec.{leb, ltb, lit<, eqb·suc-zero}
 use lib.ListN.{length, getD, take, List·getD-eq-default}
-use Rattle.slot_codes.proofs.TableLaws.{past-the-last, any-default, every, at-each, agree-below}
-use borrow.Author.Tests.{ltb-true, ltb-false, leb-true, le-ltb, lt-ltb, le-leb, lt-leb, eq-eqb, ne-eqb}
-use Rattle.slot_codes.specs.declared.reservation_requirement.ReservationRequirement.{ReservationRequirement}
-use Rattle.slot_codes.specs.declared.reservation_requirement.ReservationRequirement.the-variants.{
-  Req1Subslot,
-  Req1Slot,
-  Req2Slots,
-  Req3Slots,
-  Req4Slots,
-  Req5Slots,
-  Req6Slots,
-  Req8Slots,
-  Req10Slots,
-  Req13Slots,
-  Req17Slots,
-  Req24Slots,
-  Req34Slots,
-  Req51Slots,
-  Req68Slots,
-  ReqOver68,
-}
-use Rattle.slot_codes.specs.declared.reservation_requirement.RequirementRead as requirement
-use Rattle.slot_codes.specs.declared.basic_slotgrant_cap_alloc.BasicSlotgrantCapAlloc.{BasicSlotgrantCapAlloc}
-use Rattle.slot_codes.specs.declared.basic_slotgrant_cap_alloc.BasicSlotgrantCapAlloc.the-variants.{
-  FirstSubslotGranted,
-  Grant1Slot,
-  Grant2Slots,
-  Grant3Slots,
-  Grant4Slots,
-  Grant5Slots,
-  Grant6Slots,
-  Grant8Slots,
-  Grant10Slots,
-  Grant13Slots,
-  Grant17Slots,
-  Grant24Slots,
-  Grant34Slots,
-  Grant51Slots,
-  Grant68Slots,
-  SecondSubslotGranted,
-}
-use Rattle.slot_codes.specs.declared.basic_slotgrant_cap_alloc.CapAllocRead as capacity
-use Rattle.slot_codes.specs.declared.basic_slotgrant_granting_delay.BasicSlotgrantGrantingDelay.{BasicSlotgrantGrantingDelay}
-use Rattle.slot_codes.specs.declared.basic_slotgrant_granting_delay.BasicSlotgrantGrantingDelay.the-variants.{
-  CapAllocAtNextOpportunity,
-  DelayNOpportunities,
-  AllocStartsAtOpportunityInFr18,
-  WaitForAnotherSlotgrantMessage,
-}
-use Rattle.slot_codes.specs.declared.basic_slotgrant_granting_delay.GrantingDelayRead as delay
-use Rattle.slot_codes.specs.declared.basic_slotgrant.BasicSlotgrant.{BasicSlotgrant}
-use Rattle.slot_codes.specs.Codes.{
-  slotCounts,
-  slotsWanted,
-  slotsGranted,
-  capacityFor,
-  firstHolding,
-  codeFor,
-  requirements,
-  capacities,
-  requirementAt,
-  capacityAt,
-  delayAt,
-  requirementCode,
-  capacityCode,
-  delayCode,
-  requirementRead,
-  capacityRead,
-  delayRead,
-  grantOctet,
-  capacityOf,
-  delayOf,
-  octetOf,
-  grantAt,
-}
+use borrow.Author.Tests.{ltb-true, ltb-false, leb-true, le-ltb, lt-ltb, le-leb, lt-leb, eq-eqb}
+use Rattle.slot_codes.specs.Codes.{slotCounts, slotsWanted, slotsGranted, capacityFor, firstHolding, codeFor, grantOctet, capacityOf, delayOf}
+use Rattle.slot_codes.proofs.TableLaws.{any-default, every, at-each, agree-below}
 
 -- the table of codes 0 to 14 gives the slots wanted and the slots granted
 pub wanted-in-table : (code : ℕ) → code < 15 → getD (1 ∷ slotCounts) code 0 ≡ slotsWanted code
@@ -100,13 +28,6 @@ wanted-past-table (suc c) h = List·getD-eq-default slotCounts 68 (le-of-suc-le-
 pub granted-past-table : (code : ℕ) → 15 ≤ code → slotsGranted code ≡ 1
 granted-past-table zero h = absurd (not-suc-le-zero h)
 granted-past-table (suc c) h = List·getD-eq-default slotCounts 1 (le-of-suc-le-suc h)
-
--- every number from 15 on is read as the last case
-pub requirement-past-the-last : (code : ℕ) → 15 ≤ code → requirementAt code ≡ ReqOver68
-requirement-past-the-last = past-the-last (take 15 requirements) ReqOver68
-
-pub capacity-past-the-last : (code : ℕ) → 15 ≤ code → capacityAt code ≡ SecondSubslotGranted
-capacity-past-the-last = past-the-last (take 15 capacities) SecondSubslotGranted
 
 -- the capacity that answers a requirement: the halves, the counts below 68, and 68
 pub capacity-of-half : (code : ℕ) (second : Bool) → code ≡ 0 → capacityFor code second ≡ cond second 15 0
@@ -142,32 +63,6 @@ code-at k low (suc n) t l h g = ap suc (held-at slotCounts k low (suc n) t l h g
 -- up to six slots the code is the count
 pub code-of-few : (n : ℕ) → n ≤ 6 → codeFor n ≡ n
 code-of-few n h = agree-below codeFor (λ k. k) 7 refl n (omega arith)
-
--- a delay that the code tells apart: N is 1 to 13
-pub data Plain : BasicSlotgrantGrantingDelay → Type 0 where
-  next : Plain CapAllocAtNextOpportunity
-  after : {n : ℕ} → 1 ≤ n → n ≤ 13 → Plain (DelayNOpportunities n)
-  frame18 : Plain AllocStartsAtOpportunityInFr18
-  wait : Plain WaitForAnotherSlotgrantMessage
-
--- codes 1 to 13 are delays of N, 14 is frame 18, from 15 on it is to be waited
-pub delay-of-n : (code : ℕ) → 1 ≤ code → code ≤ 13 → delayAt code ≡ DelayNOpportunities code
-delay-of-n zero p h = absurd (not-suc-le-zero p)
-delay-of-n (suc c) p h = rw (eqb·suc-zero c, le-leb (suc c) 13 h)
-
-pub delay-to-wait-for : (code : ℕ) → 15 ≤ code → delayAt code ≡ WaitForAnotherSlotgrantMessage
-delay-to-wait-for code h =
-    simp (ne-eqb code 0 (λ e. omega arith), lt-leb code 13 (omega arith), ne-eqb code 14 (λ e. omega arith))
-
--- N is coded as the nearest of 1 to 13
-pub nearest-from-below : (n : ℕ) → n ≤ 1 → max 1 (min n 13) ≡ 1
-nearest-from-below n h = omega arith
-
-pub nearest-from-above : (n : ℕ) → 13 ≤ n → max 1 (min n 13) ≡ 13
-nearest-from-above n h = omega arith
-
-pub nearest-within : (n : ℕ) → 1 ≤ n → n ≤ 13 → max 1 (min n 13) ≡ n
-nearest-within n p h = omega arith
 
 -- document 01's list, in one table: the slots that codes 0 to 15 ask for, and that capacities 0 to 15 grant
 pub wanted-table :
@@ -217,121 +112,12 @@ lesser-code-does-not n h (suc c) p l =
     (at-each (λ k. ltb (slotsGranted (suc k)) n) (codeFor n - 1)
     (at-each (λ m. every (λ k. ltb (slotsGranted (suc k)) m) (codeFor m - 1)) 69 refl n h) c (omega arith))
 
--- each requirement is the case of its code, which has four bits
-requirement-coded : (r : ReservationRequirement) → (requirementAt (requirementCode r) ≡ r) × (requirementCode r < 16)
-requirement-coded Req1Subslot = (refl, lit< tt)
-requirement-coded Req1Slot = (refl, lit< tt)
-requirement-coded Req2Slots = (refl, lit< tt)
-requirement-coded Req3Slots = (refl, lit< tt)
-requirement-coded Req4Slots = (refl, lit< tt)
-requirement-coded Req5Slots = (refl, lit< tt)
-requirement-coded Req6Slots = (refl, lit< tt)
-requirement-coded Req8Slots = (refl, lit< tt)
-requirement-coded Req10Slots = (refl, lit< tt)
-requirement-coded Req13Slots = (refl, lit< tt)
-requirement-coded Req17Slots = (refl, lit< tt)
-requirement-coded Req24Slots = (refl, lit< tt)
-requirement-coded Req34Slots = (refl, lit< tt)
-requirement-coded Req51Slots = (refl, lit< tt)
-requirement-coded Req68Slots = (refl, lit< tt)
-requirement-coded ReqOver68 = (refl, lit< tt)
-
--- each capacity is the case of its code, which has four bits
-capacity-coded : (c : BasicSlotgrantCapAlloc) → (capacityAt (capacityCode c) ≡ c) × (capacityCode c < 16)
-capacity-coded FirstSubslotGranted = (refl, lit< tt)
-capacity-coded Grant1Slot = (refl, lit< tt)
-capacity-coded Grant2Slots = (refl, lit< tt)
-capacity-coded Grant3Slots = (refl, lit< tt)
-capacity-coded Grant4Slots = (refl, lit< tt)
-capacity-coded Grant5Slots = (refl, lit< tt)
-capacity-coded Grant6Slots = (refl, lit< tt)
-capacity-coded Grant8Slots = (refl, lit< tt)
-capacity-coded Grant10Slots = (refl, lit< tt)
-capacity-coded Grant13Slots = (refl, lit< tt)
-capacity-coded Grant17Slots = (refl, lit< tt)
-capacity-coded Grant24Slots = (refl, lit< tt)
-capacity-coded Grant34Slots = (refl, lit< tt)
-capacity-coded Grant51Slots = (refl, lit< tt)
-capacity-coded Grant68Slots = (refl, lit< tt)
-capacity-coded SecondSubslotGranted = (refl, lit< tt)
-
--- each plain delay is the case of its code; a code has four bits
-pub delay-of-its-code : {d : BasicSlotgrantGrantingDelay} → Plain d → delayAt (delayCode d) ≡ d
-delay-of-its-code next = refl
-delay-of-its-code (after {n} p h) = rw (nearest-within n p h) (delay-of-n n p h)
-delay-of-its-code frame18 = refl
-delay-of-its-code wait = refl
-
-pub delay-code-below-16 : (d : BasicSlotgrantGrantingDelay) → delayCode d < 16
-delay-code-below-16 CapAllocAtNextOpportunity = lit< tt
-delay-code-below-16 (DelayNOpportunities n) = omega arith
-delay-code-below-16 AllocStartsAtOpportunityInFr18 = lit< tt
-delay-code-below-16 WaitForAnotherSlotgrantMessage = lit< tt
-
-pub requirement-of-its-code : (r : ReservationRequirement) → requirementAt (requirementCode r) ≡ r
-requirement-of-its-code r = requirement-coded r .0
-
-pub requirement-code-below-16 : (r : ReservationRequirement) → requirementCode r < 16
-requirement-code-below-16 r = requirement-coded r .1
-
-pub capacity-of-its-code : (c : BasicSlotgrantCapAlloc) → capacityAt (capacityCode c) ≡ c
-capacity-of-its-code c = capacity-coded c .0
-
-pub capacity-code-below-16 : (c : BasicSlotgrantCapAlloc) → capacityCode c < 16
-capacity-code-below-16 c = capacity-coded c .1
-
--- the code of what a code is read as is that code
-pub requirement-code-of-read : (code : ℕ) → code < 16 → requirementCode (requirementAt code) ≡ code
-requirement-code-of-read = agree-below (λ k. requirementCode (requirementAt k)) (λ k. k) 16 refl
-
-pub capacity-code-of-read : (code : ℕ) → code < 16 → capacityCode (capacityAt code) ≡ code
-capacity-code-of-read = agree-below (λ k. capacityCode (capacityAt k)) (λ k. k) 16 refl
-
-pub delay-code-of-read : (code : ℕ) → code < 16 → delayCode (delayAt code) ≡ code
-delay-code-of-read = agree-below (λ k. delayCode (delayAt k)) (λ k. k) 16 refl
-
 -- a number is a code exactly up to 15, of any kind of case
-numbers-read : {C R : Type 0} (of : C → R) (unknown : R) (case : ℕ → C) (x : ℕ) → x < 16 → cond (leb x 15) (of (case x)) unknown ≡ of (case x)
+pub numbers-read : {C R : Type 0} (of : C → R) (unknown : R) (case : ℕ → C) (x : ℕ) → x < 16 → cond (leb x 15) (of (case x)) unknown ≡ of (case x)
 numbers-read of unknown case x h = rw (le-leb x 15 (omega arith))
 
-numbers-not-read : {C R : Type 0} (of : C → R) (unknown : R) (case : ℕ → C) (x : ℕ) → 16 ≤ x → cond (leb x 15) (of (case x)) unknown ≡ unknown
+pub numbers-not-read : {C R : Type 0} (of : C → R) (unknown : R) (case : ℕ → C) (x : ℕ) → 16 ≤ x → cond (leb x 15) (of (case x)) unknown ≡ unknown
 numbers-not-read of unknown case x h = rw (lt-leb x 15 h)
-
--- what was coded is read back
-pub requirement-read-back : (r : ReservationRequirement) → requirementRead (requirementCode r) ≡ requirement.the-variants.Of r
-requirement-read-back r =
-    numbers-read requirement.the-variants.Of requirement.the-variants.Unknown requirementAt (requirementCode r) (requirement-code-below-16 r)
-    ∙ ap requirement.the-variants.Of (requirement-of-its-code r)
-
-pub capacity-read-back : (c : BasicSlotgrantCapAlloc) → capacityRead (capacityCode c) ≡ capacity.the-variants.Of c
-capacity-read-back c =
-    numbers-read capacity.the-variants.Of capacity.the-variants.Unknown capacityAt (capacityCode c) (capacity-code-below-16 c)
-    ∙ ap capacity.the-variants.Of (capacity-of-its-code c)
-
-pub delay-read-back : {d : BasicSlotgrantGrantingDelay} → Plain d → delayRead (delayCode d) ≡ delay.the-variants.Of d
-delay-read-back {d} p =
-    numbers-read delay.the-variants.Of delay.the-variants.Unknown delayAt (delayCode d) (delay-code-below-16 d)
-    ∙ ap delay.the-variants.Of (delay-of-its-code p)
-
--- past 15 there is no code
-pub requirement-unknown : (x : ℕ) → 16 ≤ x → requirementRead x ≡ requirement.the-variants.Unknown
-requirement-unknown = numbers-not-read requirement.the-variants.Of requirement.the-variants.Unknown requirementAt
-
-pub capacity-unknown : (x : ℕ) → 16 ≤ x → capacityRead x ≡ capacity.the-variants.Unknown
-capacity-unknown = numbers-not-read capacity.the-variants.Of capacity.the-variants.Unknown capacityAt
-
-pub delay-unknown : (x : ℕ) → 16 ≤ x → delayRead x ≡ delay.the-variants.Unknown
-delay-unknown = numbers-not-read delay.the-variants.Of delay.the-variants.Unknown delayAt
-
--- distinct cases have distinct codes
-pub requirement-codes-distinct : (a b : ReservationRequirement) → requirementCode a ≡ requirementCode b → a ≡ b
-requirement-codes-distinct a b e = sym (requirement-of-its-code a) ∙ ap requirementAt e ∙ requirement-of-its-code b
-
-pub capacity-codes-distinct : (a b : BasicSlotgrantCapAlloc) → capacityCode a ≡ capacityCode b → a ≡ b
-capacity-codes-distinct a b e = sym (capacity-of-its-code a) ∙ ap capacityAt e ∙ capacity-of-its-code b
-
-pub delay-codes-distinct : {a b : BasicSlotgrantGrantingDelay} → Plain a → Plain b → delayCode a ≡ delayCode b → a ≡ b
-delay-codes-distinct p q e = sym (delay-of-its-code p) ∙ ap delayAt e ∙ delay-of-its-code q
 
 -- the octet holds its halves, and every octet is that of its halves
 pub capacity-in-octet : (c d : ℕ) → d < 16 → capacityOf (grantOctet c d) ≡ c
@@ -345,18 +131,3 @@ octet-of-its-halves octet = omega arith
 
 pub grant-octet-fits : (c d : ℕ) → c < 16 → d < 16 → grantOctet c d < 256
 grant-octet-fits c d p h = omega arith
-
--- every octet has exactly one reading, and its code is that octet
-pub octet-of-grant-read : (octet : ℕ) → octet < 256 → octetOf (grantAt octet) ≡ octet
-octet-of-grant-read octet h =
-    rw (capacity-code-of-read (octet / 16) (omega arith), delay-code-of-read (octet % 16) (omega arith)) (octet-of-its-halves octet)
-
--- a grant with a plain delay is read back from its octet
-pub grant-read-back : (g : BasicSlotgrant) → Plain (g .«granting_delay») → grantAt (octetOf g) ≡ g
-grant-read-back g p =
-    rw (
-      capacity-in-octet (capacityCode (g .«capacity_allocation»)) (delayCode (g .«granting_delay»)) (delay-code-below-16 (g .«granting_delay»)),
-      delay-in-octet (capacityCode (g .«capacity_allocation»)) (delayCode (g .«granting_delay»)) (delay-code-below-16 (g .«granting_delay»)),
-      capacity-of-its-code,
-      delay-of-its-code p,
-    )

@@ -1,12 +1,6 @@
-// The codes of reservation requirements, granted capacities and granting delays, and the grant octet (EN 300 392-2, clauses 21.5.4
-// and 21.5.6). The enums are for those who read codes; the functions on plain numbers are for the scheduler.
+// The codes of reservation requirements and granted capacities as plain numbers (EN 300 392-2, clauses 21.5.4 and 21.5.6).
 ghost use mathlib.Core.Path.{_≡_};
 ghost use Rattle.slot_codes.specs.Codes.{slotsWanted, slotsGranted, capacityFor, codeFor};
-
-pub mod basic_slotgrant;
-pub mod basic_slotgrant_cap_alloc;
-pub mod basic_slotgrant_granting_delay;
-pub mod reservation_requirement;
 
 // The slots of codes 0 to 14, which requirements and capacities share.
 const SLOTS: [usize; 15] = [1, 1, 2, 3, 4, 5, 6, 8, 10, 13, 17, 24, 34, 51, 68];

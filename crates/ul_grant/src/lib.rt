@@ -1,6 +1,5 @@
-// A request for capacity on the uplink table: the search for a grant opportunity, the reservation, and the usage marker drawn.
+// A request for capacity on the uplink table: the usage marker drawn, the run that the search found reserved, and the answer.
 use optional::OptU8;
-use optional::OptU32;
 use tdma_time::TdmaTime;
 use uplink::CapAnswer;
 use uplink::CapReply;
@@ -12,159 +11,13 @@ ghost use mathlib.Core.Bool.{true};
 ghost use Prim.Native.Nat.{_+_, _-_, _*_, _<_, _≤_};
 ghost use lib.ListN.{getD};
 ghost use Rattle.tdma_time.specs.Time.{Valid, slotOf, usable, firstOf};
-ghost use Rattle.uplink.specs.HalfSlot.{freeFor};
-ghost use Rattle.uplink.specs.UplinkEntry.{withMarker, withHalves, reserve};
 ghost use Rattle.uplink.specs.Request.{drawn, answerOf, answer};
-ghost use Rattle.uplink.specs.Functions.{Within, opportunity, slotsFrom, blockOf, blockHalves, grantedAt};
+ghost use Rattle.uplink.specs.Functions.{blockOf, grantedAt};
 
 // A marker drawn, and the counters after it.
 pub struct MarkerDrawn {
     pub usage_marker: u8,
     pub next_usage_marker: [u8; 4],
-}
-
-// Is a slot free for a request: both halves, or for half a slot one of them?
-fn is_free(e: Entry, is_halfslot: bool) -> bool
-    ensures { λ r. ⌜ r ≡ freeFor «is_halfslot» (e .ul1) (e .ul2) ⌝ }
-{
-    let ul1 = e.ul1;
-    let ul2 = e.ul2;
-    let first = uplink::is_vacant(ul1);
-    let second = uplink::is_vacant(ul2);
-    if is_halfslot {
-        return first | second;
-    }
-    first & second
-}
-
-// The earliest run of free slots among the timeslot's 17 slots from the first at or after now.
-pub fn ul_find_grant_opportunity(
-    table: [[Entry; 18]; 4],
-    now: TdmaTime,
-    t: u8,
-    num_slots: usize,
-    is_halfslot: bool,
-) -> Opportunity
-    requires { ⌜ Valid now ⌝ }
-    requires { ⌜ (1 ≤ t) × (t ≤ 4) ⌝ }
-    requires { ⌜ 1 ≤ «num_slots» ⌝ }
-    ensures { λ r. ⌜ (r ≡ opportunity table now t «num_slots» «is_halfslot») × Within r ⌝ }
-{
-    let first_opportunity = now.forward_to_timeslot(t);
-    let row = (t - 1) as usize;
-    let first = (first_opportunity.f - 1) as usize;
-    let mut start: usize = 0;
-    let mut run: usize = 0;
-    let mut skips: usize = 0;
-    let mut dist: usize = 0;
-    'frames: loop {
-        if dist == 17 {
-            break 'frames Opportunity::Nothing;
-        }
-        let index = (first + dist) % 18;
-        if index == 17 {
-            dist += 1;
-            continue 'frames;
-        }
-        let e = table[row][index];
-        if !is_free(e, is_halfslot) {
-            skips = skips + run + 1;
-            run = 0;
-            dist += 1;
-            continue 'frames;
-        }
-        if run == 0 {
-            start = dist;
-        }
-        run += 1;
-        if run == num_slots {
-            break 'frames Opportunity::At(start, skips);
-        }
-        dist += 1;
-    }
-}
-
-// The entry with a marker, if there is a new one.
-fn with_marker(e: Entry, usage_marker: OptU8) -> Entry
-    ensures { λ r. ⌜ r ≡ withMarker e «usage_marker» ⌝ }
-{
-    let ul1 = e.ul1;
-    let ul2 = e.ul2;
-    match usage_marker {
-        OptU8::Absent => e,
-        OptU8::Of(m) => Entry {
-            ul1: ul1,
-            ul2: ul2,
-            usage_marker: OptU8::Of(m),
-        },
-    }
-}
-
-// The entry with a half of its slot, or both, taken.
-fn taken(e: Entry, ssi: u32, block: PhyBlockNum, usage_marker: OptU8) -> Entry
-    ensures { λ r. ⌜ r ≡ withHalves (withMarker e «usage_marker») (blockHalves block) ssi ⌝ }
-{
-    let marked = with_marker(e, usage_marker);
-    let ul1 = marked.ul1;
-    let ul2 = marked.ul2;
-    let m = marked.usage_marker;
-    match block {
-        PhyBlockNum::Both => Entry {
-            ul1: OptU32::Of(ssi),
-            ul2: OptU32::Of(ssi),
-            usage_marker: m,
-        },
-        PhyBlockNum::Block1 => Entry {
-            ul1: OptU32::Of(ssi),
-            ul2: ul2,
-            usage_marker: m,
-        },
-        PhyBlockNum::Block2 => Entry {
-            ul1: ul1,
-            ul2: OptU32::Of(ssi),
-            usage_marker: m,
-        },
-    }
-}
-
-// The table with `num_slots` usable slots reserved, from `start` frames after the first opportunity on.
-pub fn ul_reserve_grant(
-    table: [[Entry; 18]; 4],
-    now: TdmaTime,
-    t: u8,
-    start: usize,
-    num_slots: usize,
-    ssi: u32,
-    block: PhyBlockNum,
-    usage_marker: OptU8,
-) -> [[Entry; 18]; 4]
-    requires { ⌜ Valid now ⌝ }
-    requires { ⌜ (1 ≤ t) × (t ≤ 4) ⌝ }
-    requires { ⌜ start ≤ 17 ⌝ }
-    ensures { λ r. ⌜ r ≡ reserve table (blockHalves block) ssi «usage_marker» (slotsFrom now t start «num_slots») ⌝ }
-{
-    let first_opportunity = now.forward_to_timeslot(t);
-    let row = (t - 1) as usize;
-    let first = (first_opportunity.f - 1) as usize;
-    let mut out = table;
-    let mut left = num_slots;
-    let mut dist = start;
-    while dist < 17 {
-        if left == 0 {
-            return out;
-        }
-        let place = (first + dist) % 18;
-        if place == 17 {
-            dist += 1;
-            continue;
-        }
-        let e = out[row][place];
-        let f = taken(e, ssi, block, usage_marker);
-        out[row][place] = f;
-        left -= 1;
-        dist += 1;
-    }
-    out
 }
 
 // A fresh usage marker for a timeslot, from its counter.
@@ -250,7 +103,7 @@ fn grant(
         let drawn = alloc_usage_marker(next_usage_marker, timeslot);
         let marker = drawn.usage_marker;
         let counters = drawn.next_usage_marker;
-        let out = ul_reserve_grant(
+        let out = ul_reserve::ul_reserve_grant(
             table,
             now,
             timeslot,
@@ -267,7 +120,7 @@ fn grant(
         };
         return answer_with(reply, out, counters);
     }
-    let out = ul_reserve_grant(
+    let out = ul_reserve::ul_reserve_grant(
         table,
         now,
         timeslot,
@@ -299,7 +152,7 @@ pub fn ul_process_cap_req(
     ensures { λ r. ⌜ r ≡ answer table «next_usage_marker» now (record { timeslot = timeslot; code = code; number = number }) ⌝ }
 {
     let num_slots = slot_codes::slots_wanted(code);
-    let grant_op = ul_find_grant_opportunity(table, now, timeslot, num_slots, code == 0);
+    let grant_op = ul_search::ul_find_grant_opportunity(table, now, timeslot, num_slots, code == 0);
     match grant_op {
         Opportunity::Nothing => answer_with(CapReply::NoRun, table, next_usage_marker),
         Opportunity::At(start, skips) => {

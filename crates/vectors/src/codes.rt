@@ -1,7 +1,7 @@
 // Document 01, "Request and grant": the tables of codes, and the grant octet.
-use slot_codes::basic_slotgrant::BasicSlotgrant;
-use slot_codes::reservation_requirement::RequirementRead;
-use slot_codes::reservation_requirement::ReservationRequirement;
+use basic_slotgrant::BasicSlotgrant;
+use reservation_requirement::RequirementRead;
+use reservation_requirement::ReservationRequirement;
 
 // What a requirement code asks for, and the capacity that answers it.
 fn requirement(code: u8) {

@@ -1,0 +1,151 @@
+-- Laws of basic slot grants: code and case, octet and grant are inverse. Assumes nothing.
+use mathlib.Core.Path.{_≡_, refl, sym, ap, _∙_}
+use Prim.Native.Nat.{ℕ, zero, suc, _/_, _%_, _≤_, _<_, min, max}
+use native.Mathlib.Nat.{not-suc-le-zero}
+use native.Mathlib.Omega.{arith}
+use lib.Dec.{lit<, eqb·suc-zero}
+use lib.ListN.{take}
+use borrow.Author.Tests.{le-leb, lt-leb, ne-eqb}
+use Rattle.slot_codes.specs.Codes.{grantOctet, capacityOf, delayOf}
+use Rattle.slot_codes.proofs.TableLaws.{past-the-last, agree-below}
+use Rattle.slot_codes.proofs.CodesLaws.{numbers-read, numbers-not-read, capacity-in-octet, delay-in-octet, octet-of-its-halves}
+use Rattle.basic_slotgrant.specs.declared.basic_slotgrant_cap_alloc.BasicSlotgrantCapAlloc.{BasicSlotgrantCapAlloc}
+use Rattle.basic_slotgrant.specs.declared.basic_slotgrant_cap_alloc.BasicSlotgrantCapAlloc.the-variants.{
+  FirstSubslotGranted,
+  Grant1Slot,
+  Grant2Slots,
+  Grant3Slots,
+  Grant4Slots,
+  Grant5Slots,
+  Grant6Slots,
+  Grant8Slots,
+  Grant10Slots,
+  Grant13Slots,
+  Grant17Slots,
+  Grant24Slots,
+  Grant34Slots,
+  Grant51Slots,
+  Grant68Slots,
+  SecondSubslotGranted,
+}
+use Rattle.basic_slotgrant.specs.declared.basic_slotgrant_cap_alloc.CapAllocRead as capacity
+use Rattle.basic_slotgrant.specs.declared.basic_slotgrant_granting_delay.BasicSlotgrantGrantingDelay.{BasicSlotgrantGrantingDelay}
+use Rattle.basic_slotgrant.specs.declared.basic_slotgrant_granting_delay.BasicSlotgrantGrantingDelay.the-variants.{
+  CapAllocAtNextOpportunity,
+  DelayNOpportunities,
+  AllocStartsAtOpportunityInFr18,
+  WaitForAnotherSlotgrantMessage,
+}
+use Rattle.basic_slotgrant.specs.declared.basic_slotgrant_granting_delay.GrantingDelayRead as delay
+use Rattle.basic_slotgrant.specs.declared.BasicSlotgrant.{BasicSlotgrant}
+use Rattle.basic_slotgrant.specs.Slotgrant.{capacities, capacityAt, delayAt, capacityCode, delayCode, capacityRead, delayRead, octetOf, grantAt}
+
+pub capacity-past-the-last : (code : ℕ) → 15 ≤ code → capacityAt code ≡ SecondSubslotGranted
+capacity-past-the-last = past-the-last (take 15 capacities) SecondSubslotGranted
+
+-- a delay that the code tells apart: N is 1 to 13
+pub data Plain : BasicSlotgrantGrantingDelay → Type 0 where
+  next : Plain CapAllocAtNextOpportunity
+  after : {n : ℕ} → 1 ≤ n → n ≤ 13 → Plain (DelayNOpportunities n)
+  frame18 : Plain AllocStartsAtOpportunityInFr18
+  wait : Plain WaitForAnotherSlotgrantMessage
+
+-- codes 1 to 13 are delays of N, 14 is frame 18, from 15 on it is to be waited
+pub delay-of-n : (code : ℕ) → 1 ≤ code → code ≤ 13 → delayAt code ≡ DelayNOpportunities code
+delay-of-n zero p h = absurd (not-suc-le-zero p)
+delay-of-n (suc c) p h = rw (eqb·suc-zero c, le-leb (suc c) 13 h)
+
+pub delay-to-wait-for : (code : ℕ) → 15 ≤ code → delayAt code ≡ WaitForAnotherSlotgrantMessage
+delay-to-wait-for code h =
+    simp (ne-eqb code 0 (λ e. omega arith), lt-leb code 13 (omega arith), ne-eqb code 14 (λ e. omega arith))
+
+-- N is coded as the nearest of 1 to 13
+pub nearest-from-below : (n : ℕ) → n ≤ 1 → max 1 (min n 13) ≡ 1
+nearest-from-below n h = omega arith
+
+pub nearest-from-above : (n : ℕ) → 13 ≤ n → max 1 (min n 13) ≡ 13
+nearest-from-above n h = omega arith
+
+pub nearest-within : (n : ℕ) → 1 ≤ n → n ≤ 13 → max 1 (min n 13) ≡ n
+nearest-within n p h = omega arith
+
+-- each capacity is the case of its code, which has four bits
+capacity-coded : (c : BasicSlotgrantCapAlloc) → (capacityAt (capacityCode c) ≡ c) × (capacityCode c < 16)
+capacity-coded FirstSubslotGranted = (refl, lit< tt)
+capacity-coded Grant1Slot = (refl, lit< tt)
+capacity-coded Grant2Slots = (refl, lit< tt)
+capacity-coded Grant3Slots = (refl, lit< tt)
+capacity-coded Grant4Slots = (refl, lit< tt)
+capacity-coded Grant5Slots = (refl, lit< tt)
+capacity-coded Grant6Slots = (refl, lit< tt)
+capacity-coded Grant8Slots = (refl, lit< tt)
+capacity-coded Grant10Slots = (refl, lit< tt)
+capacity-coded Grant13Slots = (refl, lit< tt)
+capacity-coded Grant17Slots = (refl, lit< tt)
+capacity-coded Grant24Slots = (refl, lit< tt)
+capacity-coded Grant34Slots = (refl, lit< tt)
+capacity-coded Grant51Slots = (refl, lit< tt)
+capacity-coded Grant68Slots = (refl, lit< tt)
+capacity-coded SecondSubslotGranted = (refl, lit< tt)
+
+-- each plain delay is the case of its code; a code has four bits
+pub delay-of-its-code : {d : BasicSlotgrantGrantingDelay} → Plain d → delayAt (delayCode d) ≡ d
+delay-of-its-code next = refl
+delay-of-its-code (after {n} p h) = rw (nearest-within n p h) (delay-of-n n p h)
+delay-of-its-code frame18 = refl
+delay-of-its-code wait = refl
+
+pub delay-code-below-16 : (d : BasicSlotgrantGrantingDelay) → delayCode d < 16
+delay-code-below-16 CapAllocAtNextOpportunity = lit< tt
+delay-code-below-16 (DelayNOpportunities n) = omega arith
+delay-code-below-16 AllocStartsAtOpportunityInFr18 = lit< tt
+delay-code-below-16 WaitForAnotherSlotgrantMessage = lit< tt
+
+pub capacity-of-its-code : (c : BasicSlotgrantCapAlloc) → capacityAt (capacityCode c) ≡ c
+capacity-of-its-code c = capacity-coded c .0
+
+pub capacity-code-below-16 : (c : BasicSlotgrantCapAlloc) → capacityCode c < 16
+capacity-code-below-16 c = capacity-coded c .1
+
+pub capacity-code-of-read : (code : ℕ) → code < 16 → capacityCode (capacityAt code) ≡ code
+capacity-code-of-read = agree-below (λ k. capacityCode (capacityAt k)) (λ k. k) 16 refl
+
+pub delay-code-of-read : (code : ℕ) → code < 16 → delayCode (delayAt code) ≡ code
+delay-code-of-read = agree-below (λ k. delayCode (delayAt k)) (λ k. k) 16 refl
+
+pub capacity-read-back : (c : BasicSlotgrantCapAlloc) → capacityRead (capacityCode c) ≡ capacity.the-variants.Of c
+capacity-read-back c =
+    numbers-read capacity.the-variants.Of capacity.the-variants.Unknown capacityAt (capacityCode c) (capacity-code-below-16 c)
+    ∙ ap capacity.the-variants.Of (capacity-of-its-code c)
+
+pub delay-read-back : {d : BasicSlotgrantGrantingDelay} → Plain d → delayRead (delayCode d) ≡ delay.the-variants.Of d
+delay-read-back {d} p =
+    numbers-read delay.the-variants.Of delay.the-variants.Unknown delayAt (delayCode d) (delay-code-below-16 d)
+    ∙ ap delay.the-variants.Of (delay-of-its-code p)
+
+pub capacity-unknown : (x : ℕ) → 16 ≤ x → capacityRead x ≡ capacity.the-variants.Unknown
+capacity-unknown = numbers-not-read capacity.the-variants.Of capacity.the-variants.Unknown capacityAt
+
+pub delay-unknown : (x : ℕ) → 16 ≤ x → delayRead x ≡ delay.the-variants.Unknown
+delay-unknown = numbers-not-read delay.the-variants.Of delay.the-variants.Unknown delayAt
+
+pub capacity-codes-distinct : (a b : BasicSlotgrantCapAlloc) → capacityCode a ≡ capacityCode b → a ≡ b
+capacity-codes-distinct a b e = sym (capacity-of-its-code a) ∙ ap capacityAt e ∙ capacity-of-its-code b
+
+pub delay-codes-distinct : {a b : BasicSlotgrantGrantingDelay} → Plain a → Plain b → delayCode a ≡ delayCode b → a ≡ b
+delay-codes-distinct p q e = sym (delay-of-its-code p) ∙ ap delayAt e ∙ delay-of-its-code q
+
+-- every octet has exactly one reading, and its code is that octet
+pub octet-of-grant-read : (octet : ℕ) → octet < 256 → octetOf (grantAt octet) ≡ octet
+octet-of-grant-read octet h =
+    rw (capacity-code-of-read (octet / 16) (omega arith), delay-code-of-read (octet % 16) (omega arith)) (octet-of-its-halves octet)
+
+-- a grant with a plain delay is read back from its octet
+pub grant-read-back : (g : BasicSlotgrant) → Plain (g .«granting_delay») → grantAt (octetOf g) ≡ g
+grant-read-back g p =
+    rw (
+      capacity-in-octet (capacityCode (g .«capacity_allocation»)) (delayCode (g .«granting_delay»)) (delay-code-below-16 (g .«granting_delay»)),
+      delay-in-octet (capacityCode (g .«capacity_allocation»)) (delayCode (g .«granting_delay»)) (delay-code-below-16 (g .«granting_delay»)),
+      capacity-of-its-code,
+      delay-of-its-code p,
+    )

@@ -1,0 +1,75 @@
+-- Laws of reservation requirements: code and case are inverse. Assumes nothing.
+use mathlib.Core.Path.{_≡_, refl, sym, ap, _∙_}
+use Prim.Native.Nat.{ℕ, _≤_, _<_}
+use lib.Dec.{lit<}
+use lib.ListN.{take}
+use Rattle.slot_codes.proofs.TableLaws.{past-the-last, agree-below}
+use Rattle.slot_codes.proofs.CodesLaws.{numbers-read, numbers-not-read}
+use Rattle.reservation_requirement.specs.declared.ReservationRequirement.{ReservationRequirement}
+use Rattle.reservation_requirement.specs.declared.ReservationRequirement.the-variants.{
+  Req1Subslot,
+  Req1Slot,
+  Req2Slots,
+  Req3Slots,
+  Req4Slots,
+  Req5Slots,
+  Req6Slots,
+  Req8Slots,
+  Req10Slots,
+  Req13Slots,
+  Req17Slots,
+  Req24Slots,
+  Req34Slots,
+  Req51Slots,
+  Req68Slots,
+  ReqOver68,
+}
+use Rattle.reservation_requirement.specs.declared.RequirementRead as requirement
+use Rattle.reservation_requirement.specs.Requirement.{requirements, requirementAt, requirementCode, requirementRead}
+
+-- every number from 15 on is read as the last case
+pub requirement-past-the-last : (code : ℕ) → 15 ≤ code → requirementAt code ≡ ReqOver68
+requirement-past-the-last = past-the-last (take 15 requirements) ReqOver68
+
+-- each requirement is the case of its code, which has four bits
+requirement-coded : (r : ReservationRequirement) → (requirementAt (requirementCode r) ≡ r) × (requirementCode r < 16)
+requirement-coded Req1Subslot = (refl, lit< tt)
+requirement-coded Req1Slot = (refl, lit< tt)
+requirement-coded Req2Slots = (refl, lit< tt)
+requirement-coded Req3Slots = (refl, lit< tt)
+requirement-coded Req4Slots = (refl, lit< tt)
+requirement-coded Req5Slots = (refl, lit< tt)
+requirement-coded Req6Slots = (refl, lit< tt)
+requirement-coded Req8Slots = (refl, lit< tt)
+requirement-coded Req10Slots = (refl, lit< tt)
+requirement-coded Req13Slots = (refl, lit< tt)
+requirement-coded Req17Slots = (refl, lit< tt)
+requirement-coded Req24Slots = (refl, lit< tt)
+requirement-coded Req34Slots = (refl, lit< tt)
+requirement-coded Req51Slots = (refl, lit< tt)
+requirement-coded Req68Slots = (refl, lit< tt)
+requirement-coded ReqOver68 = (refl, lit< tt)
+
+pub requirement-of-its-code : (r : ReservationRequirement) → requirementAt (requirementCode r) ≡ r
+requirement-of-its-code r = requirement-coded r .0
+
+pub requirement-code-below-16 : (r : ReservationRequirement) → requirementCode r < 16
+requirement-code-below-16 r = requirement-coded r .1
+
+-- the code of what a code is read as is that code
+pub requirement-code-of-read : (code : ℕ) → code < 16 → requirementCode (requirementAt code) ≡ code
+requirement-code-of-read = agree-below (λ k. requirementCode (requirementAt k)) (λ k. k) 16 refl
+
+-- what was coded is read back
+pub requirement-read-back : (r : ReservationRequirement) → requirementRead (requirementCode r) ≡ requirement.the-variants.Of r
+requirement-read-back r =
+    numbers-read requirement.the-variants.Of requirement.the-variants.Unknown requirementAt (requirementCode r) (requirement-code-below-16 r)
+    ∙ ap requirement.the-variants.Of (requirement-of-its-code r)
+
+-- past 15 there is no code
+pub requirement-unknown : (x : ℕ) → 16 ≤ x → requirementRead x ≡ requirement.the-variants.Unknown
+requirement-unknown = numbers-not-read requirement.the-variants.Of requirement.the-variants.Unknown requirementAt
+
+-- distinct cases have distinct codes
+pub requirement-codes-distinct : (a b : ReservationRequirement) → requirementCode a ≡ requirementCode b → a ≡ b
+requirement-codes-distinct a b e = sym (requirement-of-its-code a) ∙ ap requirementAt e ∙ requirement-of-its-code b
