@@ -1,0 +1,24 @@
+-- Arm by arm. Assumes nothing.
+use borrow.Author.Needs.{needs}
+use Rattle.dl_build.proofs.is_underway.Statement.{statement}
+use Rattle.dl_build.proofs.is_underway.Tie as tie
+
+returns : tie.Need-returns
+returns c = search needs
+
+returns-2 : tie.Need-returns-2
+returns-2 c = search needs
+
+returns-3 : tie.Need-returns-3
+returns-3 c = search needs
+
+returns-4 : tie.Need-returns-4
+returns-4 c = search needs
+
+returns-5 : tie.Need-returns-5
+returns-5 c = search needs
+
+pub is-underway-spec : {M : Type 1} → statement M
+is-underway-spec =
+    tie.close
+    (tie.spec (λ c. search needs) (λ c. search needs) (λ c. search needs) (λ c. search needs) (λ c. search needs) returns returns-2 returns-3 returns-4 returns-5)
