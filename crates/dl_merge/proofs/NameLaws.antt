@@ -7,9 +7,9 @@ use Prim.Native.Nat.{ℕ}
 use lib.Dec.{eqb}
 use borrow.Author.Tests.{eqb-true}
 use Rattle.optional.specs.declared.OptU8.{OptU8}
+use Rattle.optional.proofs.Tests.{and-right}
 use Rattle.dl_record.specs.declared.Record.{Record}
 use Rattle.dl_record.specs.declared.Kind.{Kind}
-use Rattle.dl_record.proofs.Tests.{and-right}
 use Rattle.dl_queue.specs.Queue.{Item, item}
 use Rattle.dl_merge.specs.Merge.{isGrantOrAck, isRecord, joinedHeader, joined, takes, Named, nameAfter, freshName, joinName, mergeNamed}
 use Rattle.dl_merge.proofs.MergeLaws.{All, merge-all}

@@ -7,9 +7,9 @@ use lib.Dec.{eqb, leb}
 use native.Mathlib.Omega.{arith}
 use lib.ListN.{length, drop}
 use Rattle.optional.specs.declared.OptU8.{OptU8}
+use Rattle.optional.proofs.Tests.{and-left, and-right, and-intro}
 use Rattle.mac_pdus.specs.Legal.{absentU8, fits, optFits, legalQueued}
 use Rattle.mac_pdus.proofs.Conjunctions.{false-not-true, and3, and4}
-use Rattle.dl_record.proofs.Tests.{and-left, and-right, and-both}
 use Rattle.dl_record.proofs.HeaderLaws.{LegalHeader, legal-fields, fields-legal}
 use Rattle.dl_record.specs.declared.Record.{Record}
 use Rattle.dl_record.specs.declared.Kind.{Kind}
@@ -70,8 +70,8 @@ record-header Kind.Grant r q p b s f e = false-not-true p
 record-header Kind.Ack r q p b s f e = false-not-true p
 record-header Kind.Record r q p b s f e =
     let h = and3 (legalQueued (resourceOf r 0 0)) (leb (r .bits) 2048) (eqb (r .sent) 0) e in
-    and-both (legalQueued (resourceOf q 0 0) && leb (q .bits) 2048) (eqb (q .sent) 0)
-    (and-both (legalQueued (resourceOf q 0 0)) (leb (q .bits) 2048) (fields-legal q 0 0 refl refl (f (legal-fields r 0 0 (h .0)))) (ap (λ (n : ℕ). leb n 2048) b ∙ h .1))
+    and-intro (legalQueued (resourceOf q 0 0) && leb (q .bits) 2048) (eqb (q .sent) 0)
+    (and-intro (legalQueued (resourceOf q 0 0)) (leb (q .bits) 2048) (fields-legal q 0 0 refl refl (f (legal-fields r 0 0 (h .0)))) (ap (λ (n : ℕ). leb n 2048) b ∙ h .1))
     (ap (λ (n : ℕ). eqb n 0) s ∙ h .2)
 record-header Kind.Waiting r q p b s f e = false-not-true p
 record-header Kind.Started r q p b s f e = false-not-true p
@@ -80,7 +80,7 @@ pub joined-sound : (g r : Record) → soundRecord g ≡ true → isGrantOrAck (g
 unfolding soundRecord
 joined-sound g r eg kg er kr =
     let fit = grant-fits (g .kind) g kg (and-right (legalAddress (g .«address_kind») (g .number)) (soundAs (g .kind) g) eg) in
-    and-both (legalAddress (r .«address_kind») (r .number)) (soundAs (r .kind) (joined g r)) (and-left (legalAddress (r .«address_kind») (r .number)) (soundAs (r .kind) r) er)
+    and-intro (legalAddress (r .«address_kind») (r .number)) (soundAs (r .kind) (joined g r)) (and-left (legalAddress (r .«address_kind») (r .number)) (soundAs (r .kind) r) er)
     (record-header (r .kind) r (joined g r) kr refl refl (header-joined (g .kind) g r (fit .0) (fit .1)) (and-right (legalAddress (r .«address_kind») (r .number)) (soundAs (r .kind) r) er))
 
 flag-fits : (k : Kind) → fits 1 (ackFlag k) ≡ true
@@ -98,8 +98,8 @@ minimal-sound g e k =
     let legal : legalQueued (resourceOf (minimal g) 0 0) ≡ true =
     fields-legal (minimal g) 0 0 refl refl
     (record { position = refl; encryption = refl; flag = flag-fits (g .kind); number = and-right (leb (g .«address_kind») 2) (fits 24 (g .number)) a; label = refl; marker = fit .1; power = refl; grant = fit .0; alloc = refl }) in
-    and-both (legalAddress (g .«address_kind») (g .number)) (legalQueued (resourceOf (minimal g) 0 0) && true && true) a
-    (and-both (legalQueued (resourceOf (minimal g) 0 0) && true) true (and-both (legalQueued (resourceOf (minimal g) 0 0)) true legal refl) refl)
+    and-intro (legalAddress (g .«address_kind») (g .number)) (legalQueued (resourceOf (minimal g) 0 0) && true && true) a
+    (and-intro (legalQueued (resourceOf (minimal g) 0 0) && true) true (and-intro (legalQueued (resourceOf (minimal g) 0 0)) true legal refl) refl)
 
 -- ---- lists
 
@@ -114,7 +114,7 @@ items-each (x ∷ xs) e = (and-left (soundPlace true (x .rec) (x .load)) (soundI
 pub each-items : (xs : List (Item (List ℕ))) → All SoundItem xs → soundItems xs ≡ true
 unfolding soundItems
 each-items [] h = refl
-each-items (x ∷ xs) h = and-both (soundPlace true (x .rec) (x .load)) (soundItems xs) (h .0) (each-items xs (h .1))
+each-items (x ∷ xs) h = and-intro (soundPlace true (x .rec) (x .load)) (soundItems xs) (h .0) (each-items xs (h .1))
 
 taken : (n : ℕ) (r : Record) → takes n r ≡ true → isRecord (r .kind) ≡ true
 unfolding takes
@@ -123,13 +123,13 @@ taken n r e = and-left (isRecord (r .kind)) (eqb (r .number) n) e
 item-joined : (g x : Item (List ℕ)) → isGrantOrAck (g .rec .kind) ≡ true → takes (g .rec .number) (x .rec) ≡ true → SoundItem g → SoundItem x → SoundItem (item (joined (g .rec) (x .rec)) (x .load))
 unfolding soundPlace
 item-joined g x k t eg ex =
-    and-both (soundRecord (joined (g .rec) (x .rec))) (cleanPast (x .rec .bits) (x .load))
+    and-intro (soundRecord (joined (g .rec) (x .rec))) (cleanPast (x .rec .bits) (x .load))
     (joined-sound (g .rec) (x .rec) (and-left (soundRecord (g .rec)) (cleanPast (g .rec .bits) (g .load)) eg) k (and-left (soundRecord (x .rec)) (cleanPast (x .rec .bits) (x .load)) ex) (taken (g .rec .number) (x .rec) t))
     (and-right (soundRecord (x .rec)) (cleanPast (x .rec .bits) (x .load)) ex)
 
 item-minimal : (g : Item (List ℕ)) → isGrantOrAck (g .rec .kind) ≡ true → SoundItem g → SoundItem (item (minimal (g .rec)) zeroCell)
 unfolding soundPlace
-item-minimal g k e = and-both (soundRecord (minimal (g .rec))) (cleanPast 0 zeroCell) (minimal-sound (g .rec) (and-left (soundRecord (g .rec)) (cleanPast (g .rec .bits) (g .load)) e) k) zero-clean
+item-minimal g k e = and-intro (soundRecord (minimal (g .rec))) (cleanPast 0 zeroCell) (minimal-sound (g .rec) (and-left (soundRecord (g .rec)) (cleanPast (g .rec .bits) (g .load)) e) k) zero-clean
 
 pub merge-sound : (xs : List (Item (List ℕ))) → soundItems xs ≡ true → soundItems (mergeCells xs) ≡ true
 merge-sound xs e = each-items (mergeCells xs) (merge-all (always zeroCell) keep SoundItem item-joined item-minimal xs (items-each xs e))

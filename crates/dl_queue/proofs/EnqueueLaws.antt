@@ -8,12 +8,12 @@ use lib.ListN.{length, getD, set}
 use borrow.Author.Tests.{leb-true}
 use Rattle.optional.specs.declared.OptU8.{OptU8}
 use Rattle.optional.specs.declared.OptU16.{OptU16}
+use Rattle.optional.proofs.Tests.{and-left, and-right, and-intro}
 use Rattle.mac_pdus.specs.Legal.{fits, optFits, legalOffered}
 use Rattle.dl_record.specs.declared.Record.{Record}
 use Rattle.dl_record.specs.declared.QueuedHeader.{QueuedHeader}
 use Rattle.dl_record.specs.Record.{grantRecord, ackRecord, offeredRecord, resourceOf}
 use Rattle.dl_record.specs.Questions.{legalAddress, presentSdu, soundRecord}
-use Rattle.dl_record.proofs.Tests.{and-left, and-right, and-both}
 use Rattle.dl_record.proofs.RecordLaws.{grant-sound, ack-sound, offered-sound}
 use Rattle.sdu_store.specs.Cells.{cleanPast, cellOf}
 use Rattle.sdu_store.proofs.CellBits.{length-cellOf, clean-cellOf}
@@ -40,7 +40,7 @@ module _ (ns : List ℕ) (rs : List Record) (s : List ℕ) (t : ℕ) (inside : t
   unfolding soundPlace presentSdu
   record-keeps r sdu good present =
       push-sound ns rs s t (getD ns t 0) r (cellOf (r .bits) sdu) inside refl room places size (length-cellOf (r .bits) sdu)
-      (and-both (soundRecord r) (cleanPast (r .bits) (cellOf (r .bits) sdu)) good
+      (and-intro (soundRecord r) (cleanPast (r .bits) (cellOf (r .bits) sdu)) good
       (clean-cellOf (r .bits) sdu (leb-true (r .bits) 2048 (and-left (leb (r .bits) 2048) (leb (r .bits) (8 * length sdu)) present))
       (leb-true (r .bits) (8 * length sdu) (and-right (leb (r .bits) 2048) (leb (r .bits) (8 * length sdu)) present)))) sound
 
@@ -55,7 +55,7 @@ module _ (ns : List ℕ) (rs : List Record) (s : List ℕ) (t : ℕ) (inside : t
   empty-keeps r octets good none =
       ap (soundQueue (enqueued ns rs t r .counts) (enqueued ns rs t r .records)) (unused-cell ns rs s t (getD ns t 0) inside refl room size octets sound)
       ∙ push-sound ns rs s t (getD ns t 0) r zeroCell inside refl room places size zero-size
-      (and-both (soundRecord r) (cleanPast (r .bits) zeroCell) good (ap (λ (b : ℕ). cleanPast b zeroCell) none ∙ zero-clean)) sound
+      (and-intro (soundRecord r) (cleanPast (r .bits) zeroCell) good (ap (λ (b : ℕ). cleanPast b zeroCell) none ∙ zero-clean)) sound
 
   -- a grant, an ack and a record join the end of their timeslot's list, no other list changes, and the memory stays sound
   pub grant-joins : (k number octet : ℕ) (m : OptU8) → Octets s → legalAddress k number ≡ true → fits 8 octet ≡ true → optFits 6 m ≡ true

@@ -8,8 +8,8 @@ use lib.Dec.{leb}
 use lib.ListN.{length, getD, drop, take, replicate, length-drop, take-append-drop}
 use lib.Seq.{length-take-le, take-add}
 use borrow.Author.Tests.{leb-true}
+use Rattle.optional.proofs.Tests.{and-left, and-right}
 use Rattle.mac_pdus.proofs.Conjunctions.{and3}
-use Rattle.dl_record.proofs.Tests.{and-left, and-right}
 use Rattle.dl_record.proofs.RecordLaws.{empty-is}
 use Rattle.dl_record.specs.declared.Record.{Record}
 use Rattle.dl_record.specs.Record.{emptyRecord}

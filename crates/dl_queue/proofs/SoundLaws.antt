@@ -8,12 +8,13 @@ use native.Mathlib.Omega.{arith}
 use lib.Dec.{eqb, leb, ltb}
 use lib.ListN.{length, getD, drop, take, set, replicate, length-set, length-drop, take-append-drop}
 use lib.Seq.{getD-set-same, getD-set-other, drop-drop, drop-at, take-at, take-take, length-take-le, paste}
+use Rattle.optional.proofs.Tests.{and-left, and-right, and-intro}
 use Rattle.sdu_store.proofs.CellBits.{all-zeros}
 use Rattle.sdu_store.proofs.OctetLaws.{Octets, octets-take, octets-drop, octets-zero}
 use Rattle.dl_queue.proofs.QueueLaws.{empty-place}
 use borrow.Author.Tests.{eqb-true, eqb-false, leb-true, le-leb, lt-ltb, le-ltb, ltb-true}
 use Rattle.mac_pdus.proofs.Conjunctions.{and3}
-use Rattle.dl_record.proofs.Tests.{and-left, and-right, and-both, same-test}
+use Rattle.dl_record.proofs.Tests.{same-test}
 use Rattle.dl_record.proofs.RecordLaws.{is-empty}
 use Rattle.dl_record.specs.declared.Record.{Record}
 use Rattle.dl_record.specs.Record.{emptyRecord}
@@ -46,7 +47,7 @@ unfolding soundPlaces
 places-all zero n rs s f = refl
 places-all (suc k) n rs s f =
     step k n rs s
-    ∙ and-both (soundPlace (ltb 0 n) (recAt rs 0) (take 256 s)) (soundPlaces k (n - 1) (drop 1 rs) (drop 256 s)) (f 0 (omega arith))
+    ∙ and-intro (soundPlace (ltb 0 n) (recAt rs 0) (take 256 s)) (soundPlaces k (n - 1) (drop 1 rs) (drop 256 s)) (f 0 (omega arith))
     (places-all k (n - 1) (drop 1 rs) (drop 256 s)
     (λ i h. ap (λ (b : Bool). soundPlace b (recAt (drop 1 rs) i) (cellAt (drop 256 s) i)) (later i n) ∙ ap₂ (soundPlace (ltb (1 + i) n)) (rec-shift 1 rs i) (cell-shift 1 s i) ∙ f (1 + i) (omega arith)))
 
@@ -70,8 +71,8 @@ unfolding soundQueue
 queue-all [] rs s f = refl
 queue-all (n ∷ ns) rs s f =
     let one = f 0 (omega arith) in
-    and-both (leb n 16 && soundPlaces 16 n rs s) (soundQueue ns (drop 16 rs) (drop 4096 s))
-    (and-both (leb n 16) (soundPlaces 16 n rs s) (le-leb n 16 (one .0)) (one .1))
+    and-intro (leb n 16 && soundPlaces 16 n rs s) (soundQueue ns (drop 16 rs) (drop 4096 s))
+    (and-intro (leb n 16) (soundPlaces 16 n rs s) (le-leb n 16 (one .0)) (one .1))
     (queue-all ns (drop 16 rs) (drop 4096 s)
     (λ u h. let q = f (suc u) (omega arith) in
     let a : 16 + 16 * u ≡ 16 * suc u = omega arith in
@@ -85,7 +86,7 @@ unfolding soundItems queueOf soundPlaces
 items-sound k zero rs s h e = refl
 items-sound zero (suc n) rs s h e = absurd (omega arith)
 items-sound (suc k) (suc n) rs s h e =
-    and-both (soundPlace true (recAt rs 0) (take 256 s)) (soundItems (queueOf n (drop 1 rs) (drop 256 s)))
+    and-intro (soundPlace true (recAt rs 0) (take 256 s)) (soundItems (queueOf n (drop 1 rs) (drop 256 s)))
     (and-left (soundPlace true (recAt rs 0) (take 256 s)) (soundPlaces k n (drop 1 rs) (drop 256 s)) e)
     (items-sound k n (drop 1 rs) (drop 256 s) (omega arith) (and-right (soundPlace true (recAt rs 0) (take 256 s)) (soundPlaces k n (drop 1 rs) (drop 256 s)) e))
 
@@ -95,17 +96,17 @@ zero-clean = zero-bitsOf (replicate 256 0) (octets-zero 256) ∙ all-zeros 256
 
 empty-sound : soundPlace false emptyRecord zeroCell ≡ true
 unfolding soundPlace
-empty-sound = and-both (isEmpty emptyRecord) (cleanPast 0 zeroCell) is-empty zero-clean
+empty-sound = and-intro (isEmpty emptyRecord) (cleanPast 0 zeroCell) is-empty zero-clean
 
 pub places-sound : (k : ℕ) (xs : List (Item (List ℕ))) → length xs ≤ k → Cells xs → soundItems xs ≡ true → soundPlaces k (length xs) (recordsOf k xs) (cellsOf k xs) ≡ true
 unfolding soundPlaces recordsOf cellsOf Cells soundItems
 places-sound zero xs b h e = refl
 places-sound (suc k) [] b h e =
     ap₂ (λ (a b : List ℕ). soundPlace false emptyRecord a && soundPlaces k 0 (recordsOf {C = List ℕ} k []) b) (take-at zeroCell (cellsOf k []) 256 zero-size) (drop-at zeroCell (cellsOf k []) 256 zero-size)
-    ∙ and-both (soundPlace false emptyRecord zeroCell) (soundPlaces k 0 (recordsOf {C = List ℕ} k []) (cellsOf k [])) empty-sound (places-sound k [] (omega arith) h e)
+    ∙ and-intro (soundPlace false emptyRecord zeroCell) (soundPlaces k 0 (recordsOf {C = List ℕ} k []) (cellsOf k [])) empty-sound (places-sound k [] (omega arith) h e)
 places-sound (suc k) (x ∷ xs) b h e =
     ap₂ (λ (a b : List ℕ). soundPlace true (x .rec) a && soundPlaces k (length xs) (recordsOf k xs) b) (take-at (x .load) (cellsOf k xs) 256 (h .0)) (drop-at (x .load) (cellsOf k xs) 256 (h .0))
-    ∙ and-both (soundPlace true (x .rec) (x .load)) (soundPlaces k (length xs) (recordsOf k xs) (cellsOf k xs)) (and-left (soundPlace true (x .rec) (x .load)) (soundItems xs) e)
+    ∙ and-intro (soundPlace true (x .rec) (x .load)) (soundPlaces k (length xs) (recordsOf k xs) (cellsOf k xs)) (and-left (soundPlace true (x .rec) (x .load)) (soundItems xs) e)
     (places-sound k xs (omega arith) (h .1) (and-right (soundPlace true (x .rec) (x .load)) (soundItems xs) e))
 
 -- ---- a timeslot's list set: the memory stays sound

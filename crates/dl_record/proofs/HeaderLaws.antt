@@ -6,11 +6,11 @@ use native.Mathlib.Omega.{arith}
 use lib.Dec.{eqb}
 use borrow.Author.Tests.{lt-ltb, eqb-true}
 use Rattle.optional.specs.declared.OptU16.{OptU16}
+use Rattle.optional.proofs.Tests.{and-intro}
 use Rattle.mac_pdus.specs.Legal.{fits, absentU8, absentU16, optFits, labelFits, hasAddress, queuedKind, legalOptChanAlloc, withinWidths, allAbsent, legalParts, legalFields, legalQueued}
 use Rattle.mac_pdus.proofs.Conjunctions.{false-not-true, and3, and4, and10}
 use Rattle.dl_record.specs.declared.Record.{Record}
 use Rattle.dl_record.specs.Record.{addressKindOf, resourceOf}
-use Rattle.dl_record.proofs.Tests.{and-both}
 
 -- what question 6 asks of the header of a stored record
 pub record LegalHeader (r : Record) : Type 0 where
@@ -94,5 +94,5 @@ fields-legal r fill len a b l =
     a (l .position) (small-encryption (h .«encryption_mode») (l .encryption)) (l .flag) b (l .number) (no-label (h .«event_label») (l .label)) (l .marker) (l .power) (l .grant) in
     let p : legalParts m ≡ true =
     parts-hold (hasAddress k) (eqb (h .«encryption_mode») 0) (absentU8 (h .«usage_marker»)) (absentU16 (h .«event_label»)) (allAbsent m) (eqb (r .number) 0) (addressed (r .«address_kind»)) (l .encryption) (l .label) in
-    and-both (legalFields m && queuedKind k) (absentU16 (h .«event_label»))
-    (and-both (legalFields m) (queuedKind k) (and-both (withinWidths m && legalOptChanAlloc (h .«chan_alloc_element»)) (legalParts m) (and-both (withinWidths m) (legalOptChanAlloc (h .«chan_alloc_element»)) w (l .alloc)) p) (queued (r .«address_kind»))) (l .label)
+    and-intro (legalFields m && queuedKind k) (absentU16 (h .«event_label»))
+    (and-intro (legalFields m) (queuedKind k) (and-intro (withinWidths m && legalOptChanAlloc (h .«chan_alloc_element»)) (legalParts m) (and-intro (withinWidths m) (legalOptChanAlloc (h .«chan_alloc_element»)) w (l .alloc)) p) (queued (r .«address_kind»))) (l .label)

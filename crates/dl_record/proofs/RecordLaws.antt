@@ -9,6 +9,7 @@ use lib.Dec.{eqb, leb}
 use borrow.Author.Tests.{leb-true, eqb-true}
 use Rattle.optional.specs.declared.OptU8.{OptU8}
 use Rattle.optional.specs.declared.OptU16.{OptU16}
+use Rattle.optional.proofs.Tests.{and-left, and-right}
 use Rattle.mac_pdus.specs.declared.OptChanAlloc.{OptChanAlloc}
 use Rattle.mac_pdus.specs.Legal.{absentU8, absentU16, absentChanAlloc, fits, optFits, legalQueued, legalOffered}
 use Rattle.dl_record.specs.declared.Record.{Record}
@@ -17,7 +18,7 @@ use Rattle.dl_record.specs.declared.Kind.{Kind}
 use Rattle.dl_record.specs.Record.{emptyRecord, grantRecord, ackRecord, offeredRecord, resourceOf}
 use Rattle.dl_record.specs.Questions.{isGrant, headerHoldsGrantOnly, holdsGrantOnly, isEmpty, legalAddress, presentSdu, soundAs, soundRecord}
 use Rattle.mac_pdus.proofs.Conjunctions.{false-not-true, and3, and4}
-use Rattle.dl_record.proofs.Tests.{and-left, and-right, and6}
+use Rattle.dl_record.proofs.Tests.{and6}
 
 absent-tag : (t : OptU16) → absentU16 t ≡ true → t ≡ OptU16.Absent
 absent-tag OptU16.Absent e = refl

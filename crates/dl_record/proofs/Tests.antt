@@ -1,20 +1,12 @@
 -- Tests: conjunctions put together, tests that are equal, cases. Assumes nothing.
 use mathlib.Core.Path.{_≡_, refl}
 use mathlib.Core.Bool.{Bool, true, false, _&&_}
+use Rattle.optional.proofs.Tests.{and-left, and-right}
 use Rattle.mac_pdus.proofs.Conjunctions.{false-not-true, and2, and4}
 use Prim.Native.Nat.{ℕ, _<_, _≤_}
 use mathlib.Core.Logic.{_⊎_, inl, inr}
 use lib.Dec.{ltb}
 use borrow.Author.Tests.{ltb-true, ltb-false}
-
-pub and-left : (a b : Bool) → a && b ≡ true → a ≡ true
-and-left a b e = and2 a b e .0
-
-pub and-right : (a b : Bool) → a && b ≡ true → b ≡ true
-and-right a b e = and2 a b e .1
-
-pub and-both : (a b : Bool) → a ≡ true → b ≡ true → a && b ≡ true
-and-both a b p q = rw (p, q)
 
 pub and-assoc : (a b c : Bool) → a && b && c ≡ a && (b && c)
 and-assoc true b c = refl
@@ -23,10 +15,6 @@ and-assoc false b c = refl
 pub and-true : (a : Bool) → a && true ≡ a
 and-true true = refl
 and-true false = refl
-
-pub and-false : (a : Bool) → a && false ≡ false
-and-false true = refl
-and-false false = refl
 
 pub and-comm : (a b : Bool) → a && b ≡ b && a
 and-comm true true = refl

@@ -6,16 +6,8 @@ use native.Mathlib.Omega.{arith}
 use lib.ListN.{length, getD}
 use Rattle.uplink.specs.UplinkEntry.{Table, FourRowsOfEighteen}
 use Rattle.uplink.specs.Request.{Request, Verdict, noRun, tooLate, grant, tableAfter, tableOf, given}
+use Rattle.uplink.proofs.Basics.{four}
 use Rattle.uplink.proofs.ReserveLaws.{reserve-shape}
-
--- a list of four is its elements
-pub four : {A : Type 0} (l : List A) (d : A) → length l ≡ 4 → getD l 0 d ∷ getD l 1 d ∷ getD l 2 d ∷ getD l 3 d ∷ [] ≡ l
-four [] d e = absurd (omega arith)
-four (a ∷ []) d e = absurd (omega arith)
-four (a ∷ b ∷ []) d e = absurd (omega arith)
-four (a ∷ b ∷ c ∷ []) d e = absurd (omega arith)
-four (a ∷ b ∷ c ∷ k ∷ []) d e = refl
-four (a ∷ b ∷ c ∷ k ∷ m ∷ l) d e = absurd (omega arith)
 
 module _ (tb : Table) (ms : List ℕ) (r : Request) (s : FourRowsOfEighteen tb) where
   after-shape : (w : Verdict) → FourRowsOfEighteen (tableAfter tb ms r w)

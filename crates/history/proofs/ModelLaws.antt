@@ -8,10 +8,11 @@ use native.Mathlib.Omega.{arith}
 use lib.Dec.{eqb}
 use borrow.Author.Tests.{eqb-true, eq-eqb, ne-eqb}
 use Rattle.optional.specs.declared.OptU32.{OptU32}
+use Rattle.optional.proofs.Tests.{and-left, and-right}
 use Rattle.tdma_time.specs.Time.{clock}
 use Rattle.tdma_time.proofs.Basics.{either, All, all-map}
 use Rattle.uplink.specs.HalfSlot.{Half, firstHalf, secondHalf, HalfSlot, halvesAt}
-use Rattle.uplink.proofs.Basics.{not-both, and-left, and-right}
+use Rattle.uplink.proofs.Basics.{not-both}
 use Rattle.history.specs.UplinkModel.{Taken, sameHalf, takenBy, freed, takes}
 
 -- ---- halves and holders

@@ -11,10 +11,11 @@ use lib.ListN.{length, getD, set, length-append}
 use lib.Seq.{append-snoc}
 use borrow.Author.Tests.{eqb-true, leb-true}
 use Rattle.optional.specs.declared.OptU8.{OptU8}
+use Rattle.optional.proofs.Tests.{and-left, and-right}
 use Rattle.tdma_time.specs.declared.TdmaTime.{TdmaTime}
 use Rattle.tdma_time.specs.Time.{timeslot}
 use Rattle.slot_codes.specs.Codes.{grantOctet}
-use Rattle.uplink.proofs.Basics.{not-both, and-left, and-right}
+use Rattle.uplink.proofs.Basics.{not-both}
 use Rattle.mac_pdus.specs.Legal.{absentU8, legalQueued, legalOffered}
 use Rattle.dl_record.specs.Record.{grantRecord, ackRecord, resourceOf}
 use Rattle.dl_queue.specs.Queue.{Item, item}

@@ -5,7 +5,7 @@ use Prim.Native.Nat.{ℕ, suc, _^_, _≤_, _<_}
 use native.Mathlib.Omega.{arith}
 use lib.Dec.{leb, ltb}
 use borrow.Author.Tests.{leb-true, ltb-true}
-use Rattle.uplink.proofs.Basics.{and-left, and-right}
+use Rattle.optional.proofs.Tests.{and-left, and-right}
 use Rattle.history.specs.UplinkCall.{CapacityRequest, question}
 
 pub record Passed (a : CapacityRequest) (queued : ℕ) : Type 0 where

@@ -10,6 +10,7 @@ use lib.Dec.{leb, ltb}
 use lib.ListN.{length, getD, set, length-set, List·getD-map}
 use lib.Seq.{length-paste}
 use borrow.Author.Tests.{eq-eqb, leb-true, ltb-true, le-leb}
+use Rattle.optional.proofs.Tests.{and-left, and-right, and-intro}
 use Rattle.tdma_time.specs.declared.TdmaTime.{TdmaTime}
 use Rattle.tdma_time.specs.Time.{valid, timeslot, nextTime}
 use Rattle.tdma_time.proofs.TimeLaws.{valid-true}
@@ -20,7 +21,6 @@ use Rattle.uplink.specs.UplinkEntry.{Table, emptyEntry, cleared, all, soundTabl
 use Rattle.uplink.specs.Request as uplink
 use Rattle.uplink.specs.Request.{answer, replyNumber}
 use Rattle.uplink.specs.GrantedExactly.{Proper}
-use Rattle.uplink.proofs.Basics.{and-left, and-right, and-intro}
 use Rattle.uplink.proofs.Everywhere.{at-all}
 use Rattle.uplink.proofs.TableLaws.{store-shape}
 use Rattle.uplink.proofs.GrantedExactly.{granted-exactly}
@@ -50,7 +50,7 @@ use Rattle.history.specs.Call.{AckOffer, RecordOffer, recordOf, ackQuest
 use Rattle.history.specs.Queues.{Queues, queueAt, joins, afterRequest, afterAck, afterRecord, numbered}
 use Rattle.history.specs.Station.{cellLoads, Station, stationAfter, stationReply}
 use Rattle.history.specs.Memory.{queueReply, requestReply}
-use Rattle.history.proofs.AnswerTable.{four}
+use Rattle.uplink.proofs.Basics.{four}
 use Rattle.history.proofs.QuestionLaws.{Passed}
 use Rattle.history.proofs.StoredHistory.{GrantFits, grant-passed}
 use Rattle.history.proofs.Asked.{three-yes, request-asked, ack-asked, record-asked}

@@ -8,6 +8,7 @@ use lib.ListN.{length, getD}
 use lib.Dec.{eqb}
 use borrow.Author.Tests.{eqb-true}
 use Rattle.optional.specs.declared.OptU32.{OptU32}
+use Rattle.optional.proofs.Tests.{and-left, and-right}
 use Rattle.tdma_time.specs.Time.{clock}
 use Rattle.tdma_time.proofs.Basics.{All, all-at, all-append, all-map}
 use Rattle.slot_codes.specs.Codes.{slotsWanted, wantsHalf}
@@ -16,7 +17,7 @@ use Rattle.uplink.specs.HalfSlot.{Half, firstHalf, secondHalf, HalfSlot, vacant
 use Rattle.uplink.specs.Search.{Run}
 use Rattle.uplink.specs.Request.{Request, fits, Verdict, noRun, tooLate, grant, capacity, halvesOf, reservedBy}
 use Rattle.uplink.proofs.VerdictLaws.{Near, Granted, verdict-grant, granted-near, granted-fits, granted-length}
-use Rattle.uplink.proofs.Basics.{not-both, and-left, and-right}
+use Rattle.uplink.proofs.Basics.{not-both}
 use Rattle.history.specs.UplinkCall.{CapacityRequest, asked, request, question}
 use Rattle.history.specs.UplinkModel.{UplinkModel, Taken, takenBy, modelView, modelVerdict, reserved, settled, modelAfter}
 use Rattle.history.proofs.ModelLaws.{Free, takes-has, takes-stays}

@@ -8,6 +8,7 @@ use lib.Dec.{eqb, leb}
 use lib.ListN.{length, getD, set}
 use borrow.Author.Tests.{eqb-true, leb-true, lt-ltb, le-leb}
 use Rattle.optional.specs.declared.OptU8.{OptU8}
+use Rattle.optional.proofs.Tests.{and-left, and-right, and-intro}
 use Rattle.tdma_time.specs.declared.TdmaTime.{TdmaTime}
 use Rattle.tdma_time.specs.Time.{Valid, slotOf, timeslot}
 use Rattle.slot_codes.specs.Codes.{grantOctet}
@@ -15,7 +16,6 @@ use Rattle.slot_codes.proofs.CodesLaws.{capacity-below-16, grant-octet-fits}
 use Rattle.uplink.specs.HalfSlot.{View, vacant, firstHalf}
 use Rattle.uplink.specs.UplinkEntry.{tableView, soundCounter, soundCounters}
 use Rattle.uplink.specs.Request.{Request, Verdict, noRun, tooLate, grant, verdict, capacity, draws, markerOf, replyTo, given, answer}
-use Rattle.uplink.proofs.Basics.{and-left, and-right}
 use Rattle.uplink.proofs.VerdictLaws.{verdict-grant}
 use Rattle.uplink.proofs.Everywhere.{all-at}
 use Rattle.mac_pdus.specs.Legal.{fits, optFits}
@@ -23,7 +23,6 @@ use Rattle.dl_record.specs.declared.Kind.{Kind}
 use Rattle.dl_record.specs.declared.Record.{Record}
 use Rattle.dl_record.specs.Record.{grantRecord, ackRecord}
 use Rattle.dl_record.specs.Questions.{legalAddress, presentSdu, soundRecord}
-use Rattle.dl_record.proofs.Tests.{and-both}
 use Rattle.dl_record.proofs.RecordLaws.{grant-sound, ack-sound, offered-sound}
 use Rattle.sdu_store.specs.Cells.{cleanPast, cellOf}
 use Rattle.sdu_store.proofs.CellBits.{length-cellOf, clean-cellOf}
@@ -65,7 +64,7 @@ pub record InCell (y : Item (List ℕ)) : Type 0 where
 pub each-sound : (ys : List (Item (List ℕ))) → All InCell ys → soundItems ys ≡ true
 unfolding soundItems
 each-sound [] h = refl
-each-sound (y ∷ ys) h = and-both (soundPlace true (y .rec) (y .load)) (soundItems ys) (h .0 .sound) (each-sound ys (h .1))
+each-sound (y ∷ ys) h = and-intro (soundPlace true (y .rec) (y .load)) (soundItems ys) (h .0 .sound) (each-sound ys (h .1))
 
 pub each-cells : (ys : List (Item (List ℕ))) → All InCell ys → Cells ys
 unfolding Cells
@@ -94,7 +93,7 @@ pub record GrantFits (a : CapacityRequest) (c d : ℕ) (marker : OptU8) : Type 0
 
 legal-address : (a : CapacityRequest) (queued : ℕ) → Passed a queued → legalAddress (a .kind) (a .number) ≡ true
 unfolding legalAddress
-legal-address a queued p = and-both _ _ (le-leb _ _ (p .kind)) (lt-ltb _ _ (p .number))
+legal-address a queued p = and-intro _ _ (le-leb _ _ (p .kind)) (lt-ltb _ _ (p .number))
 
 marker-six : (ms : List ℕ) (r : Request) → length ms ≡ 4 → soundCounters ms ≡ true → 1 ≤ r .timeslot → r .timeslot ≤ 4 → optFits 6 (markerOf ms r) ≡ true
 unfolding markerOf
@@ -157,7 +156,7 @@ zero-octets = octets-zero 256
 
 in-cell : (r : Record) (c : List ℕ) → soundRecord r ≡ true → cleanPast (r .bits) c ≡ true → length c ≡ 256 → Octets c → InCell (item r c)
 unfolding soundPlace
-in-cell r c a b l o = record { sound = and-both (soundRecord r) (cleanPast (r .bits) c) a b; cell = l; octets = o }
+in-cell r c a b l o = record { sound = and-intro (soundRecord r) (cleanPast (r .bits) c) a b; cell = l; octets = o }
 
 grant-in-cell : (a : CapacityRequest) (c d : ℕ) (marker : OptU8) → GrantFits a c d marker → InCell (item (grantRecord (a .kind) (a .number) (grantOctet c d) marker) zeroCell)
 grant-in-cell a c d marker g = in-cell _ zeroCell (grant-sound (a .kind) (a .number) (grantOctet c d) marker (g .address) (g .octet) (g .six)) zero-clean zero-size zero-octets

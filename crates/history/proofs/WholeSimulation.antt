@@ -9,11 +9,11 @@ use lib.Dec.{eqb, leb, ltb}
 use lib.ListN.{length, set, take}
 use lib.Seq.{take-at, length-take-le}
 use borrow.Author.Tests.{eqb-true, leb-true}
+use Rattle.optional.proofs.Tests.{and-left, and-right}
 use Rattle.bitbuffer.specs.Bits.{bitsOf}
 use Rattle.bitbuffer.proofs.Laws.{length-bitsOf}
 use Rattle.tdma_time.specs.declared.TdmaTime.{TdmaTime}
 use Rattle.tdma_time.specs.Time.{Valid, timeslot, usable}
-use Rattle.uplink.proofs.Basics.{and-left, and-right}
 use Rattle.mac_pdus.specs.Legal.{legalOffered}
 use Rattle.dl_record.specs.Record.{ackRecord, resourceOf}
 use Rattle.dl_record.specs.Questions.{legalAddress, presentSdu}

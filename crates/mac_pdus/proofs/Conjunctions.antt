@@ -1,6 +1,6 @@
 -- Conjunctions of tests, taken apart. The tests are given: a conjunction computes, so they are not found. Assumes nothing.
-use mathlib.Core.Path.{_≡_, refl}
-use mathlib.Core.Bool.{Bool, true, false, _&&_}
+use mathlib.Core.Path.{_≡_}
+use mathlib.Core.Bool.{Bool, true, false, _&&_, and-eq-true-iff}
 use Prim.Native.Nat.{ℕ}
 use native.Mathlib.Omega.{arith}
 
@@ -8,8 +8,7 @@ pub false-not-true : {X : Type 0} → false ≡ true → X
 false-not-true e = absurd (let z : _≡_ {A = ℕ} 0 1 = cc in omega arith)
 
 pub and2 : (a1 a2 : Bool) → a1 && a2 ≡ true → (a1 ≡ true) × (a2 ≡ true)
-and2 true a2 h = (refl, h)
-and2 false a2 h = false-not-true h
+and2 a1 a2 h = and-eq-true-iff a1 a2 .0 h
 
 pub and3 : (a1 a2 a3 : Bool) → a1 && a2 && a3 ≡ true
     → (a1 ≡ true) × (a2 ≡ true) × (a3 ≡ true)

@@ -10,6 +10,7 @@ use lib.Seq.{take-at, drop-at, length-paste}
 use borrow.Author.Tests.{leb-true, le-leb, lt-ltb, le-ltb}
 use Rattle.optional.specs.declared.OptU8.{OptU8}
 use Rattle.optional.specs.declared.OptU16.{OptU16}
+use Rattle.optional.proofs.Tests.{and-right, and-intro}
 use Rattle.tdma_time.specs.declared.TdmaTime.{TdmaTime}
 use Rattle.tdma_time.specs.Time.{Valid, nextTime, slotOf}
 use Rattle.tdma_time.proofs.TimeLaws.{timeOf-valid}
@@ -20,6 +21,7 @@ use Rattle.uplink.specs.UplinkEntry.{Table, FourRowsOfEighteen, emptyTable, tab
 use Rattle.uplink.specs.Request.{Request, Verdict, noRun, tooLate, grant, draws, drawn, verdict, markerOf, markersAfter, tableAfter, countersAfter, given, answer}
 use Rattle.uplink.specs.Request.{tableOf as uplinkTable}
 use Rattle.uplink.specs.GrantedExactly.{Proper}
+use Rattle.uplink.proofs.Basics.{four}
 use Rattle.uplink.proofs.Everywhere.{all-at, at-all}
 use Rattle.uplink.proofs.TableLaws.{empty-shape, store-shape}
 use Rattle.uplink.proofs.ReserveLaws.{reserve-shape}
@@ -31,7 +33,6 @@ use Rattle.dl_record.specs.declared.QueuedHeader.{QueuedHeader}
 use Rattle.dl_record.specs.Record.{emptyRecord, grantRecord, ackRecord, offeredRecord, resourceOf}
 use Rattle.dl_record.specs.Questions.{legalAddress, presentSdu}
 use Rattle.dl_record.proofs.RecordLaws.{is-empty}
-use Rattle.dl_record.proofs.Tests.{and-both, and-right}
 use Rattle.sdu_store.specs.Cells.{cleanPast, cellOf}
 use Rattle.sdu_store.proofs.OctetLaws.{Octets, octets-zero}
 use Rattle.dl_queue.specs.Queue.{Item, zeroCell, enqueued, withCell, recordsOf, cellsOf, Cells}
@@ -59,15 +60,6 @@ use Rattle.sched_core.proofs.StationLaws.{sound-parts, parts-sound}
 use Rattle.sched_core.proofs.QuestionLaws.{right-lengths, timeslot-range, address-number, room-left}
 use Rattle.sched_core.proofs.GrantLaws.{grant-holds}
 use Rattle.sched_core.proofs.QueuesLaws.{record-queued, sdu-queued}
-
--- a list of four is its elements
-four : {A : Type 0} (l : List A) (d : A) → length l ≡ 4 → getD l 0 d ∷ getD l 1 d ∷ getD l 2 d ∷ getD l 3 d ∷ [] ≡ l
-four [] d e = absurd (omega arith)
-four (a ∷ []) d e = absurd (omega arith)
-four (a ∷ b ∷ []) d e = absurd (omega arith)
-four (a ∷ b ∷ x ∷ []) d e = absurd (omega arith)
-four (a ∷ b ∷ x ∷ y ∷ []) d e = refl
-four (a ∷ b ∷ x ∷ y ∷ z ∷ l) d e = absurd (omega arith)
 
 -- a table read row by row is that table
 rows-shape : (tb : Table) → FourRowsOfEighteen tb → FourRowsOfEighteen (getD tb 0 [] ∷ getD tb 1 [] ∷ getD tb 2 [] ∷ getD tb 3 [] ∷ [])
@@ -164,7 +156,7 @@ zeros-cell n d h =
 
 empty-place : soundPlace false emptyRecord zeroCell ≡ true
 unfolding soundPlace
-empty-place = and-both _ (cleanPast 0 zeroCell) is-empty zero-clean
+empty-place = and-intro _ (cleanPast 0 zeroCell) is-empty zero-clean
 
 -- "every place and cell empty"
 pub empty-queue-sound : (k a b : ℕ) → a ≡ 16 * k → b ≡ 4096 * k → soundQueue (zeros k) (replicate a emptyRecord) (zeros b) ≡ true

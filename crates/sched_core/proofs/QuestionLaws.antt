@@ -6,7 +6,7 @@ use Prim.Native.Nat.{ℕ, _-_, _*_, _^_, _≤_, _<_}
 use lib.Dec.{leb, ltb, eqb}
 use lib.ListN.{length, getD}
 use borrow.Author.Tests.{leb-true, ltb-true, eqb-true, eq-eqb, ne-eqb}
-use Rattle.uplink.proofs.Basics.{and-left, and-right}
+use Rattle.optional.proofs.Tests.{and-left, and-right}
 use Rattle.dl_record.specs.Questions.{legalAddress, presentSdu}
 use Rattle.sched_core.specs.Questions.{Memory, areLengthsRight, legalTimeslot, hasRoom}
 

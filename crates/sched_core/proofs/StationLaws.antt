@@ -1,11 +1,11 @@
 -- What question 1 tells of a station. Assumes nothing.
 use mathlib.Core.Path.{_≡_}
 use mathlib.Core.Bool.{true, false, _&&_}
+use Rattle.optional.proofs.Tests.{and-left, and-right}
 use Rattle.tdma_time.specs.declared.TdmaTime.{TdmaTime}
 use Rattle.tdma_time.specs.Time.{Valid, valid}
 use Rattle.tdma_time.proofs.TimeLaws.{true-valid, valid-true}
 use Rattle.uplink.specs.UplinkEntry.{all, soundTable, soundCounters}
-use Rattle.uplink.proofs.Basics.{and-left, and-right}
 use Rattle.sched_core.specs.declared.Station.{Station}
 use Rattle.sched_core.specs.Station.{tableOf, newStation}
 use Rattle.sched_core.specs.Questions.{soundCount, soundStation}

@@ -7,7 +7,8 @@ use Prim.Native.Nat.{ℕ, zero, suc, _+_, _-_, _*_, _/_, _%_, _^_, _<_, _≤_, m
 use native.Mathlib.Nat.{add-zero, zero-div}
 use lib.Dec.{eqb}
 use borrow.Author.Tests.{eqb-true}
-use Rattle.dl_record.proofs.Tests.{lt-or-le, and-left, and-right}
+use Rattle.optional.proofs.Tests.{and-left, and-right}
+use Rattle.dl_record.proofs.Tests.{lt-or-le}
 use native.Mathlib.Omega.{arith}
 use lib.Pow.{pow-pos, split}
 use lib.ListN.{length, drop, take, getD, replicate, length-append, length-replicate, replicate-append-replicate, length-drop, take-append-drop}

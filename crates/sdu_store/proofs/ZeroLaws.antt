@@ -13,7 +13,8 @@ use lib.Pow.{pow-pos, pow-add, shl-shr, mod-pow-add}
 use lib.ListN.{length, drop, getD, drop-of-length-le}
 use lib.Seq.{getD-drop, drop-drop, drop-cons, drop-append-le, drop-at}
 use borrow.Author.Tests.{eqb-true, eq-eqb}
-use Rattle.dl_record.proofs.Tests.{and-assoc, and-left, and-right, and-both, same-test, and-true}
+use Rattle.optional.proofs.Tests.{and-left, and-right, and-intro}
+use Rattle.dl_record.proofs.Tests.{and-assoc, same-test, and-true}
 use Rattle.bitbuffer.specs.Bits.{bitsOf, valueBits}
 use Rattle.bitbuffer.proofs.Laws.{length-valueBits, valueBits-append, length-bitsOf, sum-le}
 use Rattle.bitbuffer.proofs.Octets.{drop-bitsOf}
@@ -22,7 +23,7 @@ use Rattle.sdu_store.specs.Cells.{allZero, cleanPast}
 pub or-zero : (a b : ℕ) → eqb (bitOr a b) 0 ≡ eqb a 0 && eqb b 0
 or-zero a b =
     same-test (eqb (bitOr a b) 0) (eqb a 0 && eqb b 0)
-    (λ e. and-both (eqb a 0) (eqb b 0) (eq-eqb a 0 (omega (arith, eqb-true (bitOr a b) 0 e, or-add-and a b, and-le-l a b, and-le-r a b))) (eq-eqb b 0 (omega (arith, eqb-true (bitOr a b) 0 e, or-add-and a b, and-le-l a b, and-le-r a b))))
+    (λ e. and-intro (eqb a 0) (eqb b 0) (eq-eqb a 0 (omega (arith, eqb-true (bitOr a b) 0 e, or-add-and a b, and-le-l a b, and-le-r a b))) (eq-eqb b 0 (omega (arith, eqb-true (bitOr a b) 0 e, or-add-and a b, and-le-l a b, and-le-r a b))))
     (λ e. eq-eqb (bitOr a b) 0 (omega (arith, eqb-true a 0 (and-left (eqb a 0) (eqb b 0) e), eqb-true b 0 (and-right (eqb a 0) (eqb b 0) e), or-add-and a b)))
 
 -- a turn of the loop that gathers octets, and its end
@@ -47,7 +48,7 @@ zero-valueBits (suc w) x =
     ∙ same-test (eqb (x / 2 ^ w % 2) 0 && eqb (x % 2 ^ w) 0) (eqb (x % 2 ^ suc w) 0)
     (λ e. eq-eqb (x % 2 ^ suc w) 0 (up (eqb-true (x / 2 ^ w % 2) 0 (and-left (eqb (x / 2 ^ w % 2) 0) (eqb (x % 2 ^ w) 0) e)) (eqb-true (x % 2 ^ w) 0 (and-right (eqb (x / 2 ^ w % 2) 0) (eqb (x % 2 ^ w) 0) e))))
     (λ e. let z : x / 2 ^ w % 2 * 2 ^ w + x % 2 ^ w ≡ 0 = sym whole ∙ eqb-true (x % 2 ^ suc w) 0 e in
-    and-both (eqb (x / 2 ^ w % 2) 0) (eqb (x % 2 ^ w) 0) (eq-eqb (x / 2 ^ w % 2) 0 (omega (arith, sum-le (x / 2 ^ w % 2) w (x % 2 ^ w) 0 z))) (eq-eqb (x % 2 ^ w) 0 (omega (arith, z))))
+    and-intro (eqb (x / 2 ^ w % 2) 0) (eqb (x % 2 ^ w) 0) (eq-eqb (x / 2 ^ w % 2) 0 (omega (arith, sum-le (x / 2 ^ w % 2) w (x % 2 ^ w) 0 z))) (eq-eqb (x % 2 ^ w) 0 (omega (arith, z))))
   where
     whole : x % 2 ^ suc w ≡ x / 2 ^ w % 2 * 2 ^ w + x % 2 ^ w
     whole = ap (λ (n : ℕ). x % 2 ^ n) (sym (one-add w)) ∙ mod-pow-add x 1 w

@@ -1,8 +1,8 @@
 -- Small laws of tests and lists that the laws of time use.
 -- Assumes nothing.
-use mathlib.Core.Path.{_≡_, refl, sym}
+use mathlib.Core.Path.{_≡_, refl}
 use mathlib.Core.Logic.{_⊎_, inl, inr, ⊎-elim}
-use mathlib.Core.Bool.{Bool, true, false, _&&_, true≢false}
+use mathlib.Core.Bool.{Bool, true, false}
 use mathlib.Core.List.{List, [], _∷_, _++_, List·Memᴰ, List·Memᴰ·cases-cons, List·Memᴰ·not-nil}
 use Prim.Native.Nat.{ℕ, zero, suc, _+_, _≤_}
 use native.Mathlib.Omega.{arith}
@@ -14,11 +14,6 @@ use lib.ListN.{take, drop}
 pub either : (b : Bool) → (b ≡ true) ⊎ (b ≡ false)
 either true = inl refl
 either false = inr refl
-
--- where both of two tests pass, each does
-pub and-true : (a b : Bool) → a && b ≡ true → (a ≡ true) × (b ≡ true)
-and-true true b h = (refl, h)
-and-true false b h = absurd (true≢false (sym h))
 
 -- ---- every element of a list
 

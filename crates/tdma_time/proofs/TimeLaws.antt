@@ -2,12 +2,11 @@
 -- Assumes nothing.
 use mathlib.Core.Path.{_≡_, refl, sym, ap, _∙_}
 use mathlib.Core.Logic.{_≢_}
-use mathlib.Core.Bool.{Bool, true, false, _&&_, true≢false}
+use mathlib.Core.Bool.{Bool, true, false, _&&_, true≢false, and-eq-true-iff}
 use Prim.Native.Nat.{ℕ, _+_, _-_, _*_, _/_, _%_, _≤_, _<_}
 use native.Mathlib.Omega.{arith}
 use lib.Dec.{leb}
 use borrow.Author.Tests.{le-leb, leb-true}
-use Rattle.tdma_time.proofs.Basics.{and-true}
 use Rattle.tdma_time.specs.declared.TdmaTime.{TdmaTime}
 use Rattle.tdma_time.specs.Time.{Valid, valid, cycle, slotOf, timeslot, frame, multiframe, hyperframe, timeOf, clock, firstOf, nextTime, fourEarlier}
 
@@ -23,12 +22,12 @@ valid-true x v =
 pub true-valid : (x : TdmaTime) → valid x ≡ true → Valid x
 unfolding valid
 true-valid x e =
-    let g = and-true _ _ e in
-    let f = and-true _ _ (g .0) in
-    let d = and-true _ _ (f .0) in
-    let c = and-true _ _ (d .0) in
-    let b = and-true _ _ (c .0) in
-    let a = and-true _ _ (b .0) in
+    let g = and-eq-true-iff _ _ .0 e in
+    let f = and-eq-true-iff _ _ .0 (g .0) in
+    let d = and-eq-true-iff _ _ .0 (f .0) in
+    let c = and-eq-true-iff _ _ .0 (d .0) in
+    let b = and-eq-true-iff _ _ .0 (c .0) in
+    let a = and-eq-true-iff _ _ .0 (b .0) in
     record {
       t-low = leb-true _ _ (a .0);
       t-high = leb-true _ _ (a .1);

@@ -7,8 +7,8 @@ use native.Mathlib.Numerals.{add-one}
 use native.Mathlib.Nat.{not-suc-le-zero, le-of-suc-le-suc}
 use lib.ListN.{length, getD, drop, drop-of-length-le}
 use lib.Seq.{drop-cons}
+use Rattle.optional.proofs.Tests.{and-left, and-right, and-intro}
 use Rattle.uplink.specs.UplinkEntry.{all}
-use Rattle.uplink.proofs.Basics.{and-left, and-right, and-intro}
 
 -- the conjunction of three tests, either way round
 pub and-shift : (a b c : Bool) → (a && b) && c ≡ a && (b && c)

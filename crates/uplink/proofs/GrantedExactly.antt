@@ -12,6 +12,7 @@ use lib.Dec.{leb}
 use borrow.Author.Tests.{eqb-true, eqb-false, le-leb, lt-leb, leb-true, leb-false}
 use Rattle.optional.specs.declared.OptU8.{OptU8}
 use Rattle.optional.specs.declared.OptU32.{OptU32}
+use Rattle.optional.proofs.Tests.{and-left}
 use Rattle.tdma_time.specs.declared.TdmaTime.{TdmaTime}
 use Rattle.tdma_time.specs.Time.{slotOf}
 use Rattle.tdma_time.proofs.Basics.{All, either}
@@ -24,7 +25,7 @@ use Rattle.uplink.specs.Search.{Run, earliest, found, runAt}
 use Rattle.uplink.specs.UplinkEntry.{Table, emptyEntry, SameEntry, entryAt, tableView, withMarker, withHalves, reserve, soundTable, soundCounters, soundCounter, soundMarker}
 use Rattle.uplink.specs.Request.{Request, candidates, fits, earliestRun, Verdict, noRun, tooLate, grant, settle, verdict, capacity, halvesOf, draws, drawn, markerOf, markersAfter, replyTo, replyNumber, tableAfter, countersAfter, tableOf, given, answer}
 use Rattle.uplink.specs.GrantedExactly.{FreeFrom, EarliestFrom, slotOfRun, Reserved, Proper, Demand2}
-use Rattle.uplink.proofs.Basics.{and-left}
+use Rattle.uplink.proofs.Basics.{four}
 use Rattle.uplink.proofs.Everywhere.{all-at}
 use Rattle.uplink.proofs.TableLaws.{cell-same}
 use Rattle.uplink.proofs.RequestLaws.{wanted-pos, whole-halves}
@@ -58,15 +59,6 @@ both-taken (OptU8.Of m) w = refl
 
 free-first : (a b : OptU32) → freeFor false a b ≡ true → vacant a ≡ true
 free-first a b h = and-left (vacant a) (vacant b) h
-
--- a list of four is its elements
-four : {A : Type 0} (l : List A) (d : A) → length l ≡ 4 → getD l 0 d ∷ getD l 1 d ∷ getD l 2 d ∷ getD l 3 d ∷ [] ≡ l
-four [] d e = absurd (omega arith)
-four (a ∷ []) d e = absurd (omega arith)
-four (a ∷ b ∷ []) d e = absurd (omega arith)
-four (a ∷ b ∷ c ∷ []) d e = absurd (omega arith)
-four (a ∷ b ∷ c ∷ k ∷ []) d e = refl
-four (a ∷ b ∷ c ∷ k ∷ m ∷ l) d e = absurd (omega arith)
 
 all-places : (P : ℕ → Type 0) (cs : List ℕ) → ((j : ℕ) → j < length cs → P (getD cs j 0)) → All P cs
 all-places P [] h = tt

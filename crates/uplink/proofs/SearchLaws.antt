@@ -13,8 +13,9 @@ use lib.ListN.{length, take, drop, length-append}
 use lib.Seq.{take-at, drop-append-add, append-snoc, drop-nil}
 use lib.Dec.{eqb}
 use borrow.Author.Tests.{eqb-true, eqb-false, eq-eqb, ne-eqb}
+use Rattle.optional.proofs.Tests.{and-left, and-right, and-intro, and-false}
 use Rattle.tdma_time.proofs.Basics.{either, All}
-use Rattle.uplink.proofs.Basics.{not-both, and-false, and-left, and-right, and-intro}
+use Rattle.uplink.proofs.Basics.{not-both}
 use Rattle.tdma_time.specs.Time.{usable, usableOf}
 use Rattle.uplink.specs.Search.{runs, onePast, earliest, Run, runAt, found, walk}
 

@@ -10,12 +10,13 @@ use lib.Dec.{leb, ltb}
 use borrow.Author.Tests.{leb-true, leb-false, le-leb, lt-ltb}
 use Rattle.optional.specs.declared.OptU8.{OptU8}
 use Rattle.optional.specs.declared.OptU32.{OptU32}
+use Rattle.optional.proofs.Tests.{and-left, and-right, and-intro}
 use Rattle.tdma_time.specs.declared.TdmaTime.{TdmaTime}
 use Rattle.uplink.specs.declared.Entry.{Entry}
 use Rattle.uplink.specs.HalfSlot.{Half, firstHalf, secondHalf, vacant}
 use Rattle.uplink.specs.UplinkEntry.{emptyEntry, Table, FourRowsOfEighteen, emptyTable, entryAt, store, withHalves, withMarker, reserve, cleared, all, soundOwner, soundCounter, soundMarker, soundEntry, soundRow, soundTable, soundCounters}
 use Rattle.uplink.specs.Request.{nextMarker, drawn}
-use Rattle.uplink.proofs.Basics.{not-both, and-left, and-right, and-intro}
+use Rattle.uplink.proofs.Basics.{not-both}
 use Rattle.uplink.proofs.TableLaws.{store-shape, store-same, store-other}
 use Rattle.uplink.proofs.Everywhere.{all-at, at-all}
 

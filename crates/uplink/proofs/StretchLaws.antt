@@ -9,10 +9,11 @@ use native.Mathlib.Omega.{arith}
 use native.Mathlib.Nat.{not-suc-le-zero, le-of-suc-le-suc}
 use lib.ListN.{length, getD, drop, length-drop}
 use lib.Seq.{getD-drop}
+use Rattle.optional.proofs.Tests.{and-left, and-right, and-intro}
 use Rattle.tdma_time.proofs.Basics.{either}
 use Rattle.uplink.specs.Search.{runs, earliest}
 use Rattle.uplink.specs.GrantedExactly.{Stretch, Earliest}
-use Rattle.uplink.proofs.Basics.{not-both, and-left, and-right, and-intro}
+use Rattle.uplink.proofs.Basics.{not-both}
 use Rattle.uplink.proofs.SearchLaws.{Means, earliest-some, earliest-none, some-earliest, none-earliest, runs-length}
 
 -- ---- a run, by its elements
