@@ -75,7 +75,7 @@ fn put_resource(
     requires { ⌜ (from + n ≤ 8 * length (now store)) × (8 * length (now store) < 2 ^ 64) × ResourceWithin h ⌝ }
     ensures { λ r. ⌜ (r ≡ at + length (resourceBits h) + n + fill) × Wrote (bitsOf (now (block .entry))) at (bitsOf (now (block .exit))) r (resourceBits h ++ (part (bitsOf (now (store .entry))) from n ++ fillBits fill)) ⌝ }
 {
-    let a = mac_writer::put_resource(block, at, h);
+    let a = resource_writer::put_resource(block, at, h);
     put_body(block, a, store, from, n, fill)
 }
 

@@ -21,9 +21,9 @@ fn place_is_sound(filled: bool, r: Record, cell: &[u8]) -> bool
     ensures { λ b. ⌜ b ≡ soundPlace filled r (now (cell .entry)) ⌝ }
 {
     if filled {
-        dl_record::record_is_sound(r) & sdu_store::cell_is_clean(cell, r.bits)
+        record_sound::record_is_sound(r) & sdu_store::cell_is_clean(cell, r.bits)
     } else {
-        dl_record::record_is_empty(r) & sdu_store::cell_is_zero(cell)
+        record_sound::record_is_empty(r) & sdu_store::cell_is_zero(cell)
     }
 }
 

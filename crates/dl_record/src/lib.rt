@@ -1,13 +1,13 @@
-// A queued record, and the questions that are put to one.
+// A queued record, and questions 5 to 7.
 use mac_pdus::AddressKind;
 use mac_pdus::MacResource;
 use mac_pdus::OptChanAlloc;
 use optional::OptU8;
 use optional::OptU16;
 ghost use mathlib.Core.Path.{_≡_};
-ghost use Rattle.mac_pdus.specs.Legal.{absentU8, absentU16, absentChanAlloc, optBelow, legalQueued, legalOffered};
+ghost use Rattle.mac_pdus.specs.Legal.{legalQueued, legalOffered};
 ghost use Rattle.dl_record.specs.Record.{emptyRecord, grantRecord, ackRecord, offeredRecord, addressKindOf, resourceOf};
-ghost use Rattle.dl_record.specs.Questions.{isGrant, legalAddress, presentSdu, headerHoldsGrantOnly, holdsGrantOnly, soundAs, soundRecord, isEmpty};
+ghost use Rattle.dl_record.specs.Questions.{legalAddress, presentSdu};
 
 pub enum Kind {
     Grant,
@@ -193,118 +193,4 @@ pub fn sdu_is_present(bits: u16, sdu: &[u8]) -> bool
 {
     let octets = (bits as usize + 7) / 8;
     (bits <= 2048) & (octets <= sdu.len())
-}
-
-fn absent_u8(o: OptU8) -> bool
-    ensures { λ r. ⌜ r ≡ absentU8 o ⌝ }
-{
-    match o {
-        OptU8::Absent => true,
-        OptU8::Of(_) => false,
-    }
-}
-
-fn absent_u16(o: OptU16) -> bool
-    ensures { λ r. ⌜ r ≡ absentU16 o ⌝ }
-{
-    match o {
-        OptU16::Absent => true,
-        OptU16::Of(_) => false,
-    }
-}
-
-fn absent_chan_alloc(o: OptChanAlloc) -> bool
-    ensures { λ r. ⌜ r ≡ absentChanAlloc o ⌝ }
-{
-    match o {
-        OptChanAlloc::Absent => true,
-        OptChanAlloc::Of(_) => false,
-    }
-}
-
-// Whether an optional number is absent or below the limit.
-fn opt_below(limit: u16, o: OptU8) -> bool
-    ensures { λ r. ⌜ r ≡ optBelow limit o ⌝ }
-{
-    match o {
-        OptU8::Absent => true,
-        OptU8::Of(v) => (v as u16) < limit,
-    }
-}
-
-// Whether a record is a grant.
-fn is_grant(k: Kind) -> bool
-    ensures { λ r. ⌜ r ≡ isGrant k ⌝ }
-{
-    match k {
-        Kind::Grant => true,
-        Kind::Ack => false,
-        Kind::Record => false,
-        Kind::Waiting => false,
-        Kind::Started => false,
-    }
-}
-
-// Whether every part of a header but the grant and the marker is 0 or absent.
-fn header_holds_grant_only(h: QueuedHeader) -> bool
-    ensures { λ r. ⌜ r ≡ headerHoldsGrantOnly h ⌝ }
-{
-    let e = h.event_label;
-    let p = h.power_control_element;
-    let c = h.chan_alloc_element;
-    (h.pos_of_grant == 0)
-        & (h.encryption_mode == 0)
-        & (h.random_access_flag == 0)
-        & absent_u16(e)
-        & absent_u8(p)
-        & absent_chan_alloc(c)
-}
-
-// Whether a record has no tag, no SDU, and such a header.
-fn holds_grant_only(r: Record) -> bool
-    ensures { λ b. ⌜ b ≡ holdsGrantOnly r ⌝ }
-{
-    let t = r.tag;
-    let h = r.header;
-    (r.bits == 0) & (r.sent == 0) & absent_u16(t) & header_holds_grant_only(h)
-}
-
-// What question 1 asks of a record of its kind.
-fn sound_as_its_kind(r: Record) -> bool
-    ensures { λ b. ⌜ b ≡ soundAs (r .kind) r ⌝ }
-{
-    let k = r.kind;
-    let h = r.header;
-    let g = h.slot_granting_element;
-    let m = h.usage_marker;
-    match k {
-        Kind::Grant => holds_grant_only(r) & !absent_u8(g) & opt_below(256, g) & opt_below(64, m),
-        Kind::Ack => holds_grant_only(r) & absent_u8(g) & absent_u8(m),
-        Kind::Record => header_is_legal(r) & (r.bits <= 2048) & (r.sent == 0),
-        Kind::Waiting => header_is_legal(r) & (r.bits <= 2048) & (r.sent == 0),
-        Kind::Started => header_is_legal(r) & (r.bits <= 2048) & (r.sent <= r.bits),
-    }
-}
-
-// Question 1 for the record of a filled place.
-pub fn record_is_sound(r: Record) -> bool
-    ensures { λ b. ⌜ b ≡ soundRecord r ⌝ }
-{
-    address_is_legal(r.address_kind, r.number) & sound_as_its_kind(r)
-}
-
-// Question 1 for the record of a place that is not filled.
-pub fn record_is_empty(r: Record) -> bool
-    ensures { λ b. ⌜ b ≡ isEmpty r ⌝ }
-{
-    let k = r.kind;
-    let h = r.header;
-    let g = h.slot_granting_element;
-    let m = h.usage_marker;
-    is_grant(k)
-        & (r.address_kind == 0)
-        & (r.number == 0)
-        & holds_grant_only(r)
-        & absent_u8(g)
-        & absent_u8(m)
 }

@@ -9,7 +9,7 @@ ghost use mathlib.Core.Path.{_≡_};
 ghost use Rattle.mac_pdus.specs.Legal.{absentU8, absentU16, absentChanAlloc, optBelow, labelFits, hasAddress, legalFrame18, legalChanAlloc, legalOptChanAlloc};
 ghost use Rattle.mac_pdus.specs.Legal.{withinWidths, allAbsent, legalParts, legalFields, loneParts, legalLone, queuedKind, legalQueued, legalOffered};
 
-fn absent_u8(o: OptU8) -> bool
+pub fn absent_u8(o: OptU8) -> bool
     ensures { λ r. ⌜ r ≡ absentU8 o ⌝ }
 {
     match o {
@@ -18,7 +18,7 @@ fn absent_u8(o: OptU8) -> bool
     }
 }
 
-fn absent_u16(o: OptU16) -> bool
+pub fn absent_u16(o: OptU16) -> bool
     ensures { λ r. ⌜ r ≡ absentU16 o ⌝ }
 {
     match o {
@@ -27,7 +27,7 @@ fn absent_u16(o: OptU16) -> bool
     }
 }
 
-fn absent_chan_alloc(o: OptChanAlloc) -> bool
+pub fn absent_chan_alloc(o: OptChanAlloc) -> bool
     ensures { λ r. ⌜ r ≡ absentChanAlloc o ⌝ }
 {
     match o {
@@ -37,7 +37,7 @@ fn absent_chan_alloc(o: OptChanAlloc) -> bool
 }
 
 // Whether an optional number is absent or below the limit.
-fn opt_below(limit: u16, o: OptU8) -> bool
+pub fn opt_below(limit: u16, o: OptU8) -> bool
     ensures { λ r. ⌜ r ≡ optBelow limit o ⌝ }
 {
     match o {

@@ -168,12 +168,12 @@ fn plain(length: u8, number: u32) -> MacResource {
 // The reply of the lone writer, and its buffer.
 fn written(at: usize, h: MacResource) {
     let mut s = [0xffu8; 12];
-    let reply = mac_writer::write_header(&mut s, at, h);
+    let reply = lone_writer::write_header(&mut s, at, h);
     show::word(b"written at");
     show::number(at as u64);
     show::word(b":");
     match reply {
-        WriteReply::Refused(r) => show::number(mac_writer::refusal_number(r) as u64),
+        WriteReply::Refused(r) => show::number(lone_writer::refusal_number(r) as u64),
         WriteReply::Next(n) => {
             show::number(0);
             show::number(n as u64);
