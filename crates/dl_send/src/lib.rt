@@ -132,7 +132,7 @@ fn send_all(
     while i < n {
         let r = records[i];
         let place = from[i];
-        let chunk = bs_frag::get_next_chunk(block, at, w, store, first + place as usize, r);
+        let chunk = next_chunk::get_next_chunk(block, at, w, store, first + place as usize, r);
         let outcome = chunk.outcome;
         let tag = r.tag;
         out[left] = stayed(outcome, r);

@@ -7,12 +7,12 @@ use lib.ListN.{length}
 use Rattle.mac_pdus.specs.declared.ResourceHeader.{ResourceHeader}
 use Rattle.mac_pdus.specs.Headers.{resourceBits}
 use Rattle.mac_pdus.specs.Within.{ResourceWithin}
 use Rattle.bs_frag.specs.NextPdu.{headerOf}
 use Rattle.bs_frag.proofs.HeaderLaws.{header-bits, header-bounds, header-within}
 use Rattle.bs_frag.proofs.Laws.{chunk-one, chunk-none, begin-whole, begin-waits, begin-starts, whole-bits, first-bits, take-sdu, whole-sdu}
 use borrow.Author.Needs.{needs}
-use Rattle.bs_frag.proofs.get_resource_chunk.Statement.{statement}
-use Rattle.bs_frag.proofs.get_resource_chunk.Tie as tie
+use Rattle.next_chunk.proofs.get_resource_chunk.Statement.{statement}
+use Rattle.next_chunk.proofs.get_resource_chunk.Tie as tie
 
 put-resource-requires : tie.Need-put-resource-requires
 put-resource-requires c κs =

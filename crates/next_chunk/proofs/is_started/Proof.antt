@@ -1,7 +1,7 @@
 -- Arm by arm. Assumes nothing.
 use borrow.Author.Needs.{needs}
-use Rattle.bs_frag.proofs.is_started.Statement.{statement}
-use Rattle.bs_frag.proofs.is_started.Tie as tie
+use Rattle.next_chunk.proofs.is_started.Statement.{statement}
+use Rattle.next_chunk.proofs.is_started.Tie as tie
 
 returns : tie.Need-returns
 returns c = search needs

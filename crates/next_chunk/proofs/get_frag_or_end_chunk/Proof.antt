@@ -3,10 +3,10 @@ use Prim.Native.Nat.{_-_}
 use mathlib.Core.Path.{refl, sym}
 use native.Mathlib.Omega.{arith}
 use Rattle.bitbuffer.proofs.Laws.{length-bitsOf}
 use Rattle.bs_frag.proofs.Laws.{chunk-one, chunk-none, continue-ends, continue-waits, continue-frags, frag-bits, end-bits, part-sdu}
 use borrow.Author.Needs.{needs}
-use Rattle.bs_frag.proofs.get_frag_or_end_chunk.Statement.{statement}
-use Rattle.bs_frag.proofs.get_frag_or_end_chunk.Tie as tie
+use Rattle.next_chunk.proofs.get_frag_or_end_chunk.Statement.{statement}
+use Rattle.next_chunk.proofs.get_frag_or_end_chunk.Tie as tie
 
 returns : tie.Need-returns
 returns c =

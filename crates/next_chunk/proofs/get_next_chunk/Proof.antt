@@ -1,10 +1,10 @@
 -- A started record goes on, any other begins.
 use Prim.Native.Nat.{_-_}
 use mathlib.Core.Path.{sym, _∙_}
 use Rattle.bs_frag.proofs.Laws.{next-later, next-first}
 use borrow.Author.Needs.{needs}
-use Rattle.bs_frag.proofs.get_next_chunk.Statement.{statement}
-use Rattle.bs_frag.proofs.get_next_chunk.Tie as tie
+use Rattle.next_chunk.proofs.get_next_chunk.Statement.{statement}
+use Rattle.next_chunk.proofs.get_next_chunk.Tie as tie
 
 returns : tie.Need-returns
 returns c =
