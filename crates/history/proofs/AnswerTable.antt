@@ -1,9 +1,7 @@
 -- The table that an answer to a request holds row by row is the table after the request. Assumes nothing.
-use mathlib.Core.Path.{_≡_, refl}
-use mathlib.Core.List.{List, [], _∷_}
+use mathlib.Core.Path.{_≡_}
+use mathlib.Core.List.{List, []}
 use Prim.Native.Nat.{ℕ}
-use native.Mathlib.Omega.{arith}
-use lib.ListN.{length, getD}
 use Rattle.uplink.specs.UplinkEntry.{Table, FourRowsOfEighteen}
 use Rattle.uplink.specs.Request.{Request, Verdict, noRun, tooLate, grant, tableAfter, tableOf, given}
 use Rattle.uplink.proofs.Basics.{four}
