@@ -89,6 +89,8 @@ def real_row(text, stand):
         text = with_or_without_parentheses(pattern.format(**parts), to, text)
 
     # as a value
+    either(r"Array{Q}\.eArr-laws \(Array{Q}\.eInt Syntax\.{W}\) \(Array{Q}\.eInt-laws Syntax\.{W}\) {N}", row + '.element-laws')
+    either(r"Array{Q}\.eArr \(Array{Q}\.eInt Syntax\.{W}\) {N}", row + '.element')
     either(r"Rows{Q}\.arrF {E} {N} 0", row + '.here')
     either(r"Array{Q}\.([rp])Arr {K}", row + r'.\1')
     terms(r"Array{Q}\.arr-yields 𝓤 H A W {K}", row + '.yields 𝓤 H A W')
@@ -119,6 +121,10 @@ def real_text(walks, twin, text):
 
 def real_import(walks, twin, use):
     """An import: the modules that Rattle does not make of a walked function are those written here."""
+    below = walks.below and re.match(r"use Rattle\.%s\.proofs\.([\w.]+)\.(Kinds|Reads)(?: as (\S+))?$" % walks.below.crate, use)
+    if below and below.group(1).replace('.', '::') in walks.below.walked:
+        function, kind, name = below.groups()
+        return 'use Rattle.%s.proofs.%s as %s' % (walks.below.crate, walked_name(function.replace('.', '::')), name or kind)
     found = re.match(r"use Rattle\.%s\.proofs\.([\w.]+)\.(Kinds|Reads|Lts|Tie)(?: as (\S+))?$" % twin, use)
     if not found or found.group(1).replace('.', '::') not in walks.walked:
         return use.replace('Rattle·%s·' % twin, 'Rattle·%s·' % walks.crate)
@@ -274,7 +280,9 @@ def write_mirs(walks):
 
 
 def write_rows(walks):
-    """Rows_S.antt for each struct behind a reference, by tools/rows.txt."""
+    """Rows_S.antt for each struct behind a reference, by tools/rows.txt; a crate above uses those of the crate below."""
+    if walks.below:
+        return
     template = open(os.path.join(os.path.dirname(os.path.abspath(__file__)), 'rows.txt'), encoding='utf8').read()
     for stand in walks.stands:
         whole = stand.path if stand.path.split('::')[0] in walks.deps else walks.crate + '::' + stand.path
@@ -286,7 +294,7 @@ def write_lib(walks):
     """Lib.antt: the author's lines, then those of the derived modules."""
     path = os.path.join(walks.proofs, 'Lib.antt')
     lines = authors_lines(open(path, encoding='utf8').read()) if os.path.exists(path) else []
-    modules = ['Mirs'] + ['Rows_' + stand.name for stand in walks.stands]
+    modules = ['Mirs'] + ['Rows_' + stand.name for stand in walks.stands if not walks.below]
     for function in walks.walked:
         module = walked_name(function)
         if any(os.path.exists(os.path.join(place, module + '.antt')) for place in (walks.stage, walks.proofs)):

@@ -31,6 +31,7 @@ class Walks:
 
     def __init__(self, path, work):
         said = runpy.run_path(path)
+        self.below = Walks(said['BELOW'], work) if 'BELOW' in said else None
         self.crate = said['CRATE']
         self.stands = [Stand(path, **how) for path, how in said['STANDS'].items()]
         self.leaves, self.leaf_calls = said['LEAVES'], said['LEAF_CALLS']
@@ -55,7 +56,8 @@ class Walks:
     def imports(self):
         """The imports of what is written here, for a derivation."""
         own = 'use Rattle.%s.proofs.' % self.crate
-        rows = [own + 'Rows_%s as in-%s' % (stand.name, stand.name) for stand in self.stands]
+        below = 'use Rattle.%s.proofs.' % self.below.crate if self.below else own
+        rows = [below + 'Rows_%s as in-%s' % (stand.name, stand.name) for stand in self.stands]
         return rows + [own + 'Mirs as mirs', 'use borrow.Rule.Local as local']
 
 
@@ -150,10 +152,13 @@ def leaf_source(walks, module, text):
         if name not in walks.leaves and name not in walks.leaf_calls:
             text, at = text[:start] + text[end:], start
             continue
-        twin_body = stub(walks.leaf_calls[name]) if name in walks.leaf_calls else text[body:end]
-        function = text[start:clauses] + plain_clauses(text[clauses:body]) + '\n' + twin_body
+        function = text[start:clauses] + plain_clauses(text[clauses:body]) + '\n'
+        if name in walks.leaves:
+            function += text[body:end]
         for stand in walks.stands:
             function = re.sub(r'(?:\w+::)*\b%s\b' % stand.name, stand.array, function)
+        if name in walks.leaf_calls:
+            function += stub(walks.leaf_calls[name])
         text, at = text[:start] + function + text[end:], start + len(function)
 
 
@@ -268,6 +273,9 @@ def make_workspace(walks, twins):
     below = dependencies(walks)
     for line in below:
         crate = line.split(':')[0].strip()
+        if walks.below and crate == walks.below.crate:
+            make_caller_twin(walks.below, crate, [])
+            continue
         link = '%s/crates/%s' % (walks.work, crate)
         if not os.path.exists(link):
             os.symlink('%s/crates/%s' % (ROOT, crate), link)

@@ -35,4 +35,8 @@ STUBS = {
     'put_record': '',
     'load_64': '[Record::EMPTY; 64]',
     'save_64': '',
+    'ul_process_cap_req': 'request_refused(Refusal::Unsound, s)',
+    'dl_enqueue_random_access_ack': 'refused(Refusal::Unsound, s)',
+    'dl_enqueue_tma': 'refused(Refusal::Unsound, s)',
+    'dl_build_block': 'build_refused(Refusal::Unsound, s)',
 }

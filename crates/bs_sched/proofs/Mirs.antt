@@ -7,13 +7,6 @@ use Rattle.optional.proofs.OptU8.Laws as optional-OptU8-laws
 use Rattle.optional.proofs.OptU16.Laws as optional-OptU16-laws
 use Rattle.optional.proofs.OptU32.Laws as optional-OptU32-laws
 use Rattle.tdma_time.proofs.TdmaTime.Laws as tdma_time-TdmaTime-laws
-use Rattle.slot_codes.proofs.basic_slotgrant.BasicSlotgrant.Laws as slot_codes-basic_slotgrant-BasicSlotgrant-laws
-use Rattle.slot_codes.proofs.basic_slotgrant_cap_alloc.BasicSlotgrantCapAlloc.Laws as slot_codes-basic_slotgrant_cap_alloc-BasicSlotgrantCapAlloc-laws
-use Rattle.slot_codes.proofs.basic_slotgrant_cap_alloc.CapAllocRead.Laws as slot_codes-basic_slotgrant_cap_alloc-CapAllocRead-laws
-use Rattle.slot_codes.proofs.basic_slotgrant_granting_delay.BasicSlotgrantGrantingDelay.Laws as slot_codes-basic_slotgrant_granting_delay-BasicSlotgrantGrantingDelay-laws
-use Rattle.slot_codes.proofs.basic_slotgrant_granting_delay.GrantingDelayRead.Laws as slot_codes-basic_slotgrant_granting_delay-GrantingDelayRead-laws
-use Rattle.slot_codes.proofs.reservation_requirement.ReservationRequirement.Laws as slot_codes-reservation_requirement-ReservationRequirement-laws
-use Rattle.slot_codes.proofs.reservation_requirement.RequirementRead.Laws as slot_codes-reservation_requirement-RequirementRead-laws
 use Rattle.uplink.proofs.Entry.Laws as uplink-Entry-laws
 use Rattle.uplink.proofs.PhyBlockNum.Laws as uplink-PhyBlockNum-laws
 use Rattle.uplink.proofs.AccessAssignUlUsage.Laws as uplink-AccessAssignUlUsage-laws
@@ -82,27 +75,6 @@ optional-OptU32 = optional-OptU32-laws.mir
 
 abbrev pub tdma_time-TdmaTime : Ty
 tdma_time-TdmaTime = tdma_time-TdmaTime-laws.mir
-
-abbrev pub slot_codes-basic_slotgrant-BasicSlotgrant : Ty
-slot_codes-basic_slotgrant-BasicSlotgrant = slot_codes-basic_slotgrant-BasicSlotgrant-laws.mir
-
-abbrev pub slot_codes-basic_slotgrant_cap_alloc-BasicSlotgrantCapAlloc : Ty
-slot_codes-basic_slotgrant_cap_alloc-BasicSlotgrantCapAlloc = slot_codes-basic_slotgrant_cap_alloc-BasicSlotgrantCapAlloc-laws.mir
-
-abbrev pub slot_codes-basic_slotgrant_cap_alloc-CapAllocRead : Ty
-slot_codes-basic_slotgrant_cap_alloc-CapAllocRead = slot_codes-basic_slotgrant_cap_alloc-CapAllocRead-laws.mir
-
-abbrev pub slot_codes-basic_slotgrant_granting_delay-BasicSlotgrantGrantingDelay : Ty
-slot_codes-basic_slotgrant_granting_delay-BasicSlotgrantGrantingDelay = slot_codes-basic_slotgrant_granting_delay-BasicSlotgrantGrantingDelay-laws.mir
-
-abbrev pub slot_codes-basic_slotgrant_granting_delay-GrantingDelayRead : Ty
-slot_codes-basic_slotgrant_granting_delay-GrantingDelayRead = slot_codes-basic_slotgrant_granting_delay-GrantingDelayRead-laws.mir
-
-abbrev pub slot_codes-reservation_requirement-ReservationRequirement : Ty
-slot_codes-reservation_requirement-ReservationRequirement = slot_codes-reservation_requirement-ReservationRequirement-laws.mir
-
-abbrev pub slot_codes-reservation_requirement-RequirementRead : Ty
-slot_codes-reservation_requirement-RequirementRead = slot_codes-reservation_requirement-RequirementRead-laws.mir
 
 abbrev pub uplink-Entry : Ty
 uplink-Entry = uplink-Entry-laws.mir

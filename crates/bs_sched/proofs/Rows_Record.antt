@@ -3,6 +3,7 @@
 --     row, at        the type, and its name behind a reference
 --     here, copies   a local that holds one, and that it is Copy
 --     p, r, yields   a parameter, a result and an argument by value
+--     element        an element of an array that is a parameter, a result or an argument
 --     none           what a read past the end would give: any value serves
 use Prim.Native.Nat.{ℕ}
 use mathlib.Core.Path.{refl}
@@ -12,6 +13,7 @@ use ghost.Atoms.{Atoms}
 use prog.Wp.{Heap}
 use types.Kit.{Given}
 use borrow.Fn.Kind.{PK, RK}
+use borrow.Kind.Array as Array
 use borrow.Kind.Value.{Valued, ValuedLaws, pVal, rVal, reads-as}
 use borrow.Rule.Local.{mem-whole, whole-mem}
 use borrow.Rule.Yields.{Yields, yields-copy}
@@ -82,3 +84,9 @@ p = pVal valued (λ M 𝓤 H A W. laws 𝓤 H A W)
 
 abbrev pub r : {n : ℕ} → RK n
 r = rVal valued (λ M 𝓤 H A W. laws 𝓤 H A W)
+
+abbrev pub element : Array.Elem
+element = Array.eStruct T.the-type L.the-laws L.the-copy
+
+pub element-laws : Array.ElemLawsAll element
+element-laws = Array.eStruct-laws T.the-type L.the-laws L.the-copy L.the-plain

@@ -1,0 +1,39 @@
+-- An entry's outcome with the queue by value. Assumes nothing.
+use mathlib.Core.Path.{_≡_, sym, ap, _∙_}
+use mathlib.Core.List.{List}
+use Prim.Native.Nat.{ℕ}
+use Rattle.optional.specs.declared.OptU16.{OptU16}
+use Rattle.dl_record.specs.declared.Record.{Record}
+use Rattle.dl_record.specs.declared.QueuedHeader.{QueuedHeader}
+use Rattle.dl_record.specs.Record.{emptyHeader}
+use Rattle.sched_core.specs.declared.Reply.{Reply}
+use Rattle.sched_core.specs.declared.RequestReply.{RequestReply}
+use Rattle.sched_core.specs.declared.Answer.{Answer}
+use Rattle.sched_core.specs.declared.RequestAnswer.{RequestAnswer}
+use Rattle.sched_core.specs.declared.CoreAnswer.{CoreAnswer}
+use Rattle.sched_core.specs.declared.RequestCoreAnswer.{RequestCoreAnswer}
+use Rattle.sched_core.specs.declared.BuildCoreAnswer.{BuildCoreAnswer}
+use Rattle.sched_core.specs.Questions.{Memory, memory}
+use Rattle.sched_core.specs.Calls.{Outcome, outcome, requestOutcome, queueOutcome, BuildOutcome, BuildAnswered, tmaCall}
+use Rattle.bs_sched.specs.declared.BuildAnswer.{BuildAnswer}
+use Rattle.bs_sched.specs.Entries.{BuildLeft, buildLeft, leftBy}
+
+pub request-answered : (r : RequestCoreAnswer) (a : RequestAnswer) (rs : List Record) (st : List ℕ) (o : Outcome RequestReply)
+    → r ≡ record { reply = a .reply; station = a .station; records = rs } → outcome (a .reply) (memory (a .station) rs st) ≡ o → requestOutcome r st ≡ o
+request-answered r a rs st o e h = ap (λ (x : RequestCoreAnswer). requestOutcome x st) e ∙ h
+
+pub record-queued : (r : CoreAnswer) (a : Answer) (rs : List Record) (st : List ℕ) (m : Memory) (t kind n : ℕ) (tag : OptU16) (header : QueuedHeader)
+    (bits : ℕ) (sdu : List ℕ) → r ≡ record { reply = a .reply; station = a .station; records = rs } → header ≡ emptyHeader
+    → outcome (a .reply) (memory (a .station) rs st) ≡ tmaCall m t kind n tag header bits sdu → queueOutcome r st ≡ tmaCall m t kind n tag emptyHeader bits sdu
+record-queued r a rs st m t kind n tag header bits sdu e none h =
+    ap (λ (x : CoreAnswer). queueOutcome x st) e ∙ h ∙ ap (λ (x : QueuedHeader). tmaCall m t kind n tag x bits sdu) none
+
+pub build-answered : (r : BuildCoreAnswer) (a : BuildAnswer) (rs : List Record) (st block : List ℕ) (o : BuildOutcome)
+    → r ≡ record { reply = a .reply; tags = a .tags; «tag_count» = a .«tag_count»; station = a .station; records = rs }
+    → buildLeft a rs st block ≡ leftBy o → BuildAnswered o r st block
+build-answered r a rs st block o e h =
+    record {
+      answer = e ∙ ap (λ (x : BuildLeft). record { reply = x .answer .reply; tags = x .answer .tags; «tag_count» = x .answer .«tag_count»; station = x .answer .station; records = x .queue }) h;
+      store = ap (λ (x : BuildLeft). x .store) h;
+      block = ap (λ (x : BuildLeft). x .block) h;
+    }

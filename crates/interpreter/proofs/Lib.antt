@@ -1,0 +1,10 @@
+pub mod TextLaws
+pub mod CallLaws
+pub mod TagLaws
+pub mod StepLaws
+pub mod RunLaws
+-- derived by tools/derive.py:
+pub mod Mirs
+pub mod Walked_calls_request
+pub mod Walked_calls_queue_record
+pub mod Walked_calls_build

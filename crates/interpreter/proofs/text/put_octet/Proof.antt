@@ -1,0 +1,27 @@
+-- Two digits, one after the other. Assumes nothing.
+use mathlib.Core.Path.{_≡_, sym, ap₂, _∙_, subst}
+use mathlib.Core.List.{List, [], _∷_}
+use Prim.Native.Nat.{ℕ, _/_, _%_}
+use native.Mathlib.Omega.{arith}
+use borrow.Author.Needs.{needs}
+use Rattle.io.specs.Digits.{digits}
+use Rattle.bitbuffer.specs.Bits.{Wrote}
+use Rattle.bitbuffer.proofs.Laws.{then}
+use Rattle.interpreter.proofs.TextLaws.{octet-written}
+use Rattle.interpreter.proofs.text.put_octet.Statement.{statement}
+use Rattle.interpreter.proofs.text.put_octet.Tie as tie
+
+put-requires-2 : tie.Need-put-requires-2
+put-requires-2 c κs = search needs
+
+returns : tie.Need-returns
+returns c =
+    let s = c .before .before in
+    let f = s .before .before .before .before in
+    let d = f .before .before in
+    (omega arith, octet-written (d .before .before .before .args .x) _ _ (omega arith) (d .before .hex-digit .ensures) (d .hex-digit2 .ensures) (f .put .ensures .1) (s .put2 .ensures .1))
+
+pub put-octet-spec : {M : Type 1} → statement M
+put-octet-spec =
+    tie.close
+    (tie.spec (λ c κs. search needs) (λ c κs. search needs) (λ c κs. search needs) put-requires-2 (λ c. search needs) returns)

@@ -1,0 +1,126 @@
+// The calls on a queue by value: each lends it to the entry of `bs_sched`.
+use bs_sched::BuildAnswer;
+use dl_record::QueuedHeader;
+use dl_record::Record;
+use optional::OptU16;
+use sched_core::Answer;
+use sched_core::BuildCoreAnswer;
+use sched_core::CoreAnswer;
+use sched_core::RequestAnswer;
+use sched_core::RequestCoreAnswer;
+use sched_core::Station;
+ghost use mathlib.Core.Path.{_≡_};
+ghost use Rattle.dl_record.specs.Record.{emptyHeader};
+ghost use Rattle.optional.specs.declared.OptU16.{OptU16};
+ghost use Rattle.sched_core.specs.Questions.{memory};
+ghost use Rattle.sched_core.specs.Calls.{requestCall, tmaCall, buildCall, requestOutcome, queueOutcome, BuildAnswered};
+
+// An answer with the queue after the call.
+fn request_left(a: RequestAnswer, records: [Record; 64]) -> RequestCoreAnswer
+    ensures { λ r. ⌜ r ≡ record { reply = a .reply; station = a .station; records = records } ⌝ }
+{
+    let reply = a.reply;
+    let station = a.station;
+    RequestCoreAnswer {
+        reply: reply,
+        station: station,
+        records: records,
+    }
+}
+
+fn queue_left(a: Answer, records: [Record; 64]) -> CoreAnswer
+    ensures { λ r. ⌜ r ≡ record { reply = a .reply; station = a .station; records = records } ⌝ }
+{
+    let reply = a.reply;
+    let station = a.station;
+    CoreAnswer {
+        reply: reply,
+        station: station,
+        records: records,
+    }
+}
+
+fn build_left(a: BuildAnswer, records: [Record; 64]) -> BuildCoreAnswer
+    ensures { λ r. ⌜ r ≡ record { reply = a .reply; tags = a .tags; «tag_count» = a .«tag_count»; station = a .station; records = records } ⌝ }
+{
+    let reply = a.reply;
+    let tags = a.tags;
+    let station = a.station;
+    BuildCoreAnswer {
+        reply: reply,
+        tags: tags,
+        tag_count: a.tag_count,
+        station: station,
+        records: records,
+    }
+}
+
+// A header with no part.
+fn empty_header() -> QueuedHeader
+    ensures { λ r. ⌜ r ≡ emptyHeader ⌝ }
+{
+    let r = Record::EMPTY;
+    r.header
+}
+
+// A request for capacity.
+pub fn request(
+    s: Station,
+    records: [Record; 64],
+    store: &[u8],
+    timeslot: u8,
+    code: u8,
+    kind: u8,
+    number: u32,
+) -> RequestCoreAnswer
+    ensures { λ r. ⌜ requestOutcome r (now (store .entry)) ≡ requestCall (memory s records (now (store .entry))) timeslot code kind number ⌝ }
+{
+    let mut queue = records;
+    let a = bs_sched::ul_process_cap_req(s, &mut queue, store, timeslot, code, kind, number);
+    request_left(a, queue)
+}
+
+// A record is queued with its SDU: a tag, and no other header part.
+pub fn queue_record(
+    s: Station,
+    records: [Record; 64],
+    store: &mut [u8],
+    timeslot: u8,
+    kind: u8,
+    number: u32,
+    tag: u16,
+    bits: u16,
+    sdu: &[u8],
+) -> CoreAnswer
+    ensures { λ r. ⌜ queueOutcome r (now (store .exit)) ≡ tmaCall (memory s records (now (store .entry))) timeslot kind number (OptU16.Of tag) emptyHeader bits (now (sdu .entry)) ⌝ }
+{
+    let mut queue = records;
+    let header = empty_header();
+    let a = bs_sched::dl_enqueue_tma(
+        s,
+        &mut queue,
+        store,
+        timeslot,
+        kind,
+        number,
+        OptU16::Of(tag),
+        header,
+        bits,
+        sdu,
+    );
+    queue_left(a, queue)
+}
+
+// The block of the current slot is built.
+pub fn build(
+    s: Station,
+    records: [Record; 64],
+    store: &mut [u8],
+    block: &mut [u8],
+) -> BuildCoreAnswer
+    ensures { λ r. ⌜ BuildAnswered (buildCall (memory s records (now (store .entry))) (now (block .entry))) r (now (store .exit)) (now (block .exit)) ⌝ }
+{
+    let mut queue = records;
+    let a = bs_sched::dl_build_block(s, &mut queue, store, block);
+    build_left(a, queue)
+}

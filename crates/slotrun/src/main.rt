@@ -1,0 +1,168 @@
+// Reads commands on standard input, does them, and prints a line for each (document 01, "Cases").
+use dl_record::Record;
+use interpreter::RunAnswer;
+use libc::STDIN_FILENO;
+use libc::STDOUT_FILENO;
+use sched_core::Station;
+use tdma_time::TdmaTime;
+ghost use Prim.Native.Nat.{_*_, _^_, _<_, _≤_};
+ghost use mathlib.Core.Path.{_≡_};
+ghost use lib.ListN.{length};
+
+// What a turn leaves: the station and its queue, how many octets of the input are kept, and whether there may be more.
+struct Turn {
+    station: Station,
+    queue: [Record; 64],
+    held: usize,
+    goes_on: bool,
+}
+
+// "Until a first 54 is accepted the station is new at h 0, m 1, f 1, t 1"
+fn start() -> Station {
+    let time = TdmaTime {
+        t: 1,
+        f: 1,
+        m: 1,
+        h: 0,
+    };
+    let a = bs_sched::new(time);
+    a.station
+}
+
+// Is the command at `at` unknown?
+fn is_unknown(input: &[u8], at: usize) -> bool {
+    if at < input.len() {
+        let command = interpreter::command_of(input[at]);
+        return !interpreter::is_known(command);
+    }
+    false
+}
+
+// Moves the octets from `from` up to `to` to the front, and answers how many.
+fn keep_rest(input: &mut [u8], from: usize, to: usize) -> usize
+    requires { ⌜ to ≤ length (now input) ⌝ }
+    ensures { λ r. ⌜ r ≤ to ⌝ }
+{
+    let mut at = from;
+    let mut i = 0;
+    while at < to {
+        input[i] = input[at];
+        at += 1;
+        i += 1;
+    }
+    i
+}
+
+// Reads once behind the octets that are held, and answers how many there are then.
+fn read_more(input: &mut [u8], held: usize) -> usize
+    requires { ⌜ held ≤ length (now input) ⌝ }
+    ensures { λ r. ⌜ (held ≤ r) × (r ≤ length (now (input .entry))) ⌝ }
+{
+    let size = input.len();
+    let got = libc::read(STDIN_FILENO, &mut input[held..]);
+    let n = io::count(got, &input[held..]);
+    if size - held < n {
+        return size;
+    }
+    held + n
+}
+
+// Runs the commands that are whole, and prints what they print.
+fn run_and_print(
+    station: Station,
+    queue: [Record; 64],
+    store: &mut [u8],
+    stage: &mut [u8],
+    input: &[u8],
+    out: &mut [u8],
+) -> RunAnswer
+    requires { ⌜ (length (now store) ≡ 16384) × (length (now stage) ≡ 256) × (173 * length (now input) ≤ length (now out)) × (length (now out) < 2 ^ 64) ⌝ }
+{
+    let r = interpreter::run(station, queue, store, stage, input, out);
+    let count = r.count;
+    io::write_all(STDOUT_FILENO, &out[..count]);
+    r
+}
+
+// "An unknown or cut command prints E and ends."
+fn goes_on(input: &[u8], taken: usize, more: bool) -> bool {
+    if more & !is_unknown(input, taken) {
+        return true;
+    }
+    if taken < input.len() {
+        io::write_all(STDOUT_FILENO, b"E\n");
+    }
+    false
+}
+
+// One turn.
+fn read_and_run(
+    station: Station,
+    queue: [Record; 64],
+    store: &mut [u8],
+    stage: &mut [u8],
+    input: &mut [u8],
+    held: usize,
+    out: &mut [u8],
+) -> Turn
+    requires { ⌜ (length (now store) ≡ 16384) × (length (now stage) ≡ 256) × (held ≤ length (now input)) × (173 * length (now input) ≤ length (now out)) × (length (now out) < 2 ^ 64) ⌝ }
+    ensures { λ r. ⌜ r .held ≤ length (now (input .entry)) ⌝ }
+{
+    let all = read_more(input, held);
+    let r = run_and_print(station, queue, store, stage, &input[..all], out);
+    let taken = r.taken;
+    let more = goes_on(&input[..all], taken, held < all);
+    let next = r.station;
+    let left = r.queue;
+    let kept = keep_rest(input, taken, all);
+    Turn {
+        station: next,
+        queue: left,
+        held: kept,
+        goes_on: more,
+    }
+}
+
+fn empty_store() -> [u8; 16384]
+    ensures { λ r. ⌜ 16384 ≡ length r ⌝ }
+{
+    [0; 16384]
+}
+
+// "A staged SDU is 256 octets, all zero at the start."
+fn empty_stage() -> [u8; 256]
+    ensures { λ r. ⌜ 256 ≡ length r ⌝ }
+{
+    [0; 256]
+}
+
+fn main() {
+    let mut station = start();
+    let mut queue = [Record::EMPTY; 64];
+    let mut store = empty_store();
+    let mut stage = empty_stage();
+    let mut input = empty_stage();
+    let mut out = io::large_buffer();
+    let mut held = 0;
+    let mut turns = u64::MAX;
+    while turns > 0 {
+        turns -= 1;
+        let x = read_and_run(
+            station,
+            queue,
+            &mut store,
+            &mut stage,
+            &mut input,
+            held,
+            &mut out,
+        );
+        if !x.goes_on {
+            return;
+        }
+        let next = x.station;
+        let left = x.queue;
+        station = next;
+        queue = left;
+        held = x.held;
+    }
+}
