@@ -1,0 +1,61 @@
+// `slotrun`'s interpreter for a host that is not Rattle: a whole input at once, on a station of its own.
+use dl_record::Record;
+use sched_core::Station;
+use tdma_time::TdmaTime;
+ghost use mathlib.Core.Path.{_≡_};
+ghost use mathlib.Core.List.{List};
+ghost use Prim.Native.Nat.{_-_, _^_, _<_, _≤_, _*_};
+ghost use lib.ListN.{length, replicate};
+ghost use Rattle.dl_record.specs.Record.{emptyRecord};
+ghost use Rattle.sched_core.specs.Station.{newStation};
+ghost use Rattle.slotrun_c.specs.Whole.{firstTime, Whole};
+
+// "Until a first 54 is accepted the station is new at h 0, m 1, f 1, t 1"
+fn start() -> Station
+    ensures { λ r. ⌜ r ≡ newStation firstTime ⌝ }
+{
+    let time = TdmaTime {
+        t: 1,
+        f: 1,
+        m: 1,
+        h: 0,
+    };
+    let a = bs_sched::new(time);
+    a.station
+}
+
+fn empty_queue() -> [Record; 64]
+    ensures { λ r. ⌜ r ≡ replicate 64 emptyRecord ⌝ }
+{
+    [Record::EMPTY; 64]
+}
+
+fn empty_store() -> [u8; 16384]
+    ensures { λ r. ⌜ r ≡ replicate 16384 0 ⌝ }
+{
+    [0; 16384]
+}
+
+// "A staged SDU is 256 octets, all zero at the start."
+fn empty_stage() -> [u8; 256]
+    ensures { λ r. ⌜ r ≡ replicate 256 0 ⌝ }
+{
+    [0; 256]
+}
+
+// Does the commands at the front of the input, as many as are whole, and answers how many octets they print, which stand at the front
+// of `out`. Where `out` has not 173 octets for each of the input it answers the greatest number, and leaves `out`.
+#[no_mangle]
+pub extern "C" fn slotrun_run(input: &[u8], out: &mut [u8]) -> u64
+    ensures { λ r. ⌜ Whole (now (input .entry)) (now (out .entry)) (now (out .exit)) r ⌝ }
+{
+    if out.len() / 173 < input.len() {
+        return u64::MAX;
+    }
+    let station = start();
+    let queue = empty_queue();
+    let mut store = empty_store();
+    let mut stage = empty_stage();
+    let r = interpreter::run(station, queue, &mut store, &mut stage, input, out);
+    r.count as u64
+}

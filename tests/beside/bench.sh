@@ -1,0 +1,21 @@
+#!/bin/sh
+# Beside the gate: the times of docs/BENCHMARKS.md. `slotrun`'s interpreter as a static library and the published Rust, in one program,
+# on the same streams. It needs cargo, and the Rust with its driver in ../shared/oracle; where that is absent it says so and does nothing.
+# usage: bench.sh [STREAMS]     STREAMS: how many random streams of 300 commands are timed whole (8)
+set -eu
+cd "$(dirname "$0")/../.."
+shared=$(cd .. && pwd)/shared
+[ -d "$shared/oracle" ] || { echo "bench: ../shared/oracle is not there, nothing timed"; exit 0; }
+rt staticlib slotrun_c > /dev/null
+work=$(mktemp -d)
+trap 'rm -rf "$work"' EXIT
+cp -r "$shared/oracle" "$work/oracle"
+cp -r bench "$work/oracle/crates/beside"
+sed -i 's|"crates/bench",|"crates/bench", "crates/beside",|' "$work/oracle/Cargo.toml"
+export FLOW_SRC="$shared/docs/src/crates" CARGO_TARGET_DIR="$work/build"
+export RUSTFLAGS="-C link-arg=$PWD/target/staticlib/libslotrun_c.a"
+cargo build --quiet --offline --profile fast --manifest-path "$work/oracle/Cargo.toml" -p beside
+unset RUSTFLAGS
+cargo build --quiet --offline --release --manifest-path "$work/oracle/Cargo.toml" -p oracle
+"$work/build/release/gen" 1 --count "${1:-8}" --commands 300 --dir "$work/streams"
+"$work/build/fast/beside" "$work"/streams/*.bin
