@@ -3,7 +3,7 @@
 CRATE = 'bs_sched'
 
 # Each struct behind a reference, with the array of numbers that stands for it while the borrow checker derives: `count` numbers, in all as
-# many octets as the struct has in memory. `rt mir bs_sched` shows that size as the factor of the index in record_at, `(int 64 44)`: 44
+# many octets as the struct has in memory. `rt mir bs_sched` shows that size as the factor of the index in put_record, `(int 64 44)`: 44
 # octets, [u16; 22]. No parameter or local of the crate may have the type [u16; 22] itself. When the record changes, antt refuses the derived
 # files: run derive.py again. When its size changes, derive.py stops and says the new one: correct `count` here and in LEAF_CALLS first.
 # `none` is a value of the type, for a read past the end, and `use` the line that imports it.
@@ -17,7 +17,7 @@ STANDS = {
 }
 
 # The functions that read and write whole elements (`q[i]`, `q[i] = r`). In their twin the array stands wherever the struct's name does.
-LEAVES = ['record_at', 'put_record']
+LEAVES = ['put_record', 'load_64']
 
 # What the leaves call, of this crate: its body in their twin, any value of its type.
 LEAF_CALLS = {'empty_record': '[0u16; 22]'}
@@ -25,13 +25,12 @@ LEAF_CALLS = {'empty_record': '[0u16; 22]'}
 # Their callers, by level: each calls covered functions and derived ones of lower levels, and of a reference to such structs it takes
 # nothing else but the length.
 LEVELS = [
-    ['load_64', 'save_64'],
+    ['save_64'],
     ['ul_process_cap_req', 'dl_enqueue_random_access_ack', 'dl_enqueue_tma', 'dl_build_block'],
 ]
 
 # For a derived function that others call: its body in the twin of its callers, any value of its type.
 STUBS = {
-    'record_at': 'Record::EMPTY',
     'put_record': '',
     'load_64': '[Record::EMPTY; 64]',
     'save_64': '',

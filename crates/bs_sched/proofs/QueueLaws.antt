@@ -5,7 +5,8 @@ use native.Mathlib.Nat.{not-suc-le-zero, le-of-suc-le-suc}
 use native.Mathlib.Numerals.{add-one}
 use native.Mathlib.Omega.{arith}
 use mathlib.Core.List.{List, [], _∷_, _++_}
-use lib.ListN.{length, getD, set, take, drop, replicate, length-set, drop-of-length-le}
+use lib.ListN.{length, getD, set, take, drop, replicate, length-set, drop-of-length-le, getD-replicate, List·getD-eq-default}
+use lib.Seq.{getD-set-other, set-getD}
 use Rattle.dl_record.specs.declared.Record.{Record}
 use Rattle.dl_record.specs.Record.{emptyRecord}
 use Rattle.bs_sched.specs.Queue.{recordAt, copied, first64}
@@ -23,6 +24,21 @@ none-yet src dst = refl
 pub one-more : (src dst l : List Record) (i : ℕ) (x : Record) → l ≡ copied src i dst → x ≡ recordAt src i → set l i x ≡ copied src (i + 1) dst
 unfolding copied
 one-more src dst l i x e h = rw (add-one, e, h)
+
+-- what stands behind the first n is left
+untouched : (src dst : List Record) (n j : ℕ) → n ≤ j → getD (copied src n dst) j emptyRecord ≡ getD dst j emptyRecord
+unfolding copied
+untouched src dst zero j h = refl
+untouched src dst (suc n) j h = getD-set-other (copied src n dst) n j (recordAt src n) emptyRecord (λ e. omega (arith, h, e)) ∙ untouched src dst n j (omega (arith, h))
+
+-- past the end of src there is nothing to store over the empty record
+pub past-more : (src l : List Record) (i : ℕ) → l ≡ copied src i (replicate 64 emptyRecord) → length src ≤ i → i < 64 → l ≡ copied src (i + 1) (replicate 64 emptyRecord)
+unfolding copied
+past-more src l i e past inside =
+    let all : List Record = copied src i (replicate 64 emptyRecord) in
+    let there : getD all i emptyRecord ≡ recordAt src i =
+    untouched src (replicate 64 emptyRecord) i i (omega arith) ∙ getD-replicate 64 i emptyRecord emptyRecord inside ∙ sym (List·getD-eq-default src emptyRecord past) in
+    e ∙ sym (set-getD all i emptyRecord) ∙ ap (set all i) there ∙ ap (λ (n : ℕ). copied src n (replicate 64 emptyRecord)) (sym (add-one i))
 
 pub all-done : (n : ℕ) (src dst l : List Record) (i : ℕ) → l ≡ copied src i dst → i ≤ n → n ≤ i → l ≡ copied src n dst
 all-done n src dst l i e below above = let k : i ≡ n = omega arith in e ∙ ap (λ (j : ℕ). copied src j dst) k

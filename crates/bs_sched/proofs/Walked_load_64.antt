@@ -2,8 +2,6 @@
 -- `bs_sched::load_64`: the kinds of its parameters, and its contract as its callers read it.
 use Rattle.bs_sched.proofs.Rows_Record as in-Record
 use Rattle.bs_sched.proofs.load_64
-use Rattle.dl_record.proofs.Record
-use Rattle.dl_record.proofs.Record.Laws
 use base.Logic
 use borrow.Fn.Kinds
 use borrow.Fn.Learn
@@ -24,8 +22,7 @@ abbrev pub kinds : List.List (Kinds.PK 1)
 kinds = (ShrSlice.pShrS in-Record.row 0 tt) ∷ []
 
 abbrev pub result : Kinds.RK 1
-result = Array.rArr (Array.eStruct Record.the-type Laws.the-laws Laws.the-copy) (Array.eStruct-laws Record.the-type Laws.the-laws Laws.the-copy
-    Laws.the-plain) 64
+result = Array.rArr in-Record.element in-Record.element-laws 64
 
 abbrev pub Ghost : Type 0
 Ghost = Unit {0}

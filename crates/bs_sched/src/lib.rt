@@ -22,7 +22,7 @@ ghost use Rattle.sched_core.specs.declared.RequestReply.{RequestReply};
 ghost use Rattle.sched_core.specs.declared.BuildReply.{BuildReply};
 ghost use Rattle.sched_core.specs.Questions.{memory};
 ghost use Rattle.sched_core.specs.Calls.{answerOf, outcome, newCall, advanceCall, ownerCall, usageCall, requestCall, ackCall, tmaCall, buildCall};
-ghost use Rattle.bs_sched.specs.Queue.{recordAt, first64, copied};
+ghost use Rattle.bs_sched.specs.Queue.{first64, copied};
 ghost use Rattle.bs_sched.specs.Entries.{requestAnswerOf, buildAnswerOf, buildLeft, leftBy};
 
 // What a build answers: the reply, the tags of the records that are finished, and the station after the call.
@@ -38,17 +38,6 @@ fn empty_record() -> Record
     ensures { λ r. ⌜ r ≡ emptyRecord ⌝ }
 {
     Record::EMPTY
-}
-
-// The record at place i, or the empty one past the end.
-pub fn record_at(queue: &[Record], i: usize) -> Record
-    ensures { λ r. ⌜ r ≡ recordAt (now (queue .entry)) i ⌝ }
-{
-    if i < queue.len() {
-        queue[i]
-    } else {
-        empty_record()
-    }
 }
 
 // Stores r at place i; past the end nothing.
@@ -68,7 +57,9 @@ pub fn load_64(queue: &[Record]) -> [Record; 64]
     let mut records = [empty; 64];
     let mut i = 0;
     while i < 64 {
-        records[i] = record_at(queue, i);
+        if i < queue.len() {
+            records[i] = queue[i];
+        }
         i += 1;
     }
     records

@@ -1,7 +1,6 @@
 -- Derived by `python3 tools/derive.py`: run it again, do not edit.
 -- `bs_sched::load_64`: its needs, at its contract.
 use Rattle.bs_sched.proofs.Walked_load_64 as Kinds
-use Rattle.bs_sched.proofs.Walked_record_at as Reads''
 use Rattle.bs_sched.proofs.empty_record.Met
 use Rattle.bs_sched.proofs.empty_record.Reads
 use Rattle.bs_sched.proofs.empty_record.Symbol
@@ -9,8 +8,6 @@ use Rattle.bs_sched.proofs.load_64.Code
 use Rattle.bs_sched.proofs.load_64.Key
 use Rattle.bs_sched.proofs.load_64.Proof.Lts
 use Rattle.bs_sched.proofs.load_64.Statement
-use Rattle.bs_sched.proofs.record_at.Met as Met'
-use Rattle.bs_sched.proofs.record_at.Symbol as Symbol'
 use borrow.Fn.Run
 use borrow.Fn.Written
 use contract.Running
@@ -22,69 +19,71 @@ abbrev pub MeasureT-loop : Type 0
 MeasureT-loop = Lts.MeasureT-loop
 
 abbrev pub Start : (Inv : InvT-loop) → (μ : MeasureT-loop) → Type 0
-Start = λ Inv μ. Lts.Start (Reads.Asked, Reads.Learnt, Reads''.Asked, Reads''.Learnt) Kinds.Pre Kinds.Post Inv μ
+Start = λ Inv μ. Lts.Start (Reads.Asked, Reads.Learnt) Kinds.Pre Kinds.Post Inv μ
 
 abbrev pub After-empty-record : (Inv : InvT-loop) → (μ : MeasureT-loop) → Type 0
-After-empty-record = λ Inv μ. Lts.After-empty-record (Reads.Asked, Reads.Learnt, Reads''.Asked, Reads''.Learnt) Kinds.Pre Kinds.Post Inv μ
+After-empty-record = λ Inv μ. Lts.After-empty-record (Reads.Asked, Reads.Learnt) Kinds.Pre Kinds.Post Inv μ
 
 abbrev pub At-loop : (Inv : InvT-loop) → (μ : MeasureT-loop) → Type 0
-At-loop = λ Inv μ. Lts.At-loop (Reads.Asked, Reads.Learnt, Reads''.Asked, Reads''.Learnt) Kinds.Pre Kinds.Post Inv μ
+At-loop = λ Inv μ. Lts.At-loop (Reads.Asked, Reads.Learnt) Kinds.Pre Kinds.Post Inv μ
 
 abbrev pub In-loop : (Inv : InvT-loop) → (μ : MeasureT-loop) → Type 0
-In-loop = λ Inv μ. Lts.In-loop (Reads.Asked, Reads.Learnt, Reads''.Asked, Reads''.Learnt) Kinds.Pre Kinds.Post Inv μ
+In-loop = λ Inv μ. Lts.In-loop (Reads.Asked, Reads.Learnt) Kinds.Pre Kinds.Post Inv μ
 
 abbrev pub After-loop : (Inv : InvT-loop) → (μ : MeasureT-loop) → Type 0
-After-loop = λ Inv μ. Lts.After-loop (Reads.Asked, Reads.Learnt, Reads''.Asked, Reads''.Learnt) Kinds.Pre Kinds.Post Inv μ
+After-loop = λ Inv μ. Lts.After-loop (Reads.Asked, Reads.Learnt) Kinds.Pre Kinds.Post Inv μ
 
-abbrev pub After-record-at : (Inv : InvT-loop) → (μ : MeasureT-loop) → Type 0
-After-record-at = λ Inv μ. Lts.After-record-at (Reads.Asked, Reads.Learnt, Reads''.Asked, Reads''.Learnt) Kinds.Pre Kinds.Post Inv μ
+abbrev pub Then1 : (Inv : InvT-loop) → (μ : MeasureT-loop) → Type 0
+Then1 = λ Inv μ. Lts.Then1 (Reads.Asked, Reads.Learnt) Kinds.Pre Kinds.Post Inv μ
+
+abbrev pub After-records : (Inv : InvT-loop) → (μ : MeasureT-loop) → Type 0
+After-records = λ Inv μ. Lts.After-records (Reads.Asked, Reads.Learnt) Kinds.Pre Kinds.Post Inv μ
+
+abbrev pub Else1 : (Inv : InvT-loop) → (μ : MeasureT-loop) → Type 0
+Else1 = λ Inv μ. Lts.Else1 (Reads.Asked, Reads.Learnt) Kinds.Pre Kinds.Post Inv μ
+
+abbrev pub Joined1 : (Inv : InvT-loop) → (μ : MeasureT-loop) → Type 0
+Joined1 = λ Inv μ. Lts.Joined1 (Reads.Asked, Reads.Learnt) Kinds.Pre Kinds.Post Inv μ
 
 abbrev pub Need-empty-record-requires : (Inv : InvT-loop) → (μ : MeasureT-loop) → Type 0
-Need-empty-record-requires = λ Inv μ. Lts.Need-empty-record-requires (Reads.Asked, Reads.Learnt, Reads''.Asked, Reads''.Learnt) Kinds.Pre Kinds.Post
-    Inv μ
+Need-empty-record-requires = λ Inv μ. Lts.Need-empty-record-requires (Reads.Asked, Reads.Learnt) Kinds.Pre Kinds.Post Inv μ
 
 abbrev pub Need-loop-holds : (Inv : InvT-loop) → (μ : MeasureT-loop) → Type 0
-Need-loop-holds = λ Inv μ. Lts.Need-loop-holds (Reads.Asked, Reads.Learnt, Reads''.Asked, Reads''.Learnt) Kinds.Pre Kinds.Post Inv μ
-
-abbrev pub Need-record-at-requires : (Inv : InvT-loop) → (μ : MeasureT-loop) → Type 0
-Need-record-at-requires = λ Inv μ. Lts.Need-record-at-requires (Reads.Asked, Reads.Learnt, Reads''.Asked, Reads''.Learnt) Kinds.Pre Kinds.Post Inv μ
+Need-loop-holds = λ Inv μ. Lts.Need-loop-holds (Reads.Asked, Reads.Learnt) Kinds.Pre Kinds.Post Inv μ
 
 abbrev pub Need-mul-records : (Inv : InvT-loop) → (μ : MeasureT-loop) → Type 0
-Need-mul-records = λ Inv μ. Lts.Need-mul-records (Reads.Asked, Reads.Learnt, Reads''.Asked, Reads''.Learnt) Kinds.Pre Kinds.Post Inv μ
+Need-mul-records = λ Inv μ. Lts.Need-mul-records (Reads.Asked, Reads.Learnt) Kinds.Pre Kinds.Post Inv μ
+
+abbrev pub Need-shared-slice-copy-out-records : (Inv : InvT-loop) → (μ : MeasureT-loop) → Type 0
+Need-shared-slice-copy-out-records = λ Inv μ. Lts.Need-shared-slice-copy-out-records (Reads.Asked, Reads.Learnt) Kinds.Pre Kinds.Post Inv μ
+
+abbrev pub Need-mul-records-2 : (Inv : InvT-loop) → (μ : MeasureT-loop) → Type 0
+Need-mul-records-2 = λ Inv μ. Lts.Need-mul-records-2 (Reads.Asked, Reads.Learnt) Kinds.Pre Kinds.Post Inv μ
 
 abbrev pub Need-array-set-from-records : (Inv : InvT-loop) → (μ : MeasureT-loop) → Type 0
-Need-array-set-from-records = λ Inv μ. Lts.Need-array-set-from-records (Reads.Asked, Reads.Learnt, Reads''.Asked, Reads''.Learnt) Kinds.Pre Kinds.Post
-    Inv μ
+Need-array-set-from-records = λ Inv μ. Lts.Need-array-set-from-records (Reads.Asked, Reads.Learnt) Kinds.Pre Kinds.Post Inv μ
 
 abbrev pub Need-add-i : (Inv : InvT-loop) → (μ : MeasureT-loop) → Type 0
-Need-add-i = λ Inv μ. Lts.Need-add-i (Reads.Asked, Reads.Learnt, Reads''.Asked, Reads''.Learnt) Kinds.Pre Kinds.Post Inv μ
+Need-add-i = λ Inv μ. Lts.Need-add-i (Reads.Asked, Reads.Learnt) Kinds.Pre Kinds.Post Inv μ
 
 abbrev pub Need-loop-less : (Inv : InvT-loop) → (μ : MeasureT-loop) → Type 0
-Need-loop-less = λ Inv μ. Lts.Need-loop-less (Reads.Asked, Reads.Learnt, Reads''.Asked, Reads''.Learnt) Kinds.Pre Kinds.Post Inv μ
+Need-loop-less = λ Inv μ. Lts.Need-loop-less (Reads.Asked, Reads.Learnt) Kinds.Pre Kinds.Post Inv μ
 
 abbrev pub Need-loop-again : (Inv : InvT-loop) → (μ : MeasureT-loop) → Type 0
-Need-loop-again = λ Inv μ. Lts.Need-loop-again (Reads.Asked, Reads.Learnt, Reads''.Asked, Reads''.Learnt) Kinds.Pre Kinds.Post Inv μ
+Need-loop-again = λ Inv μ. Lts.Need-loop-again (Reads.Asked, Reads.Learnt) Kinds.Pre Kinds.Post Inv μ
 
 abbrev pub Need-returns : (Inv : InvT-loop) → (μ : MeasureT-loop) → Type 0
-Need-returns = λ Inv μ. Lts.Need-returns (Reads.Asked, Reads.Learnt, Reads''.Asked, Reads''.Learnt) Kinds.Pre Kinds.Post Inv μ
+Need-returns = λ Inv μ. Lts.Need-returns (Reads.Asked, Reads.Learnt) Kinds.Pre Kinds.Post Inv μ
 
 module _ {M : Type 1} where
   pub spec : (Inv : InvT-loop) → (μ : MeasureT-loop) → (answer : Need-empty-record-requires Inv μ) → (answer : Need-loop-holds Inv μ) → (answer :
-      Need-record-at-requires Inv μ) → (answer : Need-mul-records Inv μ) → (answer : Need-array-set-from-records Inv μ) → (answer : Need-add-i Inv μ)
-      → (answer : Need-loop-less Inv μ) → (answer : Need-loop-again Inv μ) → (answer : Need-returns Inv μ) → Lts.Closed (
-        Reads.Asked,
-        Reads.Learnt,
-        Reads''.Asked,
-        Reads''.Learnt,
-      ) Kinds.Pre Kinds.Post M
-  spec = λ Inv μ answer answer' answer'' answer'3 answer'4 answer'5 answer'6 answer'7 answer'8. Lts.spec (
-    Reads.Asked,
-    Reads.Learnt,
-    Reads''.Asked,
-    Reads''.Learnt,
-  ) Kinds.Pre Kinds.Post Inv μ answer answer' answer'' answer'3 answer'4 answer'5 answer'6 answer'7 answer'8
+      Need-mul-records Inv μ) → (answer : Need-shared-slice-copy-out-records Inv μ) → (answer : Need-mul-records-2 Inv μ) → (answer :
+      Need-array-set-from-records Inv μ) → (answer : Need-add-i Inv μ) → (answer : Need-loop-less Inv μ) → (answer : Need-loop-again Inv μ) → (answer
+      : Need-returns Inv μ) → Lts.Closed (Reads.Asked, Reads.Learnt) Kinds.Pre Kinds.Post M
+  spec = λ Inv μ answer answer' answer'' answer'3 answer'4 answer'5 answer'6 answer'7 answer'8 answer'9. Lts.spec (Reads.Asked, Reads.Learnt)
+      Kinds.Pre Kinds.Post Inv μ answer answer' answer'' answer'3 answer'4 answer'5 answer'6 answer'7 answer'8 answer'9
 
-  pub close : Lts.Closed (Reads.Asked, Reads.Learnt, Reads''.Asked, Reads''.Learnt) Kinds.Pre Kinds.Post M → Statement.statement M
+  pub close : Lts.Closed (Reads.Asked, Reads.Learnt) Kinds.Pre Kinds.Post M → Statement.statement M
   unfolding Code.routine Running.tablesOf
   close = λ closed 𝓤 H 𝓜 𝓖 𝓡. Written.close 1 Kinds.kinds Kinds.result Kinds.Ghost Kinds.requires Kinds.ensures Kinds.pre-read Kinds.Pinned
       Kinds.Owned Kinds.post-read record { M = M; 𝓤 = 𝓤; H = H; 𝓜 = 𝓜; 𝓖 = 𝓖; 𝓡 = 𝓡 } Code.env Key.name Code.function (Code.unfolded 𝓤 H 𝓜 𝓡) (λ κs a
@@ -102,11 +101,4 @@ module _ {M : Type 1} where
         𝓜 = 𝓜;
         𝓖 = 𝓖;
         𝓡 = 𝓡;
-      } Code.env Symbol.name Symbol.routine Code.calls-bs-sched·empty-record (Met.met 𝓤 H 𝓜 𝓖 𝓡)) (Reads''.known record {
-        M = M;
-        𝓤 = 𝓤;
-        H = H;
-        𝓜 = 𝓜;
-        𝓖 = 𝓖;
-        𝓡 = 𝓡;
-      } Code.env Symbol'.name Symbol'.routine Code.calls-bs-sched·record-at (Met'.met 𝓤 H 𝓜 𝓖 𝓡))
+      } Code.env Symbol.name Symbol.routine Code.calls-bs-sched·empty-record (Met.met 𝓤 H 𝓜 𝓖 𝓡))
