@@ -38,7 +38,7 @@ fn joined(parts: &[&[u8]]) -> Vec<u8> {
 fn least(unit: &[u8], times: usize, mut run: impl FnMut(&[u8]) -> u64) -> f64 {
     let stream = unit.repeat(times);
     let mut best = f64::MAX;
-    for _ in 0..60 {
+    for _ in 0..400 {
         let start = Instant::now();
         black_box(run(black_box(&stream)));
         best = best.min(start.elapsed().as_nanos() as f64 / times as f64);
@@ -49,7 +49,7 @@ fn least(unit: &[u8], times: usize, mut run: impl FnMut(&[u8]) -> u64) -> f64 {
 /// Times a command behind what prepares it, for both, and prints the row.
 fn row(name: &str, before: &[u8], command: &[u8], out: &mut [u8]) {
     let with = joined(&[before, command]);
-    let times = 4000 / with.len().max(16);
+    let times = (4_000 / with.len()).max(8);
     let mut us = least(&with, times, |s| ours(s, out));
     let mut them = least(&with, times, original::run);
     if !before.is_empty() {
@@ -60,7 +60,7 @@ fn row(name: &str, before: &[u8], command: &[u8], out: &mut [u8]) {
 }
 
 fn main() {
-    let mut out = vec![0u8; 1 << 20];
+    let mut out = vec![0u8; 173 * 10_000];
     println!("{:<52} {:>9} {:>9} {:>7}", "nanoseconds", "ours", "original", "ratio");
     row("advance", &[], &[0x41], &mut out);
     row("request refused with 3 (the questions alone)", &NEW, &REFUSED, &mut out);
@@ -68,7 +68,7 @@ fn main() {
     row("request granted, 17 slots", &NEW, &[0x52, 1, 10, 0, 0, 0, 0, 1], &mut out);
     row("record queued, 40 bits", &NEW, &queue(1, 40), &mut out);
     row("record queued, 2,048 bits", &NEW, &queue(1, 2048), &mut out);
-    row("record queued behind fifteen, 40 bits", &joined(&[&NEW, &records(15, 40)]), &queue(16, 40), &mut out);
+    row("record queued behind fourteen, 40 bits", &joined(&[&NEW, &records(14, 40)]), &queue(15, 40), &mut out);
     row("build, nothing queued", &NEW, &[0x42], &mut out);
     row("build, one grant", &joined(&[&NEW, &REQUEST]), &[0x42], &mut out);
     for count in [1, 4, 16] {

@@ -6,7 +6,7 @@ set -eu
 cd "$(dirname "$0")/../.."
 shared=$(cd .. && pwd)/shared
 [ -d "$shared/oracle" ] || { echo "bench: ../shared/oracle is not there, nothing timed"; exit 0; }
-rt staticlib slotrun_c > /dev/null
+rt staticlib slotrun_c > /dev/null 2>&1
 work=$(mktemp -d)
 trap 'rm -rf "$work"' EXIT
 cp -r "$shared/oracle" "$work/oracle"
