@@ -1,0 +1,242 @@
+-- Words stand for one station and one queue, and these for one list of words. So what one call leaves is what the next one gets, and a history over words is
+-- a history of document 01. Assumes nothing.
+use mathlib.Core.Path.{_≡_, refl, sym, ap, _∙_}
+use mathlib.Core.Bool.{Bool, true, false, _&&_, cond}
+use mathlib.Core.List.{List, [], _∷_, _++_, append-assoc, append-nil}
+use Prim.Native.Nat.{ℕ, zero, suc, _+_, _%_, _^_, _≤_, _<_}
+use native.Mathlib.Numerals.{add-one}
+use native.Mathlib.Omega.{arith}
+use lib.Dec.{eqb, leb}
+use lib.ListN.{length, drop}
+use lib.Seq.{drop-at, drop-drop}
+use borrow.Author.Tests.{eqb-true, eq-eqb, leb-true, ltb-true}
+use Rattle.optional.specs.declared.OptU8.{OptU8}
+use Rattle.optional.specs.declared.OptU32.{OptU32}
+use Rattle.tdma_time.specs.Time.{Valid, valid}
+use Rattle.tdma_time.proofs.TimeLaws.{true-valid}
+use Rattle.uplink.specs.declared.Entry.{Entry}
+use Rattle.uplink.specs.UplinkEntry.{FourRowsOfEighteen, all, soundOwner, soundCounter, soundMarker, soundEntry, soundRow, soundTable, soundCounters}
+use Rattle.uplink.proofs.Basics.{not-both, and-left, and-right}
+use Rattle.uplink.proofs.SoundLaws.{sound-parts}
+use Rattle.sched_core.specs.declared.Station.{Station}
+use Rattle.sched_core.specs.Station.{tableOf}
+use Rattle.sched_core.specs.Questions.{soundCount, soundStation}
+use Rattle.sched_words.specs.Words.{wordOf8, wordOf32, optU8, optU32, joined, parts, sameWords, entryWords, entryFrom, rowWords, rowFrom, fourFrom, stationWords, stationRead, stationFrom, noStation}
+use Rattle.sched_words.proofs.WordLaws.{length-joined}
+
+-- ---- words compared
+
+pub same-refl : (ws : List ℕ) → sameWords ws ws ≡ true
+unfolding sameWords
+same-refl [] = refl
+same-refl (w ∷ ws) = rw (eq-eqb w w refl) (same-refl ws)
+
+pub same-equal : (v w : List ℕ) → sameWords v w ≡ true → v ≡ w
+unfolding sameWords
+same-equal [] [] h = refl
+same-equal [] (x ∷ w) h = not-both false h refl
+same-equal (x ∷ v) [] h = not-both false h refl
+same-equal (x ∷ v) (y ∷ w) h = λ i. eqb-true x y (and-left (eqb x y) (sameWords v w) h) i ∷ same-equal v w (and-right (eqb x y) (sameWords v w) h) i
+
+-- what is read back and what stands for it
+module _ {A : Type 0} (write : A → List ℕ) (read : List ℕ → A) (none : A) where
+  abbrev from : List ℕ → A
+  from ws = cond (sameWords (write (read ws)) ws) (read ws) none
+
+  pub read-back : (x : A) → read (write x) ≡ x → from (write x) ≡ x
+  read-back x e = rw (e, same-refl (write x))
+
+  -- words that stand for something sound are its words
+  pub words-of : (P : A → Type 0) → (P none → ⊥) → (ws : List ℕ) → P (from ws) → write (from ws) ≡ ws
+  words-of P unsound ws = go (sameWords (write (read ws)) ws) refl
+    where
+      go : (b : Bool) → sameWords (write (read ws)) ws ≡ b → P (cond b (read ws) none) → write (cond b (read ws) none) ≡ ws
+      go true e h = same-equal _ _ e
+      go false e h = absurd (unsound h)
+
+-- ---- elements one after another
+
+-- each element of a list is P
+unfoldable pub Every : {A : Type 0} → (A → Type 0) → List A → Type 0
+Every P [] = Unit
+Every P (x ∷ xs) = P x × Every P xs
+
+pub every-all : {A : Type 0} (p : A → Bool) (xs : List A) → all p xs ≡ true → Every (λ (x : A). p x ≡ true) xs
+unfolding Every all
+every-all p [] h = tt
+every-all p (x ∷ xs) h = (and-left (p x) (all p xs) h, every-all p xs (and-right (p x) (all p xs) h))
+
+module _ {A : Type 0} (f : A → List ℕ) (g : List ℕ → A) (k : ℕ) (size : (x : A) → length (f x) ≡ k) (P : A → Type 0)
+    (back : (x : A) → P x → (rest : List ℕ) → g (f x ++ rest) ≡ x) where
+  pub parts-back : (n : ℕ) (xs : List A) (rest : List ℕ) → length xs ≡ n → Every P xs → parts g k n (joined f xs ++ rest) ≡ xs
+  unfolding joined parts Every
+  parts-back zero [] rest e h = refl
+  parts-back zero (x ∷ xs) rest e h = absurd (omega (arith, e))
+  parts-back (suc n) [] rest e h = absurd (omega (arith, e))
+  parts-back (suc n) (x ∷ xs) rest e h =
+      let m : length xs ≡ n = omega (arith, e) in
+      let a : (f x ++ joined f xs) ++ rest ≡ f x ++ (joined f xs ++ rest) = append-assoc (f x) (joined f xs) rest in
+      λ i. (ap g a ∙ back x (h .0) (joined f xs ++ rest)) i
+      ∷ (ap (λ (l : List ℕ). parts g k n (drop k l)) a ∙ ap (parts g k n) (drop-at (f x) (joined f xs ++ rest) k (size x)) ∙ parts-back n xs rest m (h .1)) i
+
+-- ---- the station
+
+pub small8 : (v : ℕ) → v < 256 → v % 256 ≡ v
+small8 v h = omega arith
+
+pub small16 : (v : ℕ) → v < 65536 → v % 65536 ≡ v
+small16 v h = omega arith
+
+owner-back : (o : OptU32) → soundOwner o ≡ true → optU32 (wordOf32 o) ≡ o
+owner-back OptU32.Absent h = refl
+owner-back (OptU32.Of w) h =
+    let k : w < 2 ^ 24 = ltb-true _ _ h in
+    let e : (w + 1) % 2 ^ 32 ≡ suc w = omega arith in
+    rw e
+
+marker-back : (o : OptU8) → soundMarker o ≡ true → optU8 (wordOf8 o) ≡ o
+marker-back OptU8.Absent h = refl
+marker-back (OptU8.Of m) h = let k : m ≤ 62 = leb-true m 62 (and-right (leb 4 m) (leb m 62) h) in rw (add-one, small8 m (omega arith))
+
+entry-back : (e : Entry) → soundEntry e ≡ true → (rest : List ℕ) → entryFrom (entryWords e ++ rest) ≡ e
+entry-back e h rest =
+    let p = sound-parts e h in
+    λ i. record { ul1 = owner-back (e .ul1) (p .first) i; ul2 = owner-back (e .ul2) (p .second) i; «usage_marker» = marker-back (e .«usage_marker») (p .marker) i }
+
+row-back : (row : List Entry) (rest : List ℕ) → length row ≡ 18 → soundRow row ≡ true → rowFrom (rowWords row ++ rest) ≡ row
+row-back row rest size h = parts-back entryWords entryFrom 3 (λ e. refl) (λ (e : Entry). soundEntry e ≡ true) entry-back 18 row rest size (every-all soundEntry row h)
+
+-- four numbers of 8 bits
+four-back : (v : List ℕ) (rest : List ℕ) → length v ≡ 4 → Every (λ (x : ℕ). x < 256) v → fourFrom (v ++ rest) ≡ v
+unfolding Every
+four-back [] rest e h = absurd (omega (arith, e))
+four-back (a ∷ []) rest e h = absurd (omega (arith, e))
+four-back (a ∷ b ∷ []) rest e h = absurd (omega (arith, e))
+four-back (a ∷ b ∷ c ∷ []) rest e h = absurd (omega (arith, e))
+four-back (a ∷ b ∷ c ∷ d ∷ []) rest e h = λ i. small8 a (h .0) i ∷ small8 b (h .1 .0) i ∷ small8 c (h .1 .1 .0) i ∷ small8 d (h .1 .1 .1 .0) i ∷ []
+four-back (a ∷ b ∷ c ∷ d ∷ x ∷ v) rest e h = absurd (omega (arith, e))
+
+pub every-map : {A : Type 0} (P Q : A → Type 0) → ((x : A) → P x → Q x) → (xs : List A) → Every P xs → Every Q xs
+unfolding Every
+every-map P Q f [] h = tt
+every-map P Q f (x ∷ xs) h = (f x (h .0), every-map P Q f xs (h .1))
+
+-- the lengths of a station's arrays
+pub record Arrays (s : Station) : Type 0 where
+  pub table : FourRowsOfEighteen (tableOf s)
+  pub counters : length (s .«next_usage_marker») ≡ 4
+  pub counts : length (s .queued) ≡ 4
+
+module _ (s : Station) (sizes : Arrays s) (sound : soundStation s ≡ true) where
+  three : valid (s .time) && soundTable (tableOf s) && soundCounters (s .«next_usage_marker») ≡ true
+  unfolding soundStation
+  three = and-left (valid (s .time) && soundTable (tableOf s) && soundCounters (s .«next_usage_marker»)) (all soundCount (s .queued)) sound
+
+  time-valid : Valid (s .time)
+  time-valid = true-valid (s .time) (and-left (valid (s .time)) (soundTable (tableOf s)) (and-left (valid (s .time) && soundTable (tableOf s)) (soundCounters (s .«next_usage_marker»)) three))
+
+  rows : Every (λ (row : List Entry). soundRow row ≡ true) (tableOf s)
+  rows =
+      every-all soundRow (tableOf s)
+      (and-right (valid (s .time)) (soundTable (tableOf s)) (and-left (valid (s .time) && soundTable (tableOf s)) (soundCounters (s .«next_usage_marker»)) three))
+
+  counters-small : Every (λ (x : ℕ). x < 256) (s .«next_usage_marker»)
+  counters-small =
+      every-map (λ (x : ℕ). soundCounter x ≡ true) (λ (x : ℕ). x < 256) (λ x h. let k : x ≤ 62 = leb-true x 62 (and-right (leb 4 x) (leb x 62) h) in omega arith) _
+      (every-all soundCounter _ (and-right (valid (s .time) && soundTable (tableOf s)) (soundCounters (s .«next_usage_marker»)) three))
+
+  counts-small : Every (λ (x : ℕ). x < 256) (s .queued)
+  unfolding soundStation
+  counts-small =
+      every-map (λ (x : ℕ). soundCount x ≡ true) (λ (x : ℕ). x < 256) (λ x h. let k : x ≤ 16 = leb-true x 16 h in omega arith) _
+      (every-all soundCount _ (and-right (valid (s .time) && soundTable (tableOf s) && soundCounters (s .«next_usage_marker»)) (all soundCount (s .queued)) sound))
+
+  abbrev r1 : List ℕ
+  r1 = rowWords (s .row1)
+
+  abbrev r2 : List ℕ
+  r2 = rowWords (s .row2)
+
+  abbrev r3 : List ℕ
+  r3 = rowWords (s .row3)
+
+  abbrev r4 : List ℕ
+  r4 = rowWords (s .row4)
+
+  abbrev c : List ℕ
+  c = s .«next_usage_marker»
+
+  row-length : (row : List Entry) → length row ≡ 18 → length (rowWords row) ≡ 54
+  row-length row e = length-joined entryWords 3 (λ x. refl) row ∙ omega (arith, e)
+
+  l1 : length r1 ≡ 54
+  l1 = row-length (s .row1) (sizes .table .columns 0 (omega arith))
+
+  l2 : length r2 ≡ 54
+  l2 = row-length (s .row2) (sizes .table .columns 1 (omega arith))
+
+  l3 : length r3 ≡ 54
+  l3 = row-length (s .row3) (sizes .table .columns 2 (omega arith))
+
+  l4 : length r4 ≡ 54
+  l4 = row-length (s .row4) (sizes .table .columns 3 (omega arith))
+
+  -- the words from each row on
+  abbrev from-c : List ℕ
+  from-c = c ++ s .queued
+
+  abbrev from-4 : List ℕ
+  from-4 = r4 ++ from-c
+
+  abbrev from-3 : List ℕ
+  from-3 = r3 ++ from-4
+
+  abbrev from-2 : List ℕ
+  from-2 = r2 ++ from-3
+
+  at-4 : drop 4 (stationWords s) ≡ r1 ++ from-2
+  unfolding stationWords
+  at-4 = simp append-assoc
+
+  at-58 : drop 58 (stationWords s) ≡ from-2
+  at-58 = sym (drop-drop 54 4 (stationWords s)) ∙ ap (drop 54) at-4 ∙ drop-at r1 from-2 54 l1
+
+  at-112 : drop 112 (stationWords s) ≡ from-3
+  at-112 = sym (drop-drop 54 58 (stationWords s)) ∙ ap (drop 54) at-58 ∙ drop-at r2 from-3 54 l2
+
+  at-166 : drop 166 (stationWords s) ≡ from-4
+  at-166 = sym (drop-drop 54 112 (stationWords s)) ∙ ap (drop 54) at-112 ∙ drop-at r3 from-4 54 l3
+
+  at-220 : drop 220 (stationWords s) ≡ from-c
+  at-220 = sym (drop-drop 54 166 (stationWords s)) ∙ ap (drop 54) at-166 ∙ drop-at r4 from-c 54 l4
+
+  at-224 : drop 224 (stationWords s) ≡ s .queued ++ []
+  at-224 = sym (drop-drop 4 220 (stationWords s)) ∙ ap (drop 4) at-220 ∙ drop-at c (s .queued) 4 (sizes .counters) ∙ sym (append-nil (s .queued))
+
+  station-read-back : stationRead (stationWords s) ≡ s
+  unfolding stationRead stationWords Every
+  station-read-back =
+      let v = time-valid in
+      λ i. record {
+        time = record { t = small8 (s .time .t) (omega (arith, v .t-high)) i; f = small8 (s .time .f) (omega (arith, v .f-high)) i; m = small8 (s .time .m) (omega (arith, v .m-high)) i; h = small16 (s .time .h) (omega (arith, v .h-high)) i };
+        row1 = (ap rowFrom at-4 ∙ row-back (s .row1) from-2 (sizes .table .columns 0 (omega arith)) (rows .0)) i;
+        row2 = (ap rowFrom at-58 ∙ row-back (s .row2) from-3 (sizes .table .columns 1 (omega arith)) (rows .1 .0)) i;
+        row3 = (ap rowFrom at-112 ∙ row-back (s .row3) from-4 (sizes .table .columns 2 (omega arith)) (rows .1 .1 .0)) i;
+        row4 = (ap rowFrom at-166 ∙ row-back (s .row4) from-c (sizes .table .columns 3 (omega arith)) (rows .1 .1 .1 .0)) i;
+        «next_usage_marker» = (ap fourFrom at-220 ∙ four-back c (s .queued) (sizes .counters) counters-small) i;
+        queued = (ap fourFrom at-224 ∙ four-back (s .queued) [] (sizes .counts) counts-small) i;
+      }
+
+  -- a sound station is the one that its words stand for
+  pub station-back : stationFrom (stationWords s) ≡ s
+  unfolding stationFrom
+  station-back = read-back stationWords stationRead noStation s station-read-back
+
+unsound-none : soundStation noStation ≡ false
+unfolding soundStation valid
+unsound-none = refl
+
+-- words that stand for a sound station are that station's words
+pub station-words-back : (ws : List ℕ) → soundStation (stationFrom ws) ≡ true → stationWords (stationFrom ws) ≡ ws
+unfolding stationFrom
+station-words-back ws = words-of stationWords stationRead noStation (λ (s : Station). soundStation s ≡ true) (λ h. not-both (soundStation noStation) h unsound-none) ws

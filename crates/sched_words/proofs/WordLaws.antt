@@ -1,0 +1,182 @@
+-- Words one after another, as the loops read and store them; and single words. Assumes nothing.
+use mathlib.Core.Path.{_≡_, refl, sym, ap, _∙_}
+use mathlib.Core.Bool.{Bool, true, false, not, cond}
+use mathlib.Core.List.{List, [], _∷_, _++_, append-nil}
+use Prim.Native.Nat.{ℕ, zero, suc, _+_, _-_, _*_, _%_, _≤_, _<_}
+use native.Mathlib.Nat.{not-suc-le-zero, le-of-suc-le-suc, add-zero}
+use native.Mathlib.Numerals.{add-one, sub-one}
+use native.Mathlib.Omega.{arith}
+use lib.ListN.{length, getD, set, take, drop, length-append, length-drop, drop-of-length-le}
+use lib.Seq.{sets, sets-eq, drop-cons, drop-drop, take-all}
+use borrow.Author.Tests.{eq-eqb, ne-eqb, not-true, not-false}
+use Rattle.optional.specs.declared.OptU8.{OptU8}
+use Rattle.optional.specs.declared.OptU16.{OptU16}
+use Rattle.optional.specs.declared.OptU32.{OptU32}
+use Rattle.mac_pdus.specs.declared.OptChanAlloc.{OptChanAlloc}
+use Rattle.dl_record.specs.declared.Kind.{Kind}
+use Rattle.dl_record.specs.declared.Record.{Record}
+use Rattle.sched_words.specs.Words.{Stored, optU8, optU16, optU32, kindOf, joined, parts, sameWords, allocWords, allocFields, allocFrom, recordWords}
+
+-- ---- single words
+
+pub present-8 : (w : ℕ) → (w ≡ 0 → ⊥) → OptU8.Of ((w - 1) % 256) ≡ optU8 w
+present-8 zero h = absurd (h refl)
+present-8 (suc w) h = rw sub-one
+
+pub present-16 : (w : ℕ) → (w ≡ 0 → ⊥) → OptU16.Of ((w - 1) % 65536) ≡ optU16 w
+present-16 zero h = absurd (h refl)
+present-16 (suc w) h = rw sub-one
+
+pub present-32 : (w : ℕ) → (w ≡ 0 → ⊥) → OptU32.Of (w - 1) ≡ optU32 w
+present-32 zero h = absurd (h refl)
+present-32 (suc w) h = rw sub-one
+
+pub started-kind : (w : ℕ) → (w ≡ 0 → ⊥) → (w ≡ 1 → ⊥) → (w ≡ 2 → ⊥) → (w ≡ 3 → ⊥) → Kind.Started ≡ kindOf w
+started-kind zero a b c d = absurd (a refl)
+started-kind (suc zero) a b c d = absurd (b refl)
+started-kind (suc (suc zero)) a b c d = absurd (c refl)
+started-kind (suc (suc (suc zero))) a b c d = absurd (d refl)
+started-kind (suc (suc (suc (suc w)))) a b c d = refl
+
+pub four-elements : (v : List ℕ) → length v ≡ 4 → getD v 0 0 ∷ getD v 1 0 ∷ getD v 2 0 ∷ getD v 3 0 ∷ [] ≡ v
+four-elements [] h = absurd (omega (arith, h))
+four-elements (a ∷ []) h = absurd (omega (arith, h))
+four-elements (a ∷ b ∷ []) h = absurd (omega (arith, h))
+four-elements (a ∷ b ∷ c ∷ []) h = absurd (omega (arith, h))
+four-elements (a ∷ b ∷ c ∷ d ∷ []) h = refl
+four-elements (a ∷ b ∷ c ∷ d ∷ e ∷ v) h = absurd (omega (arith, h))
+
+-- the words of a channel allocation, one by one
+pub ten-words : (a : List ℕ) (o : OptChanAlloc) (bits sent : ℕ) → a ≡ allocWords o
+    → getD a 0 0 ∷ getD a 1 0 ∷ getD a 2 0 ∷ getD a 3 0 ∷ getD a 4 0 ∷ getD a 5 0 ∷ getD a 6 0 ∷ getD a 7 0 ∷ getD a 8 0 ∷ getD a 9 0 ∷ bits ∷ sent ∷ []
+    ≡ allocWords o ++ bits ∷ sent ∷ []
+ten-words a OptChanAlloc.Absent bits sent e = rw e
+ten-words a (OptChanAlloc.Of c) bits sent e = rw e
+
+ten-long : (o : OptChanAlloc) → length (allocWords o) ≡ 10
+ten-long OptChanAlloc.Absent = refl
+ten-long (OptChanAlloc.Of c) = refl
+
+pub record-size : (r : Record) → length (recordWords r) ≡ 23
+unfolding recordWords
+record-size r =
+    let e : length (allocWords (r .header .«chan_alloc_element») ++ r .bits ∷ r .sent ∷ []) ≡ 12 = length-append (allocWords (r .header .«chan_alloc_element»)) (r .bits ∷ r .sent ∷ []) ∙ omega (arith, ten-long (r .header .«chan_alloc_element»)) in
+    ap (λ (n : ℕ). suc (suc (suc (suc (suc (suc (suc (suc (suc (suc (suc n))))))))))) e
+
+pub no-alloc : (w : ℕ) (ws : List ℕ) → w ≡ 0 → OptChanAlloc.Absent ≡ allocFrom w ws
+no-alloc w ws e = rw e
+
+pub alloc-present : (w : ℕ) (ws : List ℕ) → (w ≡ 0 → ⊥) → OptChanAlloc.Of (allocFields ws) ≡ allocFrom w ws
+alloc-present zero ws h = absurd (h refl)
+alloc-present (suc w) ws h = refl
+
+-- ---- words compared
+
+pub same-next : (v w : List ℕ) (i : ℕ) → i < length v → i < length w → getD v i 0 ≡ getD w i 0 → sameWords (drop i v) (drop i w) ≡ sameWords (drop (i + 1) v) (drop (i + 1) w)
+unfolding sameWords
+same-next v w i h k e = rw (add-one, drop-cons v i 0 h, drop-cons w i 0 k, eq-eqb _ _ e)
+
+pub differ : (v w : List ℕ) (i : ℕ) → i < length v → i < length w → (getD v i 0 ≡ getD w i 0 → ⊥) → false ≡ sameWords (drop i v) (drop i w)
+unfolding sameWords
+differ v w i h k e = rw (drop-cons v i 0 h, drop-cons w i 0 k, ne-eqb _ _ e)
+
+pub none-left : (v w : List ℕ) (i : ℕ) → length v ≤ i → length w ≤ i → true ≡ sameWords (drop i v) (drop i w)
+unfolding sameWords
+none-left v w i h k = rw (drop-of-length-le v {i = i} h, drop-of-length-le w {i = i} k)
+
+-- words are read, and count if they are those of what was read
+module _ {A : Type 0} (write : A → List ℕ) (read : List ℕ → A) (none x : A) (ws again : List ℕ) (b : Bool) (is-read : x ≡ read ws) (written : again ≡ write x) (same : b ≡ sameWords again ws) where
+  told : b ≡ sameWords (write (read ws)) ws
+  told = same ∙ rw (written, is-read)
+
+  pub others : not b ≡ true → none ≡ cond (sameWords (write (read ws)) ws) (read ws) none
+  others h = rw (sym told ∙ not-true b h)
+
+  pub its-own : not b ≡ false → x ≡ cond (sameWords (write (read ws)) ws) (read ws) none
+  its-own h = rw (sym told ∙ not-false b h) is-read
+
+-- ---- words stored
+
+-- the rest of a list, as the code lends it
+pub rest : (l : List ℕ) (n : ℕ) → take (length l - n) (drop n l) ≡ drop n l
+rest l n = take-all (length l - n) (drop n l) (omega (arith, length-drop n l))
+
+pub sets-append : (l : List ℕ) (at : ℕ) (f g : List ℕ) → sets l at (f ++ g) ≡ sets (sets l at f) (at + length f) g
+sets-append l at [] g = ap (λ (n : ℕ). sets l n g) (sym (add-zero at))
+sets-append l at (x ∷ f) g = sets-append (set l at x) (suc at) f g ∙ ap (λ (n : ℕ). sets (sets (set l at x) (suc at) f) n g) (omega arith)
+
+pub store-next : (l src : List ℕ) (at i : ℕ) → i < length src → sets (set l (at + i) (getD src i 0)) (at + (i + 1)) (drop (i + 1) src) ≡ sets l (at + i) (drop i src)
+store-next l src at i h =
+    let e : at + (i + 1) ≡ suc (at + i) = omega arith in
+    rw (e, add-one i, drop-cons src i 0 h)
+
+pub store-done : (l src : List ℕ) (at i : ℕ) → length src ≤ i → sets l (at + i) (drop i src) ≡ l
+store-done l src at i h = rw (drop-of-length-le src {i = i} h)
+
+-- words over as many
+pub sets-whole : (l f : List ℕ) → length f ≡ length l → sets l 0 f ≡ f
+sets-whole l f e =
+    sets-eq f l 0 (omega arith) ∙ ap (λ (r : List ℕ). f ++ r) (drop-of-length-le l {i = 0 + length f} (omega arith)) ∙ append-nil f
+
+-- one run of words after another
+pub stored-on : {l l' ws : List ℕ} {at n : ℕ} → Stored l at l' ws n → {l'' v : List ℕ} {p k : ℕ} → Stored l' p l'' v k → p ≡ at + n → (m : ℕ) → m ≡ n + k → Stored l at l'' (ws ++ v) m
+stored-on {l} {l'} {ws} {at} {n} s {l''} {v} {p} t e m g =
+    record {
+      words =
+          t .words ∙ ap (λ (x : List ℕ). sets x p v) (s .words) ∙ ap (λ (j : ℕ). sets (sets l at ws) j v) (e ∙ ap (λ (j : ℕ). at + j) (sym (s .size)))
+          ∙ sym (sets-append l at ws v);
+      size = length-append ws v ∙ omega (arith, s .size, t .size, g);
+    }
+
+pub stored-whole : {l l' ws : List ℕ} {n : ℕ} → Stored l 0 l' ws n → length l ≡ n → l' ≡ ws
+stored-whole {l} {l'} {ws} s e = s .words ∙ sets-whole l ws (s .size ∙ sym e)
+
+-- ---- elements stored and read
+
+module _ {A : Type 0} (f : A → List ℕ) (k : ℕ) (size : (x : A) → length (f x) ≡ k) where
+  pub length-joined : (xs : List A) → length (joined f xs) ≡ length xs * k
+  unfolding joined
+  length-joined [] = omega arith
+  length-joined (x ∷ xs) = length-append (f x) (joined f xs) ∙ omega (arith, size x, length-joined xs)
+
+  -- a turn: element i is stored at p, and the rest from p' on
+  pub joined-next : (l l' v : List ℕ) (xs : List A) (p p' i : ℕ) (d : A) → i < length xs → l' ≡ sets l p v → v ≡ f (getD xs i d) → p' ≡ p + k
+      → sets l' p' (joined f (drop (i + 1) xs)) ≡ sets l p (joined f (drop i xs))
+  unfolding joined
+  joined-next l l' v xs p p' i d h stored e next =
+      let x = getD xs i d in
+      let n : p' ≡ p + length (f x) = omega (arith, size x) in
+      rw (stored, e, n, add-one i, drop-cons xs i d h) (sym (sets-append l p (f x) (joined f (drop (suc i) xs))))
+
+  pub joined-done : (l : List ℕ) (xs : List A) (p i : ℕ) → length xs ≤ i → sets l p (joined f (drop i xs)) ≡ l
+  unfolding joined
+  joined-done l xs p i h = rw (drop-of-length-le xs {i = i} h)
+
+module _ {A : Type 0} (f : List ℕ → A) (k : ℕ) where
+  pub length-parts : (n : ℕ) (ws : List ℕ) → length (parts f k n ws) ≡ n
+  unfolding parts
+  length-parts zero ws = refl
+  length-parts (suc n) ws = ap suc (length-parts n (drop k ws))
+
+  -- element i
+  pub part-at : (n i : ℕ) (ws : List ℕ) (d : A) → i < n → getD (parts f k n ws) i d ≡ f (drop (k * i) ws)
+  unfolding parts
+  part-at zero i ws d h = absurd (not-suc-le-zero h)
+  part-at (suc n) zero ws d h = let e : 0 ≡ k * 0 = omega arith in ap (λ (j : ℕ). f (drop j ws)) e
+  part-at (suc n) (suc i) ws d h =
+      let e : k + k * i ≡ k * suc i = omega arith in
+      part-at n i (drop k ws) d (le-of-suc-le-suc h) ∙ ap f (drop-drop (k * i) k ws ∙ ap (λ (j : ℕ). drop j ws) e)
+
+-- a list that is filled from the front: the next element joins those taken
+pub filled-next : {A : Type 0} (d : A) (n : ℕ) (s t : List A) → n < length s → n < length t
+    → set (take n s ++ drop n t) n (getD s n d) ≡ take (n + 1) s ++ drop (n + 1) t
+filled-next {A} d n s t hs ht = rw add-one (go n s t hs ht)
+  where
+    go : (n : ℕ) (s t : List A) → n < length s → n < length t → set (take n s ++ drop n t) n (getD s n d) ≡ take (suc n) s ++ drop (suc n) t
+    go n [] t hs ht = absurd (not-suc-le-zero hs)
+    go n (x ∷ s) [] hs ht = absurd (not-suc-le-zero ht)
+    go zero (x ∷ s) (y ∷ t) hs ht = refl
+    go (suc n) (x ∷ s) (y ∷ t) hs ht = ap (λ r. x ∷ r) (go n s t (le-of-suc-le-suc hs) (le-of-suc-le-suc ht))
+
+pub filled-whole : {A : Type 0} (n : ℕ) (s t : List A) → length s ≤ n → length t ≤ n → take n s ++ drop n t ≡ s
+filled-whole n s t hs ht = rw (take-all n s hs, drop-of-length-le t {i = n} ht) (append-nil s)

@@ -1,0 +1,240 @@
+-- The station and the queue as words of 32 bits, for callers in C: the table of include/bs_sched.h. Assumes nothing.
+use mathlib.Core.Path.{_≡_}
+use mathlib.Core.Bool.{Bool, true, false, _&&_, cond}
+use mathlib.Core.List.{List, [], _∷_, _++_}
+use Prim.Native.Nat.{ℕ, zero, suc, _+_, _%_, _^_}
+use lib.Dec.{eqb}
+use lib.ListN.{length, getD, drop, replicate}
+use lib.Seq.{sets}
+use Rattle.optional.specs.declared.OptU8.{OptU8}
+use Rattle.optional.specs.declared.OptU16.{OptU16}
+use Rattle.optional.specs.declared.OptU32.{OptU32}
+use Rattle.tdma_time.specs.declared.TdmaTime.{TdmaTime}
+use Rattle.uplink.specs.declared.Entry.{Entry}
+use Rattle.uplink.specs.UplinkEntry.{emptyEntry}
+use Rattle.mac_pdus.specs.declared.ChanAllocElement.{ChanAllocElement}
+use Rattle.mac_pdus.specs.declared.OptChanAlloc.{OptChanAlloc}
+use Rattle.dl_record.specs.declared.Kind.{Kind}
+use Rattle.dl_record.specs.declared.QueuedHeader.{QueuedHeader}
+use Rattle.dl_record.specs.declared.Record.{Record}
+use Rattle.dl_record.specs.Record.{emptyHeader}
+use Rattle.sched_core.specs.declared.Station.{Station}
+
+-- ---- one value
+
+-- a value that may be absent: 0, or the value and 1
+abbrev pub wordOf8 : OptU8 → ℕ
+wordOf8 OptU8.Absent = 0
+wordOf8 (OptU8.Of v) = v + 1
+
+abbrev pub wordOf16 : OptU16 → ℕ
+wordOf16 OptU16.Absent = 0
+wordOf16 (OptU16.Of v) = v + 1
+
+abbrev pub wordOf32 : OptU32 → ℕ
+wordOf32 OptU32.Absent = 0
+wordOf32 (OptU32.Of v) = (v + 1) % 2 ^ 32
+
+-- and back: the low bits of a word that is too wide (such words are no station's and no record's: `sameWords` below)
+abbrev pub optU8 : ℕ → OptU8
+optU8 zero = OptU8.Absent
+optU8 (suc v) = OptU8.Of (v % 256)
+
+abbrev pub optU16 : ℕ → OptU16
+optU16 zero = OptU16.Absent
+optU16 (suc v) = OptU16.Of (v % 65536)
+
+abbrev pub optU32 : ℕ → OptU32
+optU32 zero = OptU32.Absent
+optU32 (suc v) = OptU32.Of v
+
+-- "kind (grant, ack, record, waiting, started)"
+abbrev pub kindWord : Kind → ℕ
+kindWord Kind.Grant = 0
+kindWord Kind.Ack = 1
+kindWord Kind.Record = 2
+kindWord Kind.Waiting = 3
+kindWord Kind.Started = 4
+
+abbrev pub kindOf : ℕ → Kind
+kindOf zero = Kind.Grant
+kindOf (suc zero) = Kind.Ack
+kindOf (suc (suc zero)) = Kind.Record
+kindOf (suc (suc (suc zero))) = Kind.Waiting
+kindOf (suc (suc (suc (suc n)))) = Kind.Started
+
+-- ---- words one after another
+
+-- the words of each element of a list
+unfoldable pub joined : {A : Type 0} → (A → List ℕ) → List A → List ℕ
+joined f [] = []
+joined f (x ∷ xs) = f x ++ joined f xs
+
+-- n elements, each read from the front of k words
+unfoldable pub parts : {A : Type 0} → (List ℕ → A) → ℕ → ℕ → List ℕ → List A
+parts f k zero ws = []
+parts f k (suc n) ws = f ws ∷ parts f k n (drop k ws)
+
+-- the n words ws stored over those of l from `at` on
+pub record Stored (l : List ℕ) (at : ℕ) (l' ws : List ℕ) (n : ℕ) : Type 0 where
+  pub words : l' ≡ sets l at ws
+  pub size : length ws ≡ n
+
+abbrev pub wordAt : List ℕ → ℕ → ℕ
+wordAt ws i = getD ws i 0
+
+-- ---- the station: 228 words
+
+-- words 0 to 3: t, f, m, h
+abbrev pub timeWords : TdmaTime → List ℕ
+timeWords x = x .t ∷ x .f ∷ x .m ∷ x .h ∷ []
+
+abbrev pub timeFrom : List ℕ → TdmaTime
+timeFrom ws = record { t = wordAt ws 0 % 256; f = wordAt ws 1 % 256; m = wordAt ws 2 % 256; h = wordAt ws 3 % 65536 }
+
+-- 3 words of an entry: the owners of the first half and of the second, the marker
+abbrev pub entryWords : Entry → List ℕ
+entryWords e = wordOf32 (e .ul1) ∷ wordOf32 (e .ul2) ∷ wordOf8 (e .«usage_marker») ∷ []
+
+abbrev pub entryFrom : List ℕ → Entry
+entryFrom ws = record { ul1 = optU32 (wordAt ws 0); ul2 = optU32 (wordAt ws 1); «usage_marker» = optU8 (wordAt ws 2) }
+
+-- 54 words of a row: frames 1 to 18
+abbrev pub rowWords : List Entry → List ℕ
+rowWords row = joined entryWords row
+
+abbrev pub rowFrom : List ℕ → List Entry
+rowFrom ws = parts entryFrom 3 18 ws
+
+-- 4 words, one for each timeslot
+abbrev pub fourFrom : List ℕ → List ℕ
+fourFrom ws = wordAt ws 0 % 256 ∷ wordAt ws 1 % 256 ∷ wordAt ws 2 % 256 ∷ wordAt ws 3 % 256 ∷ []
+
+-- words 4 to 219: rows 1 to 4
+abbrev pub tableWords : Station → List ℕ
+tableWords s = rowWords (s .row1) ++ rowWords (s .row2) ++ rowWords (s .row3) ++ rowWords (s .row4)
+
+-- the time, the table, the counters of usage markers (from word 220), the numbers of records queued (from word 224)
+unfoldable pub stationWords : Station → List ℕ
+stationWords s = timeWords (s .time) ++ tableWords s ++ s .«next_usage_marker» ++ s .queued
+
+unfoldable pub stationRead : List ℕ → Station
+stationRead ws =
+    record {
+      time = timeFrom ws;
+      row1 = rowFrom (drop 4 ws);
+      row2 = rowFrom (drop 58 ws);
+      row3 = rowFrom (drop 112 ws);
+      row4 = rowFrom (drop 166 ws);
+      «next_usage_marker» = fourFrom (drop 220 ws);
+      queued = fourFrom (drop 224 ws);
+    }
+
+-- ---- a record: 23 words
+
+-- words 11 to 20: 1, then the channel allocation; all 0 if there is none
+abbrev pub allocWords : OptChanAlloc → List ℕ
+allocWords OptChanAlloc.Absent = replicate 10 0
+allocWords (OptChanAlloc.Of c) =
+    1 ∷ c .«alloc_type» ∷ c .«ts_assigned» ∷ c .«ul_dl_assigned» ∷ c .«clch_permission» ∷ c .«cell_change_flag» ∷ c .«carrier_num» ∷ c .«ext_carrier_num_flag»
+    ∷ c .«mon_pattern» ∷ wordOf8 (c .«frame18_mon_pattern») ∷ []
+
+abbrev pub allocFields : List ℕ → ChanAllocElement
+allocFields ws =
+    record {
+      «alloc_type» = wordAt ws 12 % 256;
+      «ts_assigned» = wordAt ws 13 % 256;
+      «ul_dl_assigned» = wordAt ws 14 % 256;
+      «clch_permission» = wordAt ws 15 % 256;
+      «cell_change_flag» = wordAt ws 16 % 256;
+      «carrier_num» = wordAt ws 17 % 65536;
+      «ext_carrier_num_flag» = wordAt ws 18 % 256;
+      «mon_pattern» = wordAt ws 19 % 256;
+      «frame18_mon_pattern» = optU8 (wordAt ws 20);
+    }
+
+-- by word 11
+abbrev pub allocFrom : ℕ → List ℕ → OptChanAlloc
+allocFrom zero ws = OptChanAlloc.Absent
+allocFrom (suc n) ws = OptChanAlloc.Of (allocFields ws)
+
+-- words 0 to 3: kind, address kind, number, tag; 4 to 10: the header but for the allocation; 11 to 20: that; 21 and 22: bits, sent
+unfoldable pub recordWords : Record → List ℕ
+recordWords r =
+    kindWord (r .kind) ∷ r .«address_kind» ∷ r .number ∷ wordOf16 (r .tag) ∷ r .header .«pos_of_grant» ∷ r .header .«encryption_mode» ∷ r .header .«random_access_flag»
+    ∷ wordOf16 (r .header .«event_label») ∷ wordOf8 (r .header .«usage_marker») ∷ wordOf8 (r .header .«power_control_element»)
+    ∷ wordOf8 (r .header .«slot_granting_element») ∷ (allocWords (r .header .«chan_alloc_element») ++ r .bits ∷ r .sent ∷ [])
+
+abbrev pub headerFrom : List ℕ → QueuedHeader
+headerFrom ws =
+    record {
+      «pos_of_grant» = wordAt ws 4 % 256;
+      «encryption_mode» = wordAt ws 5 % 256;
+      «random_access_flag» = wordAt ws 6 % 256;
+      «event_label» = optU16 (wordAt ws 7);
+      «usage_marker» = optU8 (wordAt ws 8);
+      «power_control_element» = optU8 (wordAt ws 9);
+      «slot_granting_element» = optU8 (wordAt ws 10);
+      «chan_alloc_element» = allocFrom (wordAt ws 11) ws;
+    }
+
+unfoldable pub recordRead : List ℕ → Record
+recordRead ws =
+    record {
+      kind = kindOf (wordAt ws 0);
+      «address_kind» = wordAt ws 1 % 256;
+      number = wordAt ws 2;
+      tag = optU16 (wordAt ws 3);
+      header = headerFrom ws;
+      bits = wordAt ws 21 % 65536;
+      sent = wordAt ws 22 % 65536;
+    }
+
+-- "a lent run of 64 records": 1,472 words
+abbrev pub queueWords : List Record → List ℕ
+queueWords rs = joined recordWords rs
+
+abbrev pub recordsRead : List ℕ → List Record
+recordsRead ws = parts recordRead 23 64 ws
+
+-- ---- words that are no station's and no queue's
+
+-- two lists of words are the same
+unfoldable pub sameWords : List ℕ → List ℕ → Bool
+sameWords [] [] = true
+sameWords [] (w ∷ ws) = false
+sameWords (v ∷ vs) [] = false
+sameWords (v ∷ vs) (w ∷ ws) = eqb v w && sameWords vs ws
+
+-- a station that question 1 refuses: its timeslot is 0
+abbrev pub noStation : Station
+noStation =
+    record {
+      time = record { t = 0; f = 0; m = 0; h = 0 };
+      row1 = replicate 18 emptyEntry;
+      row2 = replicate 18 emptyEntry;
+      row3 = replicate 18 emptyEntry;
+      row4 = replicate 18 emptyEntry;
+      «next_usage_marker» = replicate 4 0;
+      queued = replicate 4 0;
+    }
+
+-- a record that no place may hold: its kind of address is none
+abbrev pub noRecord : Record
+noRecord = record { kind = Kind.Grant; «address_kind» = 255; number = 0; tag = OptU16.Absent; header = emptyHeader; bits = 0; sent = 0 }
+
+-- the station of 228 words: words that are no station's stand for one that is refused
+unfoldable pub stationFrom : List ℕ → Station
+stationFrom ws = cond (sameWords (stationWords (stationRead ws)) ws) (stationRead ws) noStation
+
+-- the 64 records of 1,472 words, likewise
+unfoldable pub queueFrom : List ℕ → List Record
+queueFrom ws = cond (sameWords (queueWords (recordsRead ws)) ws) (recordsRead ws) (replicate 64 noRecord)
+
+-- and none of any other number of words: question 2 refuses it
+unfoldable pub recordsFrom : List ℕ → List Record
+recordsFrom ws = cond (eqb (length ws) 1472) (queueFrom ws) []
+
+-- the record of 23 words
+unfoldable pub recordFrom : List ℕ → Record
+recordFrom ws = cond (sameWords (recordWords (recordRead ws)) ws) (recordRead ws) noRecord

@@ -1,0 +1,224 @@
+// The queue as 1,472 words, 23 for each record.
+use crate::word;
+use dl_record::Kind;
+use dl_record::QueuedHeader;
+use dl_record::Record;
+use mac_pdus::ChanAllocElement;
+use mac_pdus::OptChanAlloc;
+use optional::OptU16;
+ghost use mathlib.Core.Path.{_≡_};
+ghost use Prim.Native.Nat.{_≤_};
+ghost use lib.ListN.{length};
+ghost use Rattle.sched_words.specs.Words.{wordAt, allocWords, allocFrom, headerFrom, recordWords, recordRead, noRecord, recordFrom, queueWords, recordsRead, queueFrom};
+
+fn alloc_words(o: OptChanAlloc) -> [u32; 10]
+    ensures { λ r. ⌜ r ≡ allocWords o ⌝ }
+{
+    let OptChanAlloc::Of(c) = o else {
+        return [0; 10];
+    };
+    let frame18 = c.frame18_mon_pattern;
+    let last = word::word_of_8(frame18);
+    [
+        1,
+        c.alloc_type as u32,
+        c.ts_assigned as u32,
+        c.ul_dl_assigned as u32,
+        c.clch_permission as u32,
+        c.cell_change_flag as u32,
+        c.carrier_num as u32,
+        c.ext_carrier_num_flag as u32,
+        c.mon_pattern as u32,
+        last,
+    ]
+}
+
+fn record_words(r: Record) -> [u32; 23]
+    ensures { λ w. ⌜ w ≡ recordWords r ⌝ }
+{
+    let header = r.header;
+    let kind = r.kind;
+    let tag = r.tag;
+    let event_label = header.event_label;
+    let usage_marker = header.usage_marker;
+    let power = header.power_control_element;
+    let grant = header.slot_granting_element;
+    let alloc = header.chan_alloc_element;
+    let k = word::kind_word(kind);
+    let t = word::word_of_16(tag);
+    let l = word::word_of_16(event_label);
+    let m = word::word_of_8(usage_marker);
+    let p = word::word_of_8(power);
+    let g = word::word_of_8(grant);
+    let a = alloc_words(alloc);
+    [
+        k,
+        r.address_kind as u32,
+        r.number,
+        t,
+        header.pos_of_grant as u32,
+        header.encryption_mode as u32,
+        header.random_access_flag as u32,
+        l,
+        m,
+        p,
+        g,
+        a[0],
+        a[1],
+        a[2],
+        a[3],
+        a[4],
+        a[5],
+        a[6],
+        a[7],
+        a[8],
+        a[9],
+        r.bits as u32,
+        r.sent as u32,
+    ]
+}
+
+fn alloc_from(words: &[u32]) -> OptChanAlloc
+    requires { ⌜ 23 ≤ length (now words) ⌝ }
+    ensures { λ r. ⌜ r ≡ allocFrom (wordAt (now (words .entry)) 11) (now (words .entry)) ⌝ }
+{
+    if words[11] == 0 {
+        return OptChanAlloc::Absent;
+    }
+    let alloc_type = word::low8(words[12]);
+    let ts_assigned = word::low8(words[13]);
+    let ul_dl_assigned = word::low8(words[14]);
+    let clch_permission = word::low8(words[15]);
+    let cell_change_flag = word::low8(words[16]);
+    let carrier_num = word::low16(words[17]);
+    let ext_carrier_num_flag = word::low8(words[18]);
+    let mon_pattern = word::low8(words[19]);
+    let frame18_mon_pattern = word::opt_u8(words[20]);
+    OptChanAlloc::Of(ChanAllocElement {
+        alloc_type: alloc_type,
+        ts_assigned: ts_assigned,
+        ul_dl_assigned: ul_dl_assigned,
+        clch_permission: clch_permission,
+        cell_change_flag: cell_change_flag,
+        carrier_num: carrier_num,
+        ext_carrier_num_flag: ext_carrier_num_flag,
+        mon_pattern: mon_pattern,
+        frame18_mon_pattern: frame18_mon_pattern,
+    })
+}
+
+fn header_from(words: &[u32]) -> QueuedHeader
+    requires { ⌜ 23 ≤ length (now words) ⌝ }
+    ensures { λ r. ⌜ r ≡ headerFrom (now (words .entry)) ⌝ }
+{
+    let pos_of_grant = word::low8(words[4]);
+    let encryption_mode = word::low8(words[5]);
+    let random_access_flag = word::low8(words[6]);
+    let event_label = word::opt_u16(words[7]);
+    let usage_marker = word::opt_u8(words[8]);
+    let power_control_element = word::opt_u8(words[9]);
+    let slot_granting_element = word::opt_u8(words[10]);
+    let chan_alloc_element = alloc_from(words);
+    QueuedHeader {
+        pos_of_grant: pos_of_grant,
+        encryption_mode: encryption_mode,
+        random_access_flag: random_access_flag,
+        event_label: event_label,
+        usage_marker: usage_marker,
+        power_control_element: power_control_element,
+        slot_granting_element: slot_granting_element,
+        chan_alloc_element: chan_alloc_element,
+    }
+}
+
+fn record_read(words: &[u32]) -> Record
+    requires { ⌜ 23 ≤ length (now words) ⌝ }
+    ensures { λ r. ⌜ r ≡ recordRead (now (words .entry)) ⌝ }
+{
+    let kind = word::kind_of(words[0]);
+    let address_kind = word::low8(words[1]);
+    let number = words[2];
+    let tag = word::opt_u16(words[3]);
+    let header = header_from(words);
+    let bits = word::low16(words[21]);
+    let sent = word::low16(words[22]);
+    Record {
+        kind: kind,
+        address_kind: address_kind,
+        number: number,
+        tag: tag,
+        header: header,
+        bits: bits,
+        sent: sent,
+    }
+}
+
+fn records_read(words: &[u32]) -> [Record; 64]
+    requires { ⌜ 1472 ≤ length (now words) ⌝ }
+    ensures { λ r. ⌜ r ≡ recordsRead (now (words .entry)) ⌝ }
+{
+    let mut records = [Record::EMPTY; 64];
+    for i in 0..64 {
+        let at = 23 * i;
+        let r = record_read(&words[at..]);
+        records[i] = r;
+    }
+    records
+}
+
+// Stores the words of 64 records.
+pub fn put_records(words: &mut [u32], records: [Record; 64])
+    requires { ⌜ length (now words) ≡ 1472 ⌝ }
+    ensures { λ _. ⌜ now (words .exit) ≡ queueWords records ⌝ }
+{
+    for i in 0..64 {
+        let r = records[i];
+        let w = record_words(r);
+        word::put(words, 23 * i, &w);
+    }
+}
+
+// A record that no place may hold.
+fn no_record() -> Record
+    ensures { λ r. ⌜ r ≡ noRecord ⌝ }
+{
+    let empty = Record::EMPTY;
+    let header = empty.header;
+    Record {
+        kind: Kind::Grant,
+        address_kind: 255,
+        number: 0,
+        tag: OptU16::Absent,
+        header: header,
+        bits: 0,
+        sent: 0,
+    }
+}
+
+// The record of 23 words.
+pub fn record_from(words: &[u32]) -> Record
+    requires { ⌜ length (now words) ≡ 23 ⌝ }
+    ensures { λ r. ⌜ r ≡ recordFrom (now (words .entry)) ⌝ }
+{
+    let r = record_read(words);
+    let again = record_words(r);
+    if !word::same_words(&again, words) {
+        return no_record();
+    }
+    r
+}
+
+// The 64 records of 1,472 words.
+pub fn queue_from(words: &[u32]) -> [Record; 64]
+    requires { ⌜ length (now words) ≡ 1472 ⌝ }
+    ensures { λ r. ⌜ r ≡ queueFrom (now (words .entry)) ⌝ }
+{
+    let records = records_read(words);
+    let mut again = [0u32; 1472];
+    put_records(&mut again, records);
+    if !word::same_words(&again, words) {
+        let none = no_record();
+        return [none; 64];
+    }
+    records
+}

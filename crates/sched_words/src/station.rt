@@ -1,0 +1,188 @@
+// The station as 228 words.
+use crate::word;
+use sched_core::Station;
+use tdma_time::TdmaTime;
+use uplink::Entry;
+ghost use mathlib.Core.Path.{_≡_};
+ghost use Prim.Native.Nat.{_+_, _≤_};
+ghost use lib.ListN.{length};
+ghost use Rattle.sched_words.specs.Words.{Stored, timeWords, timeFrom, entryWords, entryFrom, rowWords, rowFrom, fourFrom, tableWords, stationWords, stationRead, noStation, stationFrom};
+
+fn time_from(words: &[u32]) -> TdmaTime
+    requires { ⌜ 4 ≤ length (now words) ⌝ }
+    ensures { λ r. ⌜ r ≡ timeFrom (now (words .entry)) ⌝ }
+{
+    let t = word::low8(words[0]);
+    let f = word::low8(words[1]);
+    let m = word::low8(words[2]);
+    let h = word::low16(words[3]);
+    TdmaTime {
+        t: t,
+        f: f,
+        m: m,
+        h: h,
+    }
+}
+
+fn entry_from(words: &[u32]) -> Entry
+    requires { ⌜ 3 ≤ length (now words) ⌝ }
+    ensures { λ r. ⌜ r ≡ entryFrom (now (words .entry)) ⌝ }
+{
+    let ul1 = word::opt_u32(words[0]);
+    let ul2 = word::opt_u32(words[1]);
+    let usage_marker = word::opt_u8(words[2]);
+    Entry {
+        ul1: ul1,
+        ul2: ul2,
+        usage_marker: usage_marker,
+    }
+}
+
+fn row_from(words: &[u32]) -> [Entry; 18]
+    requires { ⌜ 54 ≤ length (now words) ⌝ }
+    ensures { λ r. ⌜ r ≡ rowFrom (now (words .entry)) ⌝ }
+{
+    let mut row = [Entry::EMPTY; 18];
+    for i in 0..18 {
+        let at = 3 * i;
+        let e = entry_from(&words[at..]);
+        row[i] = e;
+    }
+    row
+}
+
+fn four_from(words: &[u32]) -> [u8; 4]
+    requires { ⌜ 4 ≤ length (now words) ⌝ }
+    ensures { λ r. ⌜ r ≡ fourFrom (now (words .entry)) ⌝ }
+{
+    let a = word::low8(words[0]);
+    let b = word::low8(words[1]);
+    let c = word::low8(words[2]);
+    let d = word::low8(words[3]);
+    [a, b, c, d]
+}
+
+fn entry_words(e: Entry) -> [u32; 3]
+    ensures { λ r. ⌜ r ≡ entryWords e ⌝ }
+{
+    let ul1 = e.ul1;
+    let ul2 = e.ul2;
+    let usage_marker = e.usage_marker;
+    let a = word::word_of_32(ul1);
+    let b = word::word_of_32(ul2);
+    let c = word::word_of_8(usage_marker);
+    [a, b, c]
+}
+
+fn time_words(time: TdmaTime) -> [u32; 4]
+    ensures { λ r. ⌜ r ≡ timeWords time ⌝ }
+{
+    [time.t as u32, time.f as u32, time.m as u32, time.h as u32]
+}
+
+fn four_words(v: [u8; 4]) -> [u32; 4]
+    ensures { λ r. ⌜ (r ≡ v) × (length v ≡ 4) ⌝ }
+{
+    [v[0] as u32, v[1] as u32, v[2] as u32, v[3] as u32]
+}
+
+// Stores the words of a row from at on.
+fn put_row(words: &mut [u32], at: usize, row: [Entry; 18])
+    requires { ⌜ at + 54 ≤ length (now words) ⌝ }
+    ensures { λ _. ⌜ Stored (now (words .entry)) at (now (words .exit)) (rowWords row) 54 ⌝ }
+{
+    for i in 0..18 {
+        let e = row[i];
+        let w = entry_words(e);
+        word::put(words, at + 3 * i, &w);
+    }
+}
+
+fn station_read(words: &[u32]) -> Station
+    requires { ⌜ length (now words) ≡ 228 ⌝ }
+    ensures { λ r. ⌜ r ≡ stationRead (now (words .entry)) ⌝ }
+{
+    let time = time_from(words);
+    let row1 = row_from(&words[4..]);
+    let row2 = row_from(&words[58..]);
+    let row3 = row_from(&words[112..]);
+    let row4 = row_from(&words[166..]);
+    let next_usage_marker = four_from(&words[220..]);
+    let queued = four_from(&words[224..]);
+    Station {
+        time: time,
+        row1: row1,
+        row2: row2,
+        row3: row3,
+        row4: row4,
+        next_usage_marker: next_usage_marker,
+        queued: queued,
+    }
+}
+
+// Stores the words of the four rows.
+fn put_table(words: &mut [u32], s: Station)
+    requires { ⌜ length (now words) ≡ 228 ⌝ }
+    ensures { λ _. ⌜ Stored (now (words .entry)) 4 (now (words .exit)) (tableWords s) 216 ⌝ }
+{
+    let row1 = s.row1;
+    let row2 = s.row2;
+    let row3 = s.row3;
+    let row4 = s.row4;
+    put_row(words, 4, row1);
+    put_row(words, 58, row2);
+    put_row(words, 112, row3);
+    put_row(words, 166, row4);
+}
+
+// Stores the words of a station.
+pub fn put_station(words: &mut [u32], s: Station)
+    requires { ⌜ length (now words) ≡ 228 ⌝ }
+    ensures { λ _. ⌜ now (words .exit) ≡ stationWords s ⌝ }
+{
+    let time = s.time;
+    let counters = s.next_usage_marker;
+    let queued = s.queued;
+    let a = time_words(time);
+    let b = four_words(counters);
+    let c = four_words(queued);
+    word::put(words, 0, &a);
+    put_table(words, s);
+    word::put(words, 220, &b);
+    word::put(words, 224, &c);
+}
+
+// A station that question 1 refuses.
+fn no_station() -> Station
+    ensures { λ r. ⌜ r ≡ noStation ⌝ }
+{
+    let time = TdmaTime {
+        t: 0,
+        f: 0,
+        m: 0,
+        h: 0,
+    };
+    Station {
+        time: time,
+        row1: [Entry::EMPTY; 18],
+        row2: [Entry::EMPTY; 18],
+        row3: [Entry::EMPTY; 18],
+        row4: [Entry::EMPTY; 18],
+        next_usage_marker: [0; 4],
+        queued: [0; 4],
+    }
+}
+
+// The station of 228 words.
+pub fn station_from(words: &[u32]) -> Station
+    requires { ⌜ length (now words) ≡ 228 ⌝ }
+    ensures { λ r. ⌜ r ≡ stationFrom (now (words .entry)) ⌝ }
+{
+    let s = station_read(words);
+    let mut again = [0u32; 228];
+    put_station(&mut again, s);
+    if !word::same_words(&again, words) {
+        return no_station();
+    }
+    s
+}

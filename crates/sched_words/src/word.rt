@@ -1,0 +1,138 @@
+// Single words, and runs of words compared and stored.
+use dl_record::Kind;
+use dl_record::Record;
+use optional::OptU8;
+use optional::OptU16;
+use optional::OptU32;
+ghost use mathlib.Core.Path.{_≡_};
+ghost use Prim.Native.Nat.{_+_, _%_, _≤_};
+ghost use lib.ListN.{length};
+ghost use lib.Seq.{sets};
+ghost use Rattle.sched_words.specs.Words.{wordOf8, wordOf16, wordOf32, optU8, optU16, optU32, kindWord, kindOf, sameWords};
+
+// The low 8 bits of a word.
+pub fn low8(w: u32) -> u8
+    ensures { λ r. ⌜ r ≡ w % 256 ⌝ }
+{
+    (w % 256) as u8
+}
+
+// The low 16 bits of a word.
+pub fn low16(w: u32) -> u16
+    ensures { λ r. ⌜ r ≡ w % 65536 ⌝ }
+{
+    (w % 65536) as u16
+}
+
+pub fn opt_u8(w: u32) -> OptU8
+    ensures { λ r. ⌜ r ≡ optU8 w ⌝ }
+{
+    if w == 0 {
+        return OptU8::Absent;
+    }
+    OptU8::Of(low8(w - 1))
+}
+
+pub fn opt_u16(w: u32) -> OptU16
+    ensures { λ r. ⌜ r ≡ optU16 w ⌝ }
+{
+    if w == 0 {
+        return OptU16::Absent;
+    }
+    OptU16::Of(low16(w - 1))
+}
+
+pub fn opt_u32(w: u32) -> OptU32
+    ensures { λ r. ⌜ r ≡ optU32 w ⌝ }
+{
+    if w == 0 {
+        return OptU32::Absent;
+    }
+    OptU32::Of(w - 1)
+}
+
+pub fn word_of_8(o: OptU8) -> u32
+    ensures { λ r. ⌜ r ≡ wordOf8 o ⌝ }
+{
+    match o {
+        OptU8::Absent => 0,
+        OptU8::Of(v) => v as u32 + 1,
+    }
+}
+
+pub fn word_of_16(o: OptU16) -> u32
+    ensures { λ r. ⌜ r ≡ wordOf16 o ⌝ }
+{
+    match o {
+        OptU16::Absent => 0,
+        OptU16::Of(v) => v as u32 + 1,
+    }
+}
+
+pub fn word_of_32(o: OptU32) -> u32
+    ensures { λ r. ⌜ r ≡ wordOf32 o ⌝ }
+{
+    match o {
+        OptU32::Absent => 0,
+        OptU32::Of(v) => std::num::wrapping_add_u32(v, 1),
+    }
+}
+
+pub fn kind_word(k: Kind) -> u32
+    ensures { λ r. ⌜ r ≡ kindWord k ⌝ }
+{
+    match k {
+        Kind::Grant => 0,
+        Kind::Ack => 1,
+        Kind::Record => 2,
+        Kind::Waiting => 3,
+        Kind::Started => 4,
+    }
+}
+
+pub fn kind_of(w: u32) -> Kind
+    ensures { λ r. ⌜ r ≡ kindOf w ⌝ }
+{
+    if w == 0 {
+        return Kind::Grant;
+    }
+    if w == 1 {
+        return Kind::Ack;
+    }
+    if w == 2 {
+        return Kind::Record;
+    }
+    if w == 3 {
+        return Kind::Waiting;
+    }
+    Kind::Started
+}
+
+// ---- words
+
+// Are two runs of words the same?
+pub fn same_words(a: &[u32], b: &[u32]) -> bool
+    requires { ⌜ length (now a) ≡ length (now b) ⌝ }
+    ensures { λ r. ⌜ r ≡ sameWords (now (a .entry)) (now (b .entry)) ⌝ }
+{
+    let mut i = 0;
+    while i < a.len() {
+        if a[i] != b[i] {
+            return false;
+        }
+        i += 1;
+    }
+    true
+}
+
+// Stores the words of src from at on.
+pub fn put(words: &mut [u32], at: usize, src: &[u32])
+    requires { ⌜ at + length (now src) ≤ length (now words) ⌝ }
+    ensures { λ _. ⌜ now (words .exit) ≡ sets (now (words .entry)) at (now (src .entry)) ⌝ }
+{
+    let mut i = 0;
+    while i < src.len() {
+        words[at + i] = src[i];
+        i += 1;
+    }
+}
