@@ -1,0 +1,165 @@
+-- What each exported function answers and leaves, by the calls of document 01 on what the caller's words stand for. Assumes nothing.
+use mathlib.Core.Bool.{cond}
+use mathlib.Core.List.{List}
+use Prim.Native.Nat.{ℕ}
+use lib.Dec.{eqb}
+use lib.ListN.{length, replicate}
+use Rattle.optional.specs.declared.OptU8.{OptU8}
+use Rattle.tdma_time.specs.declared.TdmaTime.{TdmaTime}
+use Rattle.uplink.specs.declared.PhyBlockNum.{PhyBlockNum}
+use Rattle.uplink.specs.UplinkEntry.{usageNumber, usageMarker}
+use Rattle.dl_send.specs.Progress.{tagRow}
+use Rattle.sched_core.specs.declared.Answer.{Answer}
+use Rattle.sched_core.specs.declared.RequestReply.{RequestReply}
+use Rattle.sched_core.specs.declared.BuildReply.{BuildReply}
+use Rattle.sched_core.specs.declared.OwnerReply.{OwnerReply}
+use Rattle.sched_core.specs.declared.UsageReply.{UsageReply}
+use Rattle.sched_core.specs.Questions.{Memory, memory, refusalNumber}
+use Rattle.sched_core.specs.Calls.{Outcome, BuildOutcome, replyNumber, requestNumber, buildNumber, ownerNumber, newCall, advanceCall, ownerCall, usageCall, requestCall, ackCall, tmaCall, buildCall}
+use Rattle.sched_words.specs.Words.{wordOf32, stationWords, stationFrom, queueWords, recordsFrom, recordFrom}
+use Rattle.bs_sched_c.specs.declared.reply.BsSchedGrant.{BsSchedGrant}
+use Rattle.bs_sched_c.specs.declared.reply.BsSchedBuilt.{BsSchedBuilt}
+use Rattle.bs_sched_c.specs.declared.reply.BsSchedOwners.{BsSchedOwners}
+use Rattle.bs_sched_c.specs.declared.reply.BsSchedUsage.{BsSchedUsage}
+
+-- ---- replies
+
+-- document 01: "for R capacity, delay, marker or 0"
+abbrev pub markerOr0 : OptU8 → ℕ
+markerOr0 OptU8.Absent = 0
+markerOr0 (OptU8.Of m) = m
+
+-- "On a no, the number is the whole reply": all else 0
+abbrev pub notGranted : ℕ → BsSchedGrant
+notGranted n = record { refusal = n; capacity = 0; delay = 0; «usage_marker» = 0 }
+
+abbrev pub grantOf : RequestReply → BsSchedGrant
+grantOf (RequestReply.Granted c d m) = record { refusal = 0; capacity = c; delay = d; «usage_marker» = markerOr0 m }
+grantOf (RequestReply.Refused r) = notGranted (refusalNumber r)
+
+-- is there a block
+abbrev pub builtWord : BuildReply → ℕ
+builtWord BuildReply.Built = 1
+builtWord BuildReply.NoBlock = 0
+builtWord (BuildReply.Refused r) = 0
+
+abbrev pub notBuilt : ℕ → BsSchedBuilt
+notBuilt n = record { refusal = n; built = 0; «tag_count» = 0; tags = replicate 16 0 }
+
+-- "Tags of finished records come back in order": sixteen, zeros behind those that come back
+abbrev pub builtOf : BuildOutcome → BsSchedBuilt
+builtOf o = record { refusal = buildNumber (o .reply); built = builtWord (o .reply); «tag_count» = length (o .tags); tags = tagRow 16 (o .tags) }
+
+-- an owner: 0 for none, else the number and 1
+abbrev pub ownerWord : OwnerReply → ℕ
+ownerWord (OwnerReply.Owner o) = wordOf32 o
+ownerWord (OwnerReply.Refused r) = 0
+
+abbrev pub ownersOf : OwnerReply → OwnerReply → OwnerReply → BsSchedOwners
+ownersOf both first second = record { refusal = ownerNumber both; both = ownerWord both; first = ownerWord first; second = ownerWord second }
+
+-- "Usage: 0 no half taken, 1 first only, 2 both, 3 any taken with a marker, the marker beside it."
+abbrev pub usageAnswer : ℕ → ℕ → ℕ → BsSchedUsage
+usageAnswer n u m = record { refusal = n; usage = u; «usage_marker» = m }
+
+abbrev pub usageOf : UsageReply → BsSchedUsage
+usageOf (UsageReply.Usage u) = usageAnswer 0 (usageNumber u) (markerOr0 (usageMarker u))
+usageOf (UsageReply.Refused r) = usageAnswer (refusalNumber r) 0 0
+
+-- the time that a caller names
+abbrev pub timeAt : ℕ → ℕ → ℕ → ℕ → TdmaTime
+timeAt h m f t = record { t = t; f = f; m = m; h = h }
+
+-- ---- a station of other than 228 words: 2, and nothing is altered
+
+abbrev pub if228 : {A : Type 0} → List ℕ → A → A → A
+if228 ws done refused = cond (eqb (length ws) 228) done refused
+
+-- ---- calls on the station alone
+
+-- all that such a call answers and leaves
+pub record StationLeft : Type 0 where
+  pub reply : ℕ
+  pub station : List ℕ
+
+abbrev pub stationLeft : ℕ → List ℕ → StationLeft
+stationLeft n ws = record { reply = n; station = ws }
+
+-- the station's words where the number is 0, else those that came in
+abbrev pub answered : List ℕ → Answer → StationLeft
+answered ws a = cond (eqb (replyNumber (a .reply)) 0) (stationLeft 0 (stationWords (a .station))) (stationLeft (replyNumber (a .reply)) ws)
+
+unfoldable pub newLeft : List ℕ → TdmaTime → StationLeft
+newLeft ws x = if228 ws (answered ws (newCall x)) (stationLeft 2 ws)
+
+unfoldable pub advanceLeft : List ℕ → StationLeft
+advanceLeft ws = if228 ws (answered ws (advanceCall (stationFrom ws))) (stationLeft 2 ws)
+
+unfoldable pub ownerAnswer : List ℕ → TdmaTime → BsSchedOwners
+ownerAnswer ws x =
+    let s = stationFrom ws in
+    if228 ws (ownersOf (ownerCall s x PhyBlockNum.Both) (ownerCall s x PhyBlockNum.Block1) (ownerCall s x PhyBlockNum.Block2))
+    (record { refusal = 2; both = 0; first = 0; second = 0 })
+
+unfoldable pub usageReply : List ℕ → TdmaTime → BsSchedUsage
+usageReply ws x = if228 ws (usageOf (usageCall (stationFrom ws) x)) (usageAnswer 2 0 0)
+
+-- ---- calls that queue
+
+-- all that such a call answers and leaves
+pub record Left (R : Type 0) : Type 0 where
+  pub reply : R
+  pub station : List ℕ
+  pub queue : List ℕ
+  pub store : List ℕ
+
+abbrev pub left : {R : Type 0} → R → List ℕ → List ℕ → List ℕ → Left R
+left r ws qs st = record { reply = r; station = ws; queue = qs; store = st }
+
+-- the memory that a station, a queue of words and a store stand for
+abbrev pub memoryFrom : List ℕ → List ℕ → List ℕ → Memory
+memoryFrom ws qs st = memory (stationFrom ws) (recordsFrom qs) st
+
+-- what an outcome leaves: its memory in words where the number is 0, else all as it came in
+abbrev pub leftBy : {A : Type 0} {R : Type 0} → (A → ℕ) → (A → R) → List ℕ → List ℕ → List ℕ → Outcome A → Left R
+leftBy number reply ws qs st o =
+    cond (eqb (number (o .reply)) 0) (left (reply (o .reply)) (stationWords (o .memory .station)) (queueWords (o .memory .records)) (o .memory .store))
+    (left (reply (o .reply)) ws qs st)
+
+unfoldable pub requestLeft : List ℕ → List ℕ → List ℕ → ℕ → ℕ → ℕ → ℕ → Left BsSchedGrant
+requestLeft ws qs st t code kind n =
+    if228 ws (leftBy requestNumber grantOf ws qs st (requestCall (memoryFrom ws qs st) t code kind n)) (left (notGranted 2) ws qs st)
+
+unfoldable pub ackLeft : List ℕ → List ℕ → List ℕ → ℕ → ℕ → ℕ → Left ℕ
+ackLeft ws qs st t kind n = if228 ws (leftBy replyNumber replyNumber ws qs st (ackCall (memoryFrom ws qs st) t kind n)) (left 2 ws qs st)
+
+-- the record that is offered has 23 words, of which kind and sent do not count; of other than 23: 2, like the station
+unfoldable pub enqueueLeft : List ℕ → List ℕ → List ℕ → ℕ → List ℕ → List ℕ → Left ℕ
+enqueueLeft ws qs st t rs sdu =
+    let r = recordFrom rs in
+    if228 ws
+    (cond (eqb (length rs) 23)
+    (leftBy replyNumber replyNumber ws qs st (tmaCall (memoryFrom ws qs st) t (r .«address_kind») (r .number) (r .tag) (r .header) (r .bits) sdu))
+    (left 2 ws qs st))
+    (left 2 ws qs st)
+
+-- ---- a build
+
+-- all that a build answers and leaves
+pub record BuildLeft : Type 0 where
+  pub reply : BsSchedBuilt
+  pub station : List ℕ
+  pub queue : List ℕ
+  pub store : List ℕ
+  pub block : List ℕ
+
+abbrev pub buildLeft : BsSchedBuilt → List ℕ → List ℕ → List ℕ → List ℕ → BuildLeft
+buildLeft r ws qs st block = record { reply = r; station = ws; queue = qs; store = st; block = block }
+
+abbrev pub buildLeftBy : List ℕ → List ℕ → List ℕ → List ℕ → BuildOutcome → BuildLeft
+buildLeftBy ws qs st block o =
+    cond (eqb (buildNumber (o .reply)) 0) (buildLeft (builtOf o) (stationWords (o .memory .station)) (queueWords (o .memory .records)) (o .memory .store) (o .block))
+    (buildLeft (builtOf o) ws qs st block)
+
+unfoldable pub builtLeft : List ℕ → List ℕ → List ℕ → List ℕ → BuildLeft
+builtLeft ws qs st block = if228 ws (buildLeftBy ws qs st block (buildCall (memoryFrom ws qs st) block)) (buildLeft (notBuilt 2) ws qs st block)

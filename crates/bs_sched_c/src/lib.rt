@@ -1,0 +1,251 @@
+// The scheduler for callers in C and Rust: state and queue as words (crate sched_words), store, SDU and block as octets. Each
+// function answers document 01's number, 0 for done; on any other number nothing of the caller's is altered.
+pub mod call;
+pub mod reply;
+
+use crate::reply::BsSchedBuilt;
+use crate::reply::BsSchedGrant;
+use crate::reply::BsSchedOwners;
+use crate::reply::BsSchedUsage;
+use tdma_time::TdmaTime;
+use uplink::PhyBlockNum;
+ghost use mathlib.Core.Path.{_≡_};
+ghost use Rattle.bs_sched_c.specs.Exports.{timeAt, stationLeft, newLeft, advanceLeft, ownerAnswer, usageReply, left, requestLeft, ackLeft, enqueueLeft, buildLeft, builtLeft};
+
+fn time_at(h: u16, m: u8, f: u8, t: u8) -> TdmaTime
+    ensures { λ r. ⌜ r ≡ timeAt h m f t ⌝ }
+{
+    TdmaTime {
+        t: t,
+        f: f,
+        m: m,
+        h: h,
+    }
+}
+
+// A new station at a time. Queue and store of a new station are all 0.
+#[no_mangle]
+pub extern "C" fn bs_sched_new(station: &mut [u32], h: u16, m: u8, f: u8, t: u8) -> u8
+    ensures { λ r. ⌜ stationLeft r (now (station .exit)) ≡ newLeft (now (station .entry)) (timeAt h m f t) ⌝ }
+{
+    if station.len() != 228 {
+        return 2;
+    }
+    let time = time_at(h, m, f, t);
+    let answer = sched_core::new(time);
+    let reply = answer.reply;
+    let next = answer.station;
+    let n = reply::reply_number(reply);
+    if n != 0 {
+        return n;
+    }
+    sched_words::station::put_station(station, next);
+    0
+}
+
+// One slot on.
+#[no_mangle]
+pub extern "C" fn bs_sched_advance(station: &mut [u32]) -> u8
+    ensures { λ r. ⌜ stationLeft r (now (station .exit)) ≡ advanceLeft (now (station .entry)) ⌝ }
+{
+    if station.len() != 228 {
+        return 2;
+    }
+    let s = sched_words::station::station_from(station);
+    let answer = sched_core::advance(s);
+    let reply = answer.reply;
+    let next = answer.station;
+    let n = reply::reply_number(reply);
+    if n != 0 {
+        return n;
+    }
+    sched_words::station::put_station(station, next);
+    0
+}
+
+// Who holds the slot at a time: both halves, the first, the second.
+#[no_mangle]
+pub extern "C" fn bs_sched_slot_owner(station: &[u32], h: u16, m: u8, f: u8, t: u8) -> BsSchedOwners
+    ensures { λ r. ⌜ r ≡ ownerAnswer (now (station .entry)) (timeAt h m f t) ⌝ }
+{
+    if station.len() != 228 {
+        return BsSchedOwners {
+            refusal: 2,
+            both: 0,
+            first: 0,
+            second: 0,
+        };
+    }
+    let s = sched_words::station::station_from(station);
+    let time = time_at(h, m, f, t);
+    let both = sched_core::ul_get_slot_owner(s, time, PhyBlockNum::Both);
+    let first = sched_core::ul_get_slot_owner(s, time, PhyBlockNum::Block1);
+    let second = sched_core::ul_get_slot_owner(s, time, PhyBlockNum::Block2);
+    let n = reply::owner_number(both);
+    let b = reply::owner_word(both);
+    let x = reply::owner_word(first);
+    let y = reply::owner_word(second);
+    BsSchedOwners {
+        refusal: n,
+        both: b,
+        first: x,
+        second: y,
+    }
+}
+
+// How the slot at a time is used.
+#[no_mangle]
+pub extern "C" fn bs_sched_usage(station: &[u32], h: u16, m: u8, f: u8, t: u8) -> BsSchedUsage
+    ensures { λ r. ⌜ r ≡ usageReply (now (station .entry)) (timeAt h m f t) ⌝ }
+{
+    if station.len() != 228 {
+        return reply::usage_answer(2, 0, 0);
+    }
+    let s = sched_words::station::station_from(station);
+    let time = time_at(h, m, f, t);
+    let found = sched_core::ul_get_usage(s, time);
+    reply::usage_of(found)
+}
+
+// A request for capacity.
+#[no_mangle]
+pub extern "C" fn bs_sched_request(
+    station: &mut [u32],
+    queue: &mut [u32],
+    store: &[u8],
+    timeslot: u8,
+    code: u8,
+    kind: u8,
+    number: u32,
+) -> BsSchedGrant
+    ensures { λ r. ⌜ left r (now (station .exit)) (now (queue .exit)) (now (store .entry)) ≡ requestLeft (now (station .entry)) (now (queue .entry)) (now (store .entry)) timeslot code kind number ⌝ }
+{
+    if station.len() != 228 {
+        return reply::not_granted(2);
+    }
+    let s = sched_words::station::station_from(station);
+    if queue.len() != 1472 {
+        return reply::not_granted(reply::length_number(s));
+    }
+    let records = sched_words::queue::queue_from(queue);
+    let done = call::request(s, records, store, timeslot, code, kind, number);
+    let reply = done.reply;
+    let next = done.station;
+    let after = done.records;
+    let grant = reply::grant_of(reply);
+    if grant.refusal != 0 {
+        return grant;
+    }
+    sched_words::station::put_station(station, next);
+    sched_words::queue::put_records(queue, after);
+    grant
+}
+
+// An acknowledgement of a random access is queued.
+#[no_mangle]
+pub extern "C" fn bs_sched_enqueue_ack(
+    station: &mut [u32],
+    queue: &mut [u32],
+    store: &[u8],
+    timeslot: u8,
+    kind: u8,
+    number: u32,
+) -> u8
+    ensures { λ r. ⌜ left r (now (station .exit)) (now (queue .exit)) (now (store .entry)) ≡ ackLeft (now (station .entry)) (now (queue .entry)) (now (store .entry)) timeslot kind number ⌝ }
+{
+    if station.len() != 228 {
+        return 2;
+    }
+    let s = sched_words::station::station_from(station);
+    if queue.len() != 1472 {
+        return reply::length_number(s);
+    }
+    let records = sched_words::queue::queue_from(queue);
+    let done = call::enqueue_ack(s, records, store, timeslot, kind, number);
+    let reply = done.reply;
+    let next = done.station;
+    let after = done.records;
+    let n = reply::reply_number(reply);
+    if n != 0 {
+        return n;
+    }
+    sched_words::station::put_station(station, next);
+    sched_words::queue::put_records(queue, after);
+    0
+}
+
+// A record is queued with its SDU. It is offered as 23 words, as in the queue; its kind and its sent bits do not count.
+#[no_mangle]
+pub extern "C" fn bs_sched_enqueue(
+    station: &mut [u32],
+    queue: &mut [u32],
+    store: &mut [u8],
+    timeslot: u8,
+    offered: &[u32],
+    sdu: &[u8],
+) -> u8
+    ensures { λ r. ⌜ left r (now (station .exit)) (now (queue .exit)) (now (store .exit)) ≡ enqueueLeft (now (station .entry)) (now (queue .entry)) (now (store .entry)) timeslot (now (offered .entry)) (now (sdu .entry)) ⌝ }
+{
+    if station.len() != 228 {
+        return 2;
+    }
+    if offered.len() != 23 {
+        return 2;
+    }
+    let s = sched_words::station::station_from(station);
+    if queue.len() != 1472 {
+        return reply::length_number(s);
+    }
+    let records = sched_words::queue::queue_from(queue);
+    let r = sched_words::queue::record_from(offered);
+    let done = call::enqueue(s, records, store, timeslot, r, sdu);
+    let reply = done.reply;
+    let next = done.station;
+    let after = done.records;
+    let n = reply::reply_number(reply);
+    if n != 0 {
+        return n;
+    }
+    sched_words::station::put_station(station, next);
+    sched_words::queue::put_records(queue, after);
+    0
+}
+
+// The block of the current slot is built.
+#[no_mangle]
+pub extern "C" fn bs_sched_build(
+    station: &mut [u32],
+    queue: &mut [u32],
+    store: &mut [u8],
+    block: &mut [u8],
+) -> BsSchedBuilt
+    ensures { λ r. ⌜ buildLeft r (now (station .exit)) (now (queue .exit)) (now (store .exit)) (now (block .exit)) ≡ builtLeft (now (station .entry)) (now (queue .entry)) (now (store .entry)) (now (block .entry)) ⌝ }
+{
+    if station.len() != 228 {
+        return reply::not_built(2);
+    }
+    let s = sched_words::station::station_from(station);
+    if queue.len() != 1472 {
+        return reply::not_built(reply::length_number(s));
+    }
+    let records = sched_words::queue::queue_from(queue);
+    let done = call::build(s, records, store, block);
+    let reply = done.reply;
+    let next = done.station;
+    let after = done.records;
+    let tags = done.tags;
+    let n = reply::build_number(reply);
+    let built = reply::built_word(reply);
+    let answer = BsSchedBuilt {
+        refusal: n,
+        built: built,
+        tag_count: done.tag_count,
+        tags: tags,
+    };
+    if n != 0 {
+        return answer;
+    }
+    sched_words::station::put_station(station, next);
+    sched_words::queue::put_records(queue, after);
+    answer
+}

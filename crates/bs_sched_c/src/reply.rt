@@ -1,0 +1,211 @@
+// The replies of the exported functions, and how the scheduler's replies become them.
+use optional::OptU8;
+use sched_core::BuildReply;
+use sched_core::OwnerReply;
+use sched_core::Refusal;
+use sched_core::Reply;
+use sched_core::RequestReply;
+use sched_core::Station;
+use sched_core::UsageReply;
+use uplink::AccessAssignUlUsage;
+ghost use mathlib.Core.Path.{_≡_};
+ghost use mathlib.Core.Bool.{cond};
+ghost use Rattle.uplink.specs.UplinkEntry.{usageNumber, usageMarker};
+ghost use Rattle.sched_core.specs.Questions.{refusalNumber, soundStation};
+ghost use Rattle.sched_core.specs.Calls.{replyNumber, buildNumber, ownerNumber};
+ghost use Rattle.bs_sched_c.specs.Exports.{markerOr0, notGranted, grantOf, builtWord, notBuilt, ownerWord, usageAnswer, usageOf};
+
+// The grant of a request; usage_marker is 0 if there is none.
+#[repr(C)]
+pub struct BsSchedGrant {
+    pub refusal: u8,
+    pub capacity: u8,
+    pub delay: u8,
+    pub usage_marker: u8,
+}
+
+// A build: is there a block, and the tags of the records that are finished.
+#[repr(C)]
+pub struct BsSchedBuilt {
+    pub refusal: u8,
+    pub built: u8,
+    pub tag_count: u8,
+    pub tags: [u16; 16],
+}
+
+// The owners of a slot, each 0 for none, else the number and 1.
+#[repr(C)]
+pub struct BsSchedOwners {
+    pub refusal: u8,
+    pub both: u32,
+    pub first: u32,
+    pub second: u32,
+}
+
+// How a slot is used: 0 no half taken, 1 first only, 2 both, 3 with a marker.
+#[repr(C)]
+pub struct BsSchedUsage {
+    pub refusal: u8,
+    pub usage: u8,
+    pub usage_marker: u8,
+}
+
+fn refusal_number(r: Refusal) -> u8
+    ensures { λ n. ⌜ n ≡ refusalNumber r ⌝ }
+{
+    match r {
+        Refusal::Unsound => 1,
+        Refusal::Lengths => 2,
+        Refusal::Timeslot => 3,
+        Refusal::Requirement => 4,
+        Refusal::Address => 5,
+        Refusal::Header => 6,
+        Refusal::Sdu => 7,
+        Refusal::QueueFull => 8,
+        Refusal::NoRun => 9,
+        Refusal::TooLate => 10,
+    }
+}
+
+pub fn reply_number(r: Reply) -> u8
+    ensures { λ n. ⌜ n ≡ replyNumber r ⌝ }
+{
+    match r {
+        Reply::Done => 0,
+        Reply::Refused(q) => refusal_number(q),
+    }
+}
+
+// The number where the queue has not 64 records: 1 for an unsound state comes first.
+pub fn length_number(s: Station) -> u8
+    ensures { λ n. ⌜ n ≡ cond (soundStation s) 2 1 ⌝ }
+{
+    if !sched_core::station_is_sound(s) {
+        return 1;
+    }
+    2
+}
+
+fn marker_or_0(o: OptU8) -> u8
+    ensures { λ r. ⌜ r ≡ markerOr0 o ⌝ }
+{
+    match o {
+        OptU8::Absent => 0,
+        OptU8::Of(m) => m,
+    }
+}
+
+pub fn not_granted(n: u8) -> BsSchedGrant
+    ensures { λ r. ⌜ r ≡ notGranted n ⌝ }
+{
+    BsSchedGrant {
+        refusal: n,
+        capacity: 0,
+        delay: 0,
+        usage_marker: 0,
+    }
+}
+
+fn granted(capacity: u8, delay: u8, usage_marker: OptU8) -> BsSchedGrant
+    ensures { λ r. ⌜ r ≡ record { refusal = 0; capacity = capacity; delay = delay; «usage_marker» = markerOr0 «usage_marker» } ⌝ }
+{
+    let m = marker_or_0(usage_marker);
+    BsSchedGrant {
+        refusal: 0,
+        capacity: capacity,
+        delay: delay,
+        usage_marker: m,
+    }
+}
+
+pub fn grant_of(r: RequestReply) -> BsSchedGrant
+    ensures { λ g. ⌜ g ≡ grantOf r ⌝ }
+{
+    match r {
+        RequestReply::Granted {
+            capacity,
+            delay,
+            usage_marker,
+        } => granted(capacity, delay, usage_marker),
+        RequestReply::Refused(q) => not_granted(refusal_number(q)),
+    }
+}
+
+pub fn build_number(r: BuildReply) -> u8
+    ensures { λ n. ⌜ n ≡ buildNumber r ⌝ }
+{
+    match r {
+        BuildReply::Built => 0,
+        BuildReply::NoBlock => 0,
+        BuildReply::Refused(q) => refusal_number(q),
+    }
+}
+
+pub fn built_word(r: BuildReply) -> u8
+    ensures { λ n. ⌜ n ≡ builtWord r ⌝ }
+{
+    match r {
+        BuildReply::Built => 1,
+        BuildReply::NoBlock => 0,
+        BuildReply::Refused(_) => 0,
+    }
+}
+
+pub fn not_built(n: u8) -> BsSchedBuilt
+    ensures { λ r. ⌜ r ≡ notBuilt n ⌝ }
+{
+    BsSchedBuilt {
+        refusal: n,
+        built: 0,
+        tag_count: 0,
+        tags: [0u16; 16],
+    }
+}
+
+pub fn owner_number(r: OwnerReply) -> u8
+    ensures { λ n. ⌜ n ≡ ownerNumber r ⌝ }
+{
+    match r {
+        OwnerReply::Owner(_) => 0,
+        OwnerReply::Refused(q) => refusal_number(q),
+    }
+}
+
+pub fn owner_word(r: OwnerReply) -> u32
+    ensures { λ n. ⌜ n ≡ ownerWord r ⌝ }
+{
+    match r {
+        OwnerReply::Owner(o) => sched_words::word::word_of_32(o),
+        OwnerReply::Refused(_) => 0,
+    }
+}
+
+pub fn usage_answer(n: u8, usage: u8, usage_marker: u8) -> BsSchedUsage
+    ensures { λ r. ⌜ r ≡ usageAnswer n usage «usage_marker» ⌝ }
+{
+    BsSchedUsage {
+        refusal: n,
+        usage: usage,
+        usage_marker: usage_marker,
+    }
+}
+
+fn usage_found(u: AccessAssignUlUsage) -> BsSchedUsage
+    ensures { λ r. ⌜ r ≡ usageAnswer 0 (usageNumber u) (markerOr0 (usageMarker u)) ⌝ }
+{
+    match u {
+        AccessAssignUlUsage::CommonOnly => usage_answer(0, 0, 0),
+        AccessAssignUlUsage::CommonAndAssigned => usage_answer(0, 1, 0),
+        AccessAssignUlUsage::AssignedOnly => usage_answer(0, 2, 0),
+        AccessAssignUlUsage::Traffic(m) => usage_answer(0, 3, m),
+    }
+}
+
+pub fn usage_of(r: UsageReply) -> BsSchedUsage
+    ensures { λ a. ⌜ a ≡ usageOf r ⌝ }
+{
+    match r {
+        UsageReply::Usage(u) => usage_found(u),
+        UsageReply::Refused(q) => usage_answer(refusal_number(q), 0, 0),
+    }
+}
