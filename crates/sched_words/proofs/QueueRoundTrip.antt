@@ -10,7 +10,8 @@ use lib.ListN.{length, getD, drop, take, replicate, length-drop}
 use borrow.Author.Tests.{eq-eqb, eqb-true, leb-true, ltb-true}
 use Rattle.optional.specs.declared.OptU8.{OptU8}
 use Rattle.optional.specs.declared.OptU16.{OptU16}
-use Rattle.uplink.proofs.Basics.{not-both, and-left, and-right}
+use Rattle.optional.proofs.Tests.{and-left, and-right}
+use Rattle.uplink.proofs.Basics.{not-both}
 use Rattle.mac_pdus.specs.declared.ChanAllocElement.{ChanAllocElement}
 use Rattle.mac_pdus.specs.declared.OptChanAlloc.{OptChanAlloc}
 use Rattle.dl_record.specs.declared.Kind.{Kind}

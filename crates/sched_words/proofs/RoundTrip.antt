@@ -16,7 +16,8 @@ use Rattle.tdma_time.specs.Time.{Valid, valid}
 use Rattle.tdma_time.proofs.TimeLaws.{true-valid}
 use Rattle.uplink.specs.declared.Entry.{Entry}
 use Rattle.uplink.specs.UplinkEntry.{FourRowsOfEighteen, all, soundOwner, soundCounter, soundMarker, soundEntry, soundRow, soundTable, soundCounters}
-use Rattle.uplink.proofs.Basics.{not-both, and-left, and-right}
+use Rattle.optional.proofs.Tests.{and-left, and-right}
+use Rattle.uplink.proofs.Basics.{not-both}
 use Rattle.uplink.proofs.SoundLaws.{sound-parts}
 use Rattle.sched_core.specs.declared.Station.{Station}
 use Rattle.sched_core.specs.Station.{tableOf}

@@ -1,0 +1,12 @@
+// Links libbs_sched_c.a, which `rt staticlib bs_sched_c` writes. BS_SCHED_LIB names another folder that holds it.
+use std::env;
+use std::path::PathBuf;
+
+fn main() {
+    let here = PathBuf::from(env::var("CARGO_MANIFEST_DIR").unwrap());
+    let folder = env::var("BS_SCHED_LIB").map(PathBuf::from).unwrap_or(here.join("../target/staticlib"));
+    println!("cargo:rerun-if-env-changed=BS_SCHED_LIB");
+    println!("cargo:rerun-if-changed={}", folder.join("libbs_sched_c.a").display());
+    println!("cargo:rustc-link-search=native={}", folder.display());
+    println!("cargo:rustc-link-lib=static=bs_sched_c");
+}
