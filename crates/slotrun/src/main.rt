@@ -136,12 +136,19 @@ fn empty_stage() -> [u8; 256]
     [0; 256]
 }
 
+// What is read at a time, with what was kept of the last.
+fn empty_input() -> [u8; 256]
+    ensures { λ r. ⌜ 256 ≡ length r ⌝ }
+{
+    [0; 256]
+}
+
 fn main() {
     let mut station = start();
     let mut queue = [Record::EMPTY; 64];
     let mut store = empty_store();
     let mut stage = empty_stage();
-    let mut input = empty_stage();
+    let mut input = empty_input();
     let mut out = io::large_buffer();
     let mut held = 0;
     let mut turns = u64::MAX;
