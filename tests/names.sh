@@ -9,7 +9,7 @@ for name in $(grep -hE '^\|' docs/PROMISES.md docs/ARCHITECTURE.md | grep -oE '`
         continue
     fi
     if ! grep -rqE "(^|[^A-Za-z0-9_-])$name([^A-Za-z0-9_-]|\$)" crates --include='*.rt' --include='*.antt' --include='*.edit' &&
-        ! find crates -path "*/must-fail/$name.edit" | grep -q .; then
+        ! find crates tests/wrong -name "$name.edit" | grep -q .; then
         echo "names: \`$name\` is named in the documents and stands nowhere in crates/"
         missing=1
     fi
