@@ -4,12 +4,12 @@ use dl_record::Record;
 use optional::OptU8;
 use optional::OptU16;
 ghost use mathlib.Core.Path.{_≡_};
-ghost use Prim.Native.Nat.{_+_, _*_, _<_, _≤_};
-ghost use lib.ListN.{length, drop, getD};
+ghost use Prim.Native.Nat.{_*_, _<_, _≤_};
+ghost use lib.ListN.{length, getD};
 ghost use Rattle.dl_record.specs.Record.{grantRecord, ackRecord};
 ghost use Rattle.sdu_store.specs.Cells.{cellOf};
 ghost use Rattle.dl_queue.specs.Queue.{enqueued, withCell};
-ghost use Rattle.dl_queue.specs.Questions.{soundPlace, soundPlaces, soundQueue};
+ghost use Rattle.dl_queue.specs.Questions.{soundPlace, soundQueue};
 
 // The number of records queued for each timeslot, and the places.
 pub struct Queue {
@@ -27,24 +27,7 @@ fn place_is_sound(filled: bool, r: Record, cell: &[u8]) -> bool
     }
 }
 
-// The sixteen places from `first` on, of which `count` are filled.
-fn timeslot_is_sound(records: [Record; 64], first: usize, count: usize, store: &[u8]) -> bool
-    requires { ⌜ (first + 16 ≤ 64) × (length (now store) ≡ 16384) ⌝ }
-    ensures { λ b. ⌜ b ≡ soundPlaces 16 count (drop first records) (drop (256 * first) (now (store .entry))) ⌝ }
-{
-    for i in 0..16 {
-        let p = first + i;
-        let r = records[p];
-        let from = 256 * p;
-        let to = from + 256;
-        if !place_is_sound(i < count, r, &store[from..to]) {
-            return false;
-        }
-    }
-    true
-}
-
-// Question 1 for the records and the cells.
+// Question 1 for the records and the cells. Both loops stand here, since handing the records on to a function would copy them.
 pub fn queue_is_sound(counts: [u8; 4], records: [Record; 64], store: &[u8]) -> bool
     requires { ⌜ length (now store) ≡ 16384 ⌝ }
     ensures { λ b. ⌜ b ≡ soundQueue counts records (now (store .entry)) ⌝ }
@@ -54,8 +37,14 @@ pub fn queue_is_sound(counts: [u8; 4], records: [Record; 64], store: &[u8]) -> b
         if 16 < n {
             return false;
         }
-        if !timeslot_is_sound(records, 16 * t, n, store) {
-            return false;
+        for i in 0..16 {
+            let p = 16 * t + i;
+            let r = records[p];
+            let from = 256 * p;
+            let to = from + 256;
+            if !place_is_sound(i < n, r, &store[from..to]) {
+                return false;
+            }
         }
     }
     true

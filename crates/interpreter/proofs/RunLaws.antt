@@ -13,12 +13,16 @@ use Rattle.optional.proofs.Tests.{and-right}
 use Rattle.bitbuffer.specs.Bits.{written, Wrote}
 use Rattle.bitbuffer.proofs.Laws.{then, set-append-add}
 use Rattle.interpreter.proofs.TextLaws.{nothing}
+use Rattle.dl_record.specs.declared.Record.{Record}
+use Rattle.sched_core.specs.declared.Station.{Station}
 use Rattle.sched_core.specs.Questions.{memory}
 use Rattle.interpreter.specs.declared.Command.{Command}
 use Rattle.interpreter.specs.declared.RunAnswer.{RunAnswer}
 use Rattle.interpreter.specs.declared.Executed.{Executed}
+use Rattle.interpreter.specs.declared.Advanced.{Advanced}
 use Rattle.interpreter.specs.Slotrun.{Session, session, Step, step, commandOf, isKnown, operandCount, isWhole, firstStep, behindFirst, Ran, ran, commands}
-use Rattle.interpreter.specs.Steps.{Steps, Runs}
+use Rattle.interpreter.specs.Steps.{Steps, Advances, Runs}
+use Rattle.interpreter.proofs.StepLaws.{advance-steps}
 
 -- ---- the octets at a place
 
@@ -187,6 +191,18 @@ running-turn input s₀ s out₀ out part store stage taken count m command r k 
     running-step input s₀ s _ out₀ out _ taken count (r .count) m command x k (sym whole) (whole-inside input taken whole) e num
     (ap (step s command) (rest-of input (taken + 1))) (h .session-after) (h .most)
     (wrote-back out part count (r .count) (x .line) fits (h .line))
+
+-- a turn that is an advance
+pub running-advance : (input : List ℕ) (s₀ : Session) (here : Station) (rs : List Record) (store stage out₀ out part : List ℕ) (taken count : ℕ) (command : Command) (a : Advanced)
+    → Running input s₀ (session (memory here rs store) stage) out₀ out taken count → isWhole (drop taken input) ≡ true → command ≡ commandOf (getD input taken 0)
+    → command ≡ Command.Advance → count ≤ length out → Advances here a (take (length out - count) (drop count out)) part
+    → Running input s₀ (session (memory (a .station) rs store) stage) out₀ (putBack out count part) (taken + 1) (count + a .count)
+running-advance input s₀ here rs store stage out₀ out part taken count command a k whole e adv fits h =
+    let r : Executed = record { station = a .station; queue = rs; count = a .count } in
+    let end : taken + 1 + 0 ≡ taken + 1 = omega arith in
+    subst (λ n. Running input s₀ (session (memory (a .station) rs store) stage) out₀ (putBack out count part) n (count + a .count)) end
+    (running-turn input s₀ _ out₀ out part store stage taken count 0 command r k whole e (sym (ap operandCount adv)) fits
+    (advance-steps (session (memory here rs store) stage) command _ r store _ part adv (h rs store)))
 
 -- the end
 pub run-done : (input : List ℕ) (s₀ : Session) (out₀ out store stage : List ℕ) (r : RunAnswer)

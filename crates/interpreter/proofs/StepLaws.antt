@@ -77,10 +77,10 @@ module _ (s : Station) (rs : List Record) (st ops out out' : List ℕ) (a : Answ
 
 -- ---- 41 advance
 
-pub advanced : (s : Station) (rs : List Record) (out out' : List ℕ) (a : Answer) (n count : ℕ) → a ≡ advanceCall s → n ≡ replyNumber (a .reply) → count ≤ 8
-    → Wrote out 0 out' count (line 65 (number n)) → Advances s rs (record { station = a .station; queue = rs; count = count }) out out'
+pub advanced : (s : Station) (out out' : List ℕ) (a : Answer) (n count : ℕ) → a ≡ advanceCall s → n ≡ replyNumber (a .reply) → count ≤ 8
+    → Wrote out 0 out' count (line 65 (number n)) → Advances s (record { station = a .station; count = count }) out out'
 unfolding advanceStep advanceMemory
-advanced s rs out out' a n count made num few w store =
+advanced s out out' a n count made num few w rs store =
     record {
       memory-after = ap (λ (b : Answer). memory (b .station) rs store) made;
       line = relined (ap (λ (k : ℕ). line 65 (number k)) num ∙ ap (λ (b : Answer). line 65 (number (replyNumber (b .reply)))) made) w;

@@ -9,6 +9,7 @@ use Rattle.sched_core.specs.declared.Station.{Station}
 use Rattle.sched_core.specs.Questions.{memory}
 use Rattle.sched_core.specs.Calls.{Outcome}
 use Rattle.interpreter.specs.declared.Executed.{Executed}
+use Rattle.interpreter.specs.declared.Advanced.{Advanced}
 use Rattle.interpreter.specs.declared.RunAnswer.{RunAnswer}
 use Rattle.interpreter.specs.Slotrun.{session, Step, Ran, advanceStep}
 
@@ -18,9 +19,10 @@ pub record Executes (o : Outcome (List ℕ)) (r : Executed) (store' out out' : L
   pub line : Wrote out 0 out' (r .count) (o .reply)
   pub most : r .count ≤ 173
 
--- an advance leaves any store
-abbrev pub Advances : Station → List Record → Executed → List ℕ → List ℕ → Type 0
-Advances s rs r out out' = (store : List ℕ) → Executes (advanceStep (memory s rs store)) r store out out'
+-- an advance leaves any queue and any store
+abbrev pub Advances : Station → Advanced → List ℕ → List ℕ → Type 0
+Advances s a out out' =
+    (rs : List Record) (store : List ℕ) → Executes (advanceStep (memory s rs store)) (record { station = a .station; queue = rs; count = a .count }) store out out'
 
 -- the same of any command, with the stage
 pub record Steps (x : Step) (r : Executed) (store' stage' out out' : List ℕ) : Type 0 where

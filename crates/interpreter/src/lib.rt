@@ -4,11 +4,13 @@ use sched_core::Refusal;
 use sched_core::Reply;
 use sched_core::Station;
 ghost use mathlib.Core.Path.{_≡_};
+ghost use mathlib.Core.Bool.{true};
 ghost use Prim.Native.Nat.{_+_, _*_, _^_, _<_, _≤_};
 ghost use lib.ListN.{length, drop};
 ghost use Rattle.sched_core.specs.Questions.{refusalNumber};
 ghost use Rattle.sched_core.specs.Calls.{replyNumber};
 ghost use Rattle.sched_core.specs.Questions.{memory};
+ghost use Rattle.interpreter.specs.declared.Command.{Command};
 ghost use Rattle.interpreter.specs.Slotrun.{commandOf, isKnown, operandCount, twoOctets, fourOctets, session, isWhole, commands};
 ghost use Rattle.interpreter.specs.Steps.{Runs};
 
@@ -34,7 +36,13 @@ pub struct Executed {
     pub count: usize,
 }
 
-// What a run leaves: the same, and how many octets it took.
+// What an advance leaves: the station, and how many octets it printed.
+pub struct Advanced {
+    pub station: Station,
+    pub count: usize,
+}
+
+// What a run leaves: the station and its queue, how many octets it took, and how many it printed.
 pub struct RunAnswer {
     pub station: Station,
     pub queue: [Record; 64],
@@ -157,6 +165,20 @@ pub fn is_known(command: Command) -> bool
     }
 }
 
+fn is_advance(command: Command) -> bool
+    ensures { λ r. ⌜ (r ≡ true → command ≡ Command.Advance) ⌝ }
+{
+    match command {
+        Command::New => false,
+        Command::Advance => true,
+        Command::Request => false,
+        Command::Stage => false,
+        Command::Queue => false,
+        Command::Build => false,
+        Command::Unknown => false,
+    }
+}
+
 // Does a whole command begin at `at`?
 fn is_whole(input: &[u8], at: usize) -> bool
     requires { ⌜ at ≤ length (now input) ⌝ }
@@ -169,7 +191,8 @@ fn is_whole(input: &[u8], at: usize) -> bool
     is_known(command) & (operand_count(command) <= input.len() - at - 1)
 }
 
-// Does the commands at the front of the input, as many as are whole, and puts what they print at the front of `out`.
+// Does the commands at the front of the input, as many as are whole, and puts what they print at the front of `out`. An advance, the
+// most frequent command, has a short way, on which the queue is not copied.
 pub fn run(
     station: Station,
     queue: [Record; 64],
@@ -188,6 +211,14 @@ pub fn run(
     while is_whole(input, taken) {
         let command = command_of(input[taken]);
         let operands = taken + 1;
+        if is_advance(command) {
+            let a = steps::advance_step(here, &mut out[count..]);
+            let on = a.station;
+            here = on;
+            taken = operands;
+            count += a.count;
+            continue;
+        }
         let x = steps::execute(
             here,
             records,

@@ -1,4 +1,5 @@
 // What each command does and prints: its line is put at the front of `out`.
+use crate::Advanced;
 use crate::Command;
 use crate::Executed;
 use dl_record::Record;
@@ -69,17 +70,16 @@ fn new_step(
 }
 
 // A slot on.
-fn advance_step(station: Station, queue: [Record; 64], out: &mut [u8]) -> Executed
+pub fn advance_step(station: Station, out: &mut [u8]) -> Advanced
     requires { ⌜ 173 ≤ length (now out) ⌝ }
-    ensures { λ r. ⌜ Advances station queue r (now (out .entry)) (now (out .exit)) ⌝ }
+    ensures { λ r. ⌜ Advances station r (now (out .entry)) (now (out .exit)) ⌝ }
 {
     let a = bs_sched::advance(station);
     let reply = a.reply;
     let next = a.station;
     let count = crate::text::put_line(out, b'A', crate::reply_number(reply));
-    Executed {
+    Advanced {
         station: next,
-        queue: queue,
         count: count,
     }
 }
@@ -241,7 +241,15 @@ pub fn execute(
 {
     match command {
         Command::New => new_step(station, queue, store, operands, out),
-        Command::Advance => advance_step(station, queue, out),
+        Command::Advance => {
+            let a = advance_step(station, out);
+            let next = a.station;
+            Executed {
+                station: next,
+                queue: queue,
+                count: a.count,
+            }
+        }
         Command::Request => request_step(station, queue, store, operands, out),
         Command::Stage => {
             let count = stage_step(stage, operands, out);

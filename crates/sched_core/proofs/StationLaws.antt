@@ -1,6 +1,9 @@
 -- What question 1 tells of a station. Assumes nothing.
-use mathlib.Core.Path.{_≡_}
+use mathlib.Core.Path.{_≡_, refl, ap}
 use mathlib.Core.Bool.{true, false, _&&_}
+use mathlib.Core.List.{_∷_}
+use Prim.Native.Nat.{ℕ, zero, suc}
+use lib.ListN.{set, replicate}
 use Rattle.optional.proofs.Tests.{and-left, and-right}
 use Rattle.tdma_time.specs.declared.TdmaTime.{TdmaTime}
 use Rattle.tdma_time.specs.Time.{Valid, valid}
@@ -36,3 +39,9 @@ parts-sound s p = rw (valid-true (s .time) (p .time), p .table, p .counters, p .
 pub bad-time-unsound : (x : TdmaTime) → valid x ≡ false → soundStation (newStation x) ≡ false
 unfolding soundStation
 bad-time-unsound x e = rw e
+
+-- one of equal elements, written again
+pub set-replicate : {A : Type 0} (n k : ℕ) (x : A) → set (replicate n x) k x ≡ replicate n x
+set-replicate zero k x = refl
+set-replicate (suc n) zero x = refl
+set-replicate (suc n) (suc k) x = ap (λ l. x ∷ l) (set-replicate n k x)

@@ -14,13 +14,25 @@ use Rattle.optional.proofs.Tests.{and-left, and-right, and-intro}
 use Rattle.tdma_time.specs.declared.TdmaTime.{TdmaTime}
 use Rattle.uplink.specs.declared.Entry.{Entry}
 use Rattle.uplink.specs.HalfSlot.{Half, firstHalf, secondHalf, vacant}
-use Rattle.uplink.specs.UplinkEntry.{emptyEntry, Table, FourRowsOfEighteen, emptyTable, entryAt, store, withHalves, withMarker, reserve, cleared, all, soundOwner, soundCounter, soundMarker, soundEntry, soundRow, soundTable, soundCounters}
+use Rattle.uplink.specs.UplinkEntry.{emptyEntry, Table, FourRowsOfEighteen, emptyTable, entryAt, store, withHalves, withMarker, reserve, cleared, all, soundOwner, soundCounter, soundMarker, unmarked, soundEntry, soundRow, soundTable, soundCounters}
 use Rattle.uplink.specs.Request.{nextMarker, drawn}
 use Rattle.uplink.proofs.Basics.{not-both}
 use Rattle.uplink.proofs.TableLaws.{store-shape, store-same, store-other}
 use Rattle.uplink.proofs.Everywhere.{all-at, at-all}
 
 -- ---- an entry
+
+-- with no first half the second and the marker decide
+pub sound-vacant : (a b : OptU32) (m : OptU8) → vacant a ≡ true → vacant b && unmarked m ≡ soundEntry (record { ul1 = a; ul2 = b; «usage_marker» = m })
+sound-vacant OptU32.Absent OptU32.Absent OptU8.Absent h = refl
+sound-vacant OptU32.Absent OptU32.Absent (OptU8.Of m) h = refl
+sound-vacant OptU32.Absent (OptU32.Of w) m h = refl
+sound-vacant (OptU32.Of w) b m h = not-both false h refl
+
+-- with one the ranges decide
+pub sound-taken : (a b : OptU32) (m : OptU8) → vacant a ≡ false → soundOwner a && soundOwner b && soundMarker m ≡ soundEntry (record { ul1 = a; ul2 = b; «usage_marker» = m })
+sound-taken OptU32.Absent b m h = not-both true refl h
+sound-taken (OptU32.Of w) b m h = refl
 
 -- a sound entry's parts
 pub record SoundParts (e : Entry) : Type 0 where

@@ -196,17 +196,18 @@ fn is_unmarked(usage_marker: OptU8) -> bool
     }
 }
 
-// Is there no second half and no marker without a first half, and is each in its range?
+// Is there no second half and no marker without a first half, and is each in its range? An entry with no first half, as most are, is
+// asked nothing more.
 pub fn entry_is_sound(e: Entry) -> bool
     ensures { λ r. ⌜ r ≡ soundEntry e ⌝ }
 {
     let ul1 = e.ul1;
     let ul2 = e.ul2;
     let m = e.usage_marker;
-    (!is_vacant(ul1) | (is_vacant(ul2) & is_unmarked(m)))
-        & owner_is_sound(ul1)
-        & owner_is_sound(ul2)
-        & marker_is_sound(m)
+    if is_vacant(ul1) {
+        return is_vacant(ul2) & is_unmarked(m);
+    }
+    owner_is_sound(ul1) & owner_is_sound(ul2) & marker_is_sound(m)
 }
 
 // Is every entry of a timeslot sound?

@@ -35,8 +35,8 @@ returns c =
 
 returns-2 : tie.Need-returns-2
 returns-2 c =
-    let p = c .before .before in
-    advance-steps _ _ _ _ _ _ _ (p .before .before .enum-told2 .given .1) (p .advance-step .ensures _)
+    let p = c .before .before .before in
+    advance-steps _ _ _ _ _ _ _ (p .before .before .enum-told2 .given .1) (p .advance-step .ensures _ _)
 
 returns-3 : tie.Need-returns-3
 returns-3 c =

@@ -1,0 +1,14 @@
+-- An empty entry in the place of an empty one. Assumes nothing.
+use mathlib.Core.Path.{ap}
+use borrow.Author.Needs.{needs}
+use lib.ListN.{replicate}
+use Rattle.uplink.specs.UplinkEntry.{emptyEntry}
+use Rattle.sched_core.proofs.StationLaws.{set-replicate}
+use Rattle.sched_core.proofs.empty_table.Statement.{statement}
+use Rattle.sched_core.proofs.empty_table.Tie as tie
+
+returns : tie.Need-returns
+returns c = rw (set-replicate 18 _ emptyEntry)
+
+pub empty-table-spec : {M : Type 1} → statement M
+empty-table-spec = tie.close (tie.spec (λ c. search needs) (λ c. search needs) (λ c. search needs) (λ c. search needs) returns)
