@@ -9,14 +9,14 @@
 use mathlib.Core.Path.{_≡_, refl, sym, ap, ap₂, _∙_, subst}
 use mathlib.Core.List.{List, [], _∷_, _++_, append-assoc}
 use Prim.Native.Nat.{ℕ, zero, suc, _+_, _-_, _*_, _/_, _%_, _^_, _≤_, _<_}
-use native.Mathlib.Nat.{add-zero, zero-add, suc-add, add-comm, add-mul, mul-assoc, mod-one, mod-lt, mod-eq-of-lt, pow-suc, one-mul, mul-one, mul-comm, mul-le-mul-left, lt-of-lt-of-le}
-use native.Mathlib.Numerals.{add-one, one-add, sub-one}
+use native.Mathlib.Nat.{add-zero, zero-add, suc-add, add-comm, mod-one, mod-lt, mod-eq-of-lt, pow-suc, one-mul, mul-one, mul-comm, mul-le-mul-left, lt-of-lt-of-le}
+use native.Mathlib.Numerals.{add-one, one-add}
 use native.Mathlib.Omega.{arith}
 use lib.Arith.{digits-div, digits-mod, digits-lt}
 use lib.Bits.{bitOr, or-shifted}
 use lib.Pow.{pow-mono, shl-exact, shr-lt, pow-pos, shr-shr, mod-pow-add, mod-mod-pow, field as pow-field, high, low}
 use lib.ListN.{length, take, drop, getD, set, length-append, length-set, length-take, length-drop, List·getD-append}
-use lib.Seq.{getD-at, set-at, set-append-left, getD-append-add, drop-cons, sets, sets-eq, drop-at, take-at, take-append-seam, length-take-le, drop-set-lt, take-set-le, drop-set-add, drop-drop}
+use lib.Seq.{getD-at, set-at, set-append-left, getD-append-add, sets, sets-eq, drop-at, take-at, take-append-seam, length-take-le, drop-set-lt, take-set-le, drop-set-add, drop-drop}
 use Rattle.bitbuffer.specs.Bits.{valueBits, bitsValue, bitsOf, written, part, AreBits, field, Wrote}
 
 -- ---- the bits of a number
@@ -222,19 +222,7 @@ unfolding written
 written-append l at [] g = ap (λ (n : ℕ). written l n g) (sym (add-zero at))
 written-append l at (b ∷ f) g = written-append (set l at b) (suc at) f g ∙ ap (λ (n : ℕ). written (written (set l at b) (suc at) f) n g) (omega arith)
 
--- a turn of a loop that writes
-pub written-value : (l : List ℕ) (at n v : ℕ) → 0 < n → written (set l at (v / 2 ^ (n - 1) % 2)) (at + 1) (valueBits (n - 1) v) ≡ written l at (valueBits n v)
-unfolding written valueBits
-written-value l at zero v h = absurd (omega arith)
-written-value l at (suc n) v h = rw (sub-one, add-one)
-
-pub written-part : (l : List ℕ) (at : ℕ) (m : List ℕ) (from n : ℕ) → 0 < n → from < length m
-    → written (set l at (getD m from 0)) (at + 1) (part m (from + 1) (n - 1)) ≡ written l at (part m from n)
-unfolding written part
-written-part l at m from zero h k = absurd (omega arith)
-written-part l at m from (suc n) h k = rw (sub-one, add-one from, add-one at, drop-cons m from 0 k)
-
--- such a loop's end
+-- the end of a loop that writes
 pub value-done : (l : List ℕ) (at n v : ℕ) → n ≤ 0 → l ≡ written l at (valueBits n v)
 unfolding written valueBits
 value-done l at zero v h = refl
@@ -256,19 +244,7 @@ pub length-part : (l : List ℕ) (at n : ℕ) → at + n ≤ length l → length
 unfolding part
 length-part l at n h = simp (length-take, length-drop) (omega arith)
 
--- a turn of a loop that reads
-pub value-part : (l : List ℕ) (at n a : ℕ) → 0 < n → at + n ≤ length l
-    → (a * 2 + getD l at 0) * 2 ^ (n - 1) + bitsValue (part l (at + 1) (n - 1)) ≡ a * 2 ^ n + bitsValue (part l at n)
-unfolding part bitsValue
-value-part l at zero a h k = absurd (omega arith)
-value-part l at (suc n) a h k =
-    let b = getD l at 0 in
-    let r = bitsValue (take n (drop (suc at) l)) in
-    ap₂ (λ (x y : ℕ). (a * 2 + b) * 2 ^ x + bitsValue (take x (drop y l))) (sub-one (suc n)) (add-one at)
-    ∙ omega (arith, add-mul (a * 2) b (2 ^ n), mul-assoc a 2 (2 ^ n) ∙ ap (λ (x : ℕ). a * x) (mul-comm 2 (2 ^ n) ∙ sym (pow-suc 2 n)))
-    ∙ ap (λ (x : ℕ). a * 2 ^ suc n + (b * 2 ^ x + r)) (sym (length-part l (suc at) n (omega arith)))
-    ∙ ap (λ (m : List ℕ). a * 2 ^ suc n + bitsValue (take (suc n) m)) (sym (drop-cons l at 0 (omega arith)))
-
+-- the end of a loop that reads
 pub value-all : (l : List ℕ) (at n a : ℕ) → n ≤ 0 → a * 2 ^ n + bitsValue (part l at n) ≡ a
 unfolding part bitsValue
 value-all l at zero a h = omega arith

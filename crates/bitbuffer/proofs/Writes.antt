@@ -2,11 +2,10 @@
 use mathlib.Core.Path.{_≡_, refl, ap, _∙_}
 use mathlib.Core.Logic.{_⊎_, inl, inr}
 use mathlib.Core.List.{List, [], _∷_}
-use Prim.Native.Nat.{ℕ, zero, suc, _+_, _-_, _≤_, _<_}
+use Prim.Native.Nat.{ℕ, zero, suc, _+_, _≤_, _<_}
 use native.Mathlib.Nat.{add-zero}
-use native.Mathlib.Numerals.{add-one, sub-one}
 use native.Mathlib.Omega.{arith}
-use lib.ListN.{length, getD, set, replicate, length-set}
+use lib.ListN.{length, getD, set, length-set}
 use lib.Seq.{getD-set-same, getD-set-other, set-comm}
 use Rattle.bitbuffer.specs.Bits.{written}
 
@@ -45,14 +44,3 @@ written-disjoint l at [] to g h = refl
 written-disjoint l at (b ∷ f) to g h =
     written-disjoint (set l at b) (suc at) f to g (omega arith)
     ∙ ap (λ (m : List ℕ). written m (suc at) f) (set-before l at b to g (omega arith))
-
--- a turn of a loop that writes one bit again and again, and its end
-pub written-repeat : (l : List ℕ) (at n b : ℕ) → 0 < n → written (set l at b) (at + 1) (replicate (n - 1) b) ≡ written l at (replicate n b)
-unfolding written
-written-repeat l at zero b h = absurd (omega arith)
-written-repeat l at (suc n) b h = rw (sub-one, add-one)
-
-pub repeat-done : (l : List ℕ) (at n b : ℕ) → n ≤ 0 → l ≡ written l at (replicate n b)
-unfolding written
-repeat-done l at zero b h = refl
-repeat-done l at (suc n) b h = absurd (omega arith)

@@ -1,6 +1,6 @@
 // Fields of any width in a run of octets, most significant bit first.
 ghost use mathlib.Core.Path.{_≡_};
-ghost use Prim.Native.Nat.{_+_, _-_, _*_, _<_, _≤_, _^_};
+ghost use Prim.Native.Nat.{_+_, _-_, _*_, _%_, _<_, _≤_, _^_};
 ghost use lib.ListN.{length, getD, set, replicate};
 ghost use Rattle.bitbuffer.specs.Bits.{valueBits, bitsValue, bitsOf, written, part, Wrote};
 
@@ -30,6 +30,58 @@ pub fn set_bit(s: &mut [u8], at: usize, bit: u8)
     s[i] = with_bit(s[i], 7 - at % 8, bit);
 }
 
+// How many of the `left` bits from `at` on lie in the octet at `at`.
+fn chunk(at: usize, left: usize) -> usize
+    requires { ⌜ 0 < left ⌝ }
+    ensures { λ r. ⌜ (0 < r) × (r ≤ left) × (at % 8 + r ≤ 8) ⌝ }
+{
+    let room = 8 - at % 8;
+    if left < room {
+        return left;
+    }
+    room
+}
+
+// Two octets side by side.
+fn joined(x: u8, y: u8) -> u64
+    ensures { λ r. ⌜ r ≡ x * 256 + y ⌝ }
+{
+    x as u64 * 256 + y as u64
+}
+
+// The number that the `n` bits from `at` on write, at most eight. The second octet counts only if they go on into it.
+fn bits_at(s: &[u8], at: usize, n: usize) -> u64
+    requires { ⌜ (at + n ≤ 8 * length (now s)) × (at + n < 2 ^ 64) × (0 < n) × (n ≤ 8) ⌝ }
+    ensures { λ r. ⌜ (valueBits n r ≡ part (bitsOf (now (s .entry))) at n) × (r < 2 ^ n) ⌝ }
+{
+    let i = at / 8;
+    let j = (at + n - 1) / 8;
+    let pair = joined(s[i], s[j]);
+    (pair >> (16 - (at % 8 + n))) % (1 << n)
+}
+
+// `x` with `v` in the place of the `n` bits behind its first `k`.
+fn with_bits(x: u8, k: usize, n: usize, v: u64) -> u8
+    requires { ⌜ (k + n ≤ 8) × (v < 2 ^ n) ⌝ }
+    ensures { λ r. ⌜ valueBits 8 r ≡ written (valueBits 8 x) k (valueBits n v) ⌝ }
+{
+    if n == 8 {
+        return v as u8;
+    }
+    let low = 8 - (k + n);
+    let old = x as u64;
+    (((((old >> (n + low)) << n) | v) << low) | (old % (1 << low))) as u8
+}
+
+// Writes `n` bits from `at` on, in one octet.
+fn put_chunk(s: &mut [u8], at: usize, n: usize, v: u64)
+    requires { ⌜ (at < 8 * length (now s)) × (at % 8 + n ≤ 8) × (v < 2 ^ n) ⌝ }
+    ensures { λ _. ⌜ bitsOf (now (s .exit)) ≡ written (bitsOf (now (s .entry))) at (valueBits n v) ⌝ }
+{
+    let i = at / 8;
+    s[i] = with_bits(s[i], at % 8, n, v);
+}
+
 // Writes the low `width` bits of `value` from `at` on.
 pub fn write_bits(s: &mut [u8], at: usize, width: usize, value: u64)
     requires { ⌜ (at + width ≤ 8 * length (now s)) × (at + width < 2 ^ 64) × (width ≤ 64) ⌝ }
@@ -38,9 +90,10 @@ pub fn write_bits(s: &mut [u8], at: usize, width: usize, value: u64)
     let mut pos = at;
     let mut left = width;
     while 0 < left {
-        left -= 1;
-        set_bit(s, pos, ((value >> left) % 2) as u8);
-        pos += 1;
+        let n = chunk(pos, left);
+        left -= n;
+        put_chunk(s, pos, n, (value >> left) % (1 << n));
+        pos += n;
     }
 }
 
@@ -52,9 +105,10 @@ pub fn write_zeroes(s: &mut [u8], at: usize, n: usize)
     let mut pos = at;
     let mut left = n;
     while 0 < left {
-        left -= 1;
-        set_bit(s, pos, 0);
-        pos += 1;
+        let k = chunk(pos, left);
+        left -= k;
+        put_chunk(s, pos, k, 0);
+        pos += k;
     }
 }
 
@@ -76,9 +130,10 @@ pub fn read_bits(s: &[u8], at: usize, width: usize) -> u64
     let mut pos = at;
     let mut left = width;
     while 0 < left {
-        left -= 1;
-        sum = sum * 2 + bit_at(s, pos) as u64;
-        pos += 1;
+        let n = chunk(pos, left);
+        left -= n;
+        sum = (sum << n) + bits_at(s, pos, n);
+        pos += n;
     }
     sum
 }
@@ -93,9 +148,10 @@ pub fn copy_bits(dst: &mut [u8], at: usize, src: &[u8], from: usize, n: usize)
     let mut pos = from;
     let mut left = n;
     while 0 < left {
-        left -= 1;
-        set_bit(dst, to, bit_at(src, pos));
-        to += 1;
-        pos += 1;
+        let k = chunk(to, left);
+        left -= k;
+        put_chunk(dst, to, k, bits_at(src, pos, k));
+        to += k;
+        pos += k;
     }
 }

@@ -1,12 +1,12 @@
 -- `copy_bits` meets its contract: what is left to copy still gives the final bits. Assumes nothing.
 use mathlib.Core.List.{List}
-use lib.ListN.{set}
-use Rattle.bitbuffer.proofs.Laws.{written-part, part-done, bit-lt, length-bitsOf}
 use mathlib.Core.Path.{_≡_, refl, ap, _∙_}
 use Prim.Native.Nat.{ℕ, _+_, _-_}
 use native.Mathlib.Omega.{arith}
 use lib.ListN.{length}
 use Rattle.bitbuffer.specs.Bits.{bitsOf, written, part}
+use Rattle.bitbuffer.proofs.Laws.{part-done, length-bitsOf}
+use Rattle.bitbuffer.proofs.Chunks.{part-turn}
 use Rattle.bitbuffer.proofs.copy_bits.Statement.{statement}
 use Rattle.bitbuffer.proofs.copy_bits.Tie as tie
 
@@ -21,14 +21,17 @@ abbrev μ-loop : tie.MeasureT-loop
 loop-holds : tie.Need-loop-holds Inv-loop μ-loop
 loop-holds c = (refl, refl, refl, refl)
 
+chunk-requires : tie.Need-chunk-requires Inv-loop μ-loop
+chunk-requires c = omega arith
+
 sub-left : tie.Need-sub-left Inv-loop μ-loop
 sub-left c = omega arith
 
-bit-at-requires : tie.Need-bit-at-requires Inv-loop μ-loop
-bit-at-requires c κs = omega arith
+bits-at-requires : tie.Need-bits-at-requires Inv-loop μ-loop
+bits-at-requires c κs = omega arith
 
-set-bit-requires : tie.Need-set-bit-requires Inv-loop μ-loop
-set-bit-requires c κs = (omega arith, rw (c .bit-at .ensures) (bit-lt _ _))
+put-chunk-requires : tie.Need-put-chunk-requires Inv-loop μ-loop
+put-chunk-requires c κs = (omega arith, omega arith, c .bits-at .ensures .1)
 
 add-to : tie.Need-add-to Inv-loop μ-loop
 add-to c = omega arith
@@ -42,14 +45,16 @@ loop-less c = omega arith
 loop-again : tie.Need-loop-again Inv-loop μ-loop
 loop-again c =
     let b = c .before .before in
-    let p = b .before .before .before .before in
-    let a = p .before .before .before .args in (
+    let q = b .before .before .before in
+    let p = q .before .before in
+    let src = bitsOf (p .before .before .before .args .src .now) in
+    let k = q .chunk .result in (
       omega arith,
       omega arith,
-      b .set-bit .kept .0 ∙ p .loop .inv .2,
-      ap (λ (l : List ℕ). written l (p .loop .to + 1) (part (bitsOf (a .src .now)) (p .loop .pos + 1) (p .loop .left - 1))) (b .set-bit .ensures)
-          ∙ ap (λ (x : ℕ). written (set (bitsOf (p .loop .dst)) (p .loop .to) x) (p .loop .to + 1) (part (bitsOf (a .src .now)) (p .loop .pos + 1) (p .loop .left - 1))) (b .before .bit-at .ensures)
-          ∙ written-part (bitsOf (p .loop .dst)) (p .loop .to) (bitsOf (a .src .now)) (p .loop .pos) (p .loop .left) (omega arith) (rw length-bitsOf (omega arith))
+      b .put-chunk .kept .0 ∙ p .loop .inv .2,
+      ap (λ (l : List ℕ). written l (p .loop .to + k) (part src (p .loop .pos + k) (p .loop .left - k))) (b .put-chunk .ensures)
+          ∙ ap (λ (f : List ℕ). written (written (bitsOf (p .loop .dst)) (p .loop .to) f) (p .loop .to + k) (part src (p .loop .pos + k) (p .loop .left - k))) (b .before .bits-at .ensures .0)
+          ∙ part-turn (bitsOf (p .loop .dst)) (p .loop .to) src (p .loop .pos) k (p .loop .left) (omega arith) (rw length-bitsOf (omega arith))
           ∙ p .loop .inv .3,
     )
 
@@ -62,4 +67,4 @@ returns c = part-done _ _ _ _ _ (c .loop-test .left) ∙ c .before .loop .inv .3
 pub copy-bits-spec : {M : Type 1} → statement M
 copy-bits-spec =
     tie.close
-    (tie.spec Inv-loop μ-loop loop-holds sub-left bit-at-requires set-bit-requires add-to add-pos loop-less loop-again same-length returns)
+    (tie.spec Inv-loop μ-loop loop-holds chunk-requires sub-left bits-at-requires put-chunk-requires add-to add-pos loop-less loop-again same-length returns)

@@ -1,13 +1,13 @@
 -- `read_bits` meets its contract: the number read so far and the bits left give the number read in all. Assumes nothing.
-use lib.ListN.{getD}
-use lib.Pow.{pow-mono}
-use native.Mathlib.Nat.{lt-of-le-of-lt, lt-of-lt-of-le}
-use Rattle.bitbuffer.proofs.Laws.{value-part, value-all, sum-le, part-lt, bit-lt, bits-bitsOf, length-bitsOf}
 use mathlib.Core.List.{List}
-use mathlib.Core.Path.{_≡_, refl, sym, ap, _∙_}
-use Prim.Native.Nat.{ℕ, _+_, _-_, _*_, _^_, _<_}
+use mathlib.Core.Path.{_≡_, refl, sym, _∙_}
+use Prim.Native.Nat.{ℕ, _+_, _-_, _*_, _%_, _^_, _<_}
+use native.Mathlib.Nat.{lt-of-le-of-lt, lt-of-lt-of-le, mod-eq-of-lt}
 use native.Mathlib.Omega.{arith}
+use lib.Pow.{pow-mono}
 use Rattle.bitbuffer.specs.Bits.{bitsValue, bitsOf, part}
+use Rattle.bitbuffer.proofs.Laws.{value-all, sum-le, part-lt, bits-bitsOf, length-bitsOf}
+use Rattle.bitbuffer.proofs.Chunks.{number-turn}
 use Rattle.bitbuffer.proofs.read_bits.Statement.{statement}
 use Rattle.bitbuffer.proofs.read_bits.Tie as tie
 
@@ -20,39 +20,48 @@ abbrev μ-loop : tie.MeasureT-loop
 μ-loop s at width sum₀ pos₀ left₀ sum pos left = left
 
 -- a turn keeps the number that is read in all, and the sum stays below it
-abbrev Bits : tie.In-loop Inv-loop μ-loop → List ℕ
-Bits c = bitsOf (c .before .before .before .args .s .now)
+abbrev Bits : tie.After-bits-at Inv-loop μ-loop → List ℕ
+Bits c = bitsOf (c .before .before .before .before .before .args .s .now)
 
-turn : (c : tie.In-loop Inv-loop μ-loop)
-    → (c .before .loop .sum * 2 + getD (Bits c) (c .before .loop .pos) 0) * 2 ^ (c .before .loop .left - 1)
-    + bitsValue (part (Bits c) (c .before .loop .pos + 1) (c .before .loop .left - 1))
-    ≡ bitsValue (part (Bits c) (c .before .before .before .args .at) (c .before .before .before .args .width))
+abbrev Sum : tie.After-bits-at Inv-loop μ-loop → ℕ
+Sum c = c .before .before .before .loop .sum * 2 ^ c .before .chunk .result
+
+turn : (c : tie.After-bits-at Inv-loop μ-loop)
+    → (Sum c + c .bits-at .result) * 2 ^ (c .before .before .before .loop .left - c .before .chunk .result)
+    + bitsValue
+    (part (Bits c) (c .before .before .before .loop .pos + c .before .chunk .result) (c .before .before .before .loop .left - c .before .chunk .result))
+    ≡ bitsValue (part (Bits c) (c .before .before .before .before .before .args .at) (c .before .before .before .before .before .args .width))
 turn c =
-    value-part (Bits c) (c .before .loop .pos) (c .before .loop .left) (c .before .loop .sum) (omega arith) (rw length-bitsOf (omega arith))
-    ∙ c .before .loop .inv .1
+    let p = c .before .before .before in
+    number-turn (Bits c) (p .loop .pos) (c .before .chunk .result) (p .loop .left) (p .loop .sum) (c .bits-at .result) (omega arith) (rw length-bitsOf (omega arith))
+    (c .bits-at .ensures .0) (c .bits-at .ensures .1)
+    ∙ p .loop .inv .1
 
-next : (c : tie.In-loop Inv-loop μ-loop) → c .before .loop .sum * 2 + getD (Bits c) (c .before .loop .pos) 0 < 2 ^ 64
+next : (c : tie.After-bits-at Inv-loop μ-loop) → Sum c + c .bits-at .result < 2 ^ 64
 next c =
-    lt-of-le-of-lt (sum-le _ (c .before .loop .left - 1) _ _ (turn c))
+    lt-of-le-of-lt (sum-le _ (c .before .before .before .loop .left - c .before .chunk .result) _ _ (turn c))
     (lt-of-lt-of-le (part-lt (Bits c) _ _ (bits-bitsOf _)) (pow-mono {j = 64} (omega arith)))
+
+exact : (c : tie.After-bits-at Inv-loop μ-loop) → Sum c % 2 ^ 64 ≡ Sum c
+exact c = mod-eq-of-lt (omega (arith, next c))
 
 loop-holds : tie.Need-loop-holds Inv-loop μ-loop
 loop-holds c = (refl, omega arith)
 
+chunk-requires : tie.Need-chunk-requires Inv-loop μ-loop
+chunk-requires c = omega arith
+
 sub-left : tie.Need-sub-left Inv-loop μ-loop
 sub-left c = omega arith
 
-mul-sum : tie.Need-mul-sum Inv-loop μ-loop
-mul-sum c = omega (arith, next c)
+shl-sum : tie.Need-shl-sum Inv-loop μ-loop
+shl-sum c = omega arith
 
-bit-at-requires : tie.Need-bit-at-requires Inv-loop μ-loop
-bit-at-requires c κs = omega arith
-
-cast-sum : tie.Need-cast-sum Inv-loop μ-loop
-cast-sum c = omega (arith, bit-lt (c .before .before .before .before .args .s .now) (c .before .before .loop .pos))
+bits-at-requires : tie.Need-bits-at-requires Inv-loop μ-loop
+bits-at-requires c κs = omega arith
 
 add-sum : tie.Need-add-sum Inv-loop μ-loop
-add-sum c = omega (arith, next (c .before))
+add-sum c = rw (exact c) (record { fits = next c })
 
 add-pos : tie.Need-add-pos Inv-loop μ-loop
 add-pos c = omega arith
@@ -61,13 +70,7 @@ loop-less : tie.Need-loop-less Inv-loop μ-loop
 loop-less c = omega arith
 
 loop-again : tie.Need-loop-again Inv-loop μ-loop
-loop-again c =
-    let p = c .before .before in
-    let l = bitsOf (p .before .before .args .s .now) in (
-      omega arith,
-      ap (λ (b : ℕ). (p .loop .sum * 2 + b) * 2 ^ (p .loop .left - 1) + bitsValue (part l (p .loop .pos + 1) (p .loop .left - 1))) (c .bit-at .ensures)
-          ∙ turn (c .before),
-    )
+loop-again c = (omega arith, rw (exact c) (turn c))
 
 returns : tie.Need-returns Inv-loop μ-loop
 returns c =
@@ -77,4 +80,4 @@ returns c =
 pub read-bits-spec : {M : Type 1} → statement M
 read-bits-spec =
     tie.close
-    (tie.spec Inv-loop μ-loop loop-holds sub-left mul-sum bit-at-requires cast-sum add-sum add-pos loop-less loop-again returns)
+    (tie.spec Inv-loop μ-loop loop-holds chunk-requires sub-left shl-sum bits-at-requires add-sum add-pos loop-less loop-again returns)

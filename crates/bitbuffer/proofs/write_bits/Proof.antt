@@ -1,11 +1,14 @@
 -- `write_bits` meets its contract: what is left to write still gives the final bits. Assumes nothing.
 use mathlib.Core.List.{List}
-use Rattle.bitbuffer.proofs.Laws.{written-value, value-done}
 use mathlib.Core.Path.{_≡_, refl, ap, _∙_}
-use Prim.Native.Nat.{ℕ, _+_, _-_, _≤_}
+use Prim.Native.Nat.{ℕ, _+_, _-_, _/_, _%_, _^_, _≤_}
+use native.Mathlib.Nat.{mod-lt}
 use native.Mathlib.Omega.{arith}
 use lib.ListN.{length}
+use lib.Pow.{pow-pos}
 use Rattle.bitbuffer.specs.Bits.{valueBits, bitsOf, written}
+use Rattle.bitbuffer.proofs.Laws.{one-shl, value-done}
+use Rattle.bitbuffer.proofs.Chunks.{value-turn}
 use Rattle.bitbuffer.proofs.write_bits.Statement.{statement}
 use Rattle.bitbuffer.proofs.write_bits.Tie as tie
 
@@ -20,17 +23,23 @@ abbrev μ-loop : tie.MeasureT-loop
 loop-holds : tie.Need-loop-holds Inv-loop μ-loop
 loop-holds c = (refl, omega arith, refl, refl)
 
+chunk-requires : tie.Need-chunk-requires Inv-loop μ-loop
+chunk-requires c = omega arith
+
 sub-left : tie.Need-sub-left Inv-loop μ-loop
 sub-left c = omega arith
 
-shr-set-bit : tie.Need-shr-set-bit Inv-loop μ-loop
-shr-set-bit c = omega arith
+shr-put-chunk : tie.Need-shr-put-chunk Inv-loop μ-loop
+shr-put-chunk c = omega arith
 
-cast-set-bit : tie.Need-cast-set-bit Inv-loop μ-loop
-cast-set-bit c = omega arith
+shl-put-chunk : tie.Need-shl-put-chunk Inv-loop μ-loop
+shl-put-chunk c = omega arith
 
-set-bit-requires : tie.Need-set-bit-requires Inv-loop μ-loop
-set-bit-requires c κs = omega arith
+rem-put-chunk : tie.Need-rem-put-chunk Inv-loop μ-loop
+rem-put-chunk c = let n = c .before .chunk .result in rw (one-shl {k = n} 64 (omega arith)) (pow-pos n)
+
+put-chunk-requires : tie.Need-put-chunk-requires Inv-loop μ-loop
+put-chunk-requires c κs = let n = c .before .chunk .result in (omega arith, omega arith, rw (one-shl {k = n} 64 (omega arith)) (mod-lt _ (pow-pos n)))
 
 add-pos : tie.Need-add-pos Inv-loop μ-loop
 add-pos c = omega arith
@@ -41,12 +50,17 @@ loop-less c = omega arith
 loop-again : tie.Need-loop-again Inv-loop μ-loop
 loop-again c =
     let b = c .before .before in
-    let p = b .before .before .before in (
+    let q = b .before .before in
+    let p = q .before .before in
+    let value = p .before .before .args .value in
+    let n = q .chunk .result in
+    let left = p .loop .left - n in (
       omega arith,
       omega arith,
-      b .set-bit .kept .0 ∙ p .loop .inv .2,
-      ap (λ (l : List ℕ). written l (p .loop .pos + 1) (valueBits (p .loop .left - 1) (p .before .before .args .value))) (b .set-bit .ensures)
-          ∙ written-value (bitsOf (p .loop .s)) (p .loop .pos) (p .loop .left) (p .before .before .args .value) (omega arith)
+      b .put-chunk .kept .0 ∙ p .loop .inv .2,
+      ap (λ (l : List ℕ). written l (p .loop .pos + n) (valueBits left value)) (b .put-chunk .ensures)
+          ∙ ap (λ (m : ℕ). written (written (bitsOf (p .loop .s)) (p .loop .pos) (valueBits n (value / 2 ^ left % m))) (p .loop .pos + n) (valueBits left value)) (one-shl {k = n} 64 (omega arith))
+          ∙ value-turn (bitsOf (p .loop .s)) (p .loop .pos) n (p .loop .left) value (omega arith)
           ∙ p .loop .inv .3,
     )
 
@@ -59,4 +73,4 @@ returns c = value-done _ _ _ _ (c .loop-test .left) ∙ c .before .loop .inv .3
 pub write-bits-spec : {M : Type 1} → statement M
 write-bits-spec =
     tie.close
-    (tie.spec Inv-loop μ-loop loop-holds sub-left shr-set-bit cast-set-bit set-bit-requires add-pos loop-less loop-again same-length returns)
+    (tie.spec Inv-loop μ-loop loop-holds chunk-requires sub-left shr-put-chunk shl-put-chunk rem-put-chunk put-chunk-requires add-pos loop-less loop-again same-length returns)

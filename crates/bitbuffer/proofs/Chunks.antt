@@ -1,0 +1,250 @@
+-- A run of bits read or written octet by octet: the bits of it that lie in one octet, and a turn of a loop over such pieces.
+-- Assumes nothing.
+use mathlib.Core.Path.{_≡_, refl, sym, ap, ap₂, _∙_, subst}
+use mathlib.Core.List.{List, [], _∷_, _++_, append-assoc, append-nil}
+use mathlib.Core.Bool.{Bool, true, false}
+use Prim.Native.Nat.{ℕ, zero, suc, _+_, _-_, _*_, _/_, _%_, _^_, _≤_, _<_}
+use native.Mathlib.Nat.{zero-add, add-zero, add-mul, zero-mul, mul-assoc, mod-lt, mod-eq-of-lt, zero-div}
+use native.Mathlib.Numerals.{add-one}
+use native.Mathlib.Omega.{arith}
+use lib.Arith.{digits-lt}
+use lib.Bits.{bitOr, or-shifted}
+use lib.Pow.{pow-add, pow-pos, shl-exact, shr-lt, shr-shr, high}
+use borrow.Author.Tests.{leb-true, leb-false}
+use lib.Dec.{leb}
+use lib.ListN.{length, take, drop, getD, set, replicate, length-append, length-drop, length-set}
+use lib.Seq.{set-append-left, drop-at, take-at, drop-cons, drop-drop, drop-append-le, take-append-le}
+use Rattle.bitbuffer.specs.Bits.{valueBits, bitsValue, bitsOf, written, part}
+use Rattle.bitbuffer.proofs.Laws.{length-valueBits, valueBits-append, valueBits-mod, one-shl, written-append, written-eq, length-part, value-field}
+use Rattle.bitbuffer.proofs.Octets.{part-split, valueBits-join, drop-bitsOf, written-add}
+
+-- ---- bits of an octet replaced
+
+-- `x` with the `n` bits before its last `b` replaced
+abbrev pub withBits : ℕ → ℕ → ℕ → ℕ → ℕ
+withBits x n b v = (x / 2 ^ (n + b) * 2 ^ n + v) * 2 ^ b + x % 2 ^ b
+
+-- a write in the middle of a run
+pub written-middle : (p q f r : List ℕ) (k : ℕ) → length p ≡ k → length q ≡ length f → written (p ++ (q ++ r)) k f ≡ p ++ (f ++ r)
+written-middle p q f r k e h =
+    ap (λ (n : ℕ). written (p ++ (q ++ r)) n f) (sym e ∙ sym (add-zero (length p)))
+    ∙ written-add p (q ++ r) 0 f
+    ∙ ap (_++_ p) (written-eq (q ++ r) 0 f (rw length-append (omega arith)) ∙ ap (_++_ f) (drop-at q r (0 + length f) (omega arith)))
+
+pub withBits-written : (k n b x v : ℕ) → v < 2 ^ n
+    → valueBits (k + n + b) (withBits x n b v) ≡ written (valueBits (k + n + b) x) k (valueBits n v)
+withBits-written k n b x v h =
+    let q = x / 2 ^ (n + b) in
+    sym (valueBits-join (k + n) b (q * 2 ^ n + v) (x % 2 ^ b) (mod-lt x (pow-pos b)))
+    ∙ ap₂ (λ (l m : List ℕ). l ++ m) (sym (valueBits-join k n q v h)) (valueBits-mod b x)
+    ∙ append-assoc (valueBits k q) (valueBits n v) (valueBits b x)
+    ∙ sym (written-middle (valueBits k q) (valueBits n (x / 2 ^ b)) (valueBits n v) (valueBits b x) k (length-valueBits k q) (rw (length-valueBits n (x / 2 ^ b), length-valueBits n v)))
+    ∙ ap (λ (l : List ℕ). written l k (valueBits n v)) (sym (parted))
+  where
+    parted : valueBits (k + n + b) x ≡ valueBits k (x / 2 ^ (n + b)) ++ (valueBits n (x / 2 ^ b) ++ valueBits b x)
+    parted =
+        valueBits-append (k + n) b x
+        ∙ ap (λ (l : List ℕ). l ++ valueBits b x) (valueBits-append k n (x / 2 ^ b) ∙ ap (λ (m : ℕ). valueBits k m ++ valueBits n (x / 2 ^ b)) (shr-shr x b n ∙ ap (λ (m : ℕ). x / 2 ^ m) (omega arith)))
+        ∙ append-assoc (valueBits k (x / 2 ^ (n + b))) (valueBits n (x / 2 ^ b)) (valueBits b x)
+
+-- as a machine of `w` bits works it out
+pub withBits-or : (k n b x v w : ℕ) → x < 2 ^ (k + (n + b)) → v < 2 ^ n → k + n + b < w
+    → bitOr (bitOr (x / 2 ^ (n + b) * 2 ^ n % 2 ^ w) v * 2 ^ b % 2 ^ w) (x % (1 * 2 ^ b % 2 ^ w)) ≡ withBits x n b v
+withBits-or k n b x v w hx hv hw =
+    ap₂ (λ (p q : ℕ). bitOr (p * 2 ^ b % 2 ^ w) (x % q)) (ap (λ (p : ℕ). bitOr p v) (shl-exact k n w top (omega arith)) ∙ or-shifted q n v hv) (one-shl w (omega arith))
+    ∙ ap (λ (p : ℕ). bitOr p (x % 2 ^ b)) (shl-exact (k + n) b w (rw (pow-add 2 k n) (digits-lt top hv)) (omega arith))
+    ∙ or-shifted (q * 2 ^ n + v) b (x % 2 ^ b) (mod-lt x (pow-pos b))
+  where
+    q : ℕ
+    q = x / 2 ^ (n + b)
+
+    top : x / 2 ^ (n + b) < 2 ^ k
+    top = shr-lt k (n + b) hx
+
+pub withBits-lt : (k n b x v : ℕ) → x < 2 ^ (k + (n + b)) → v < 2 ^ n → withBits x n b v < 2 ^ (k + n + b)
+withBits-lt k n b x v hx hv =
+    rw (pow-add 2 (k + n) b, pow-add 2 k n) (digits-lt (digits-lt (shr-lt k (n + b) hx) hv) (mod-lt x (pow-pos b)))
+
+-- the same of an octet, with what `with_bits` computes for its `n` bits behind the first `k`
+module _ (x k n v : ℕ) (small : x < 2 ^ 8) (h : k + n ≤ 8) (fits : v < 2 ^ n) where
+  abbrev low : ℕ
+  low = 8 - (k + n)
+
+  eight : k + n + low ≡ 8
+  eight = omega arith
+
+  wide : x < 2 ^ (k + (n + low))
+  wide = let e : 8 ≡ k + (n + low) = omega arith in subst (λ (m : ℕ). x < 2 ^ m) e small
+
+  pub octet-or : bitOr (bitOr (x / 2 ^ (n + (8 - (k + n))) * 2 ^ n % 2 ^ 64) v * 2 ^ (8 - (k + n)) % 2 ^ 64) (x % (1 * 2 ^ (8 - (k + n)) % 2 ^ 64))
+      ≡ withBits x n (8 - (k + n)) v
+  octet-or = withBits-or k n low x v 64 wide fits (omega arith)
+
+  pub octet-lt : withBits x n (8 - (k + n)) v < 2 ^ 8
+  octet-lt = subst (λ (m : ℕ). withBits x n low v < 2 ^ m) eight (withBits-lt k n low x v wide fits)
+
+  pub octet-written : valueBits 8 (withBits x n (8 - (k + n)) v) ≡ written (valueBits 8 x) k (valueBits n v)
+  octet-written = subst (λ (m : ℕ). valueBits m (withBits x n low v) ≡ written (valueBits m x) k (valueBits n v)) eight (withBits-written k n low x v fits)
+
+-- all eight bits of an octet replaced
+pub octet-whole : (x k n v : ℕ) → n ≡ 8 → k + n ≤ 8 → valueBits 8 v ≡ written (valueBits 8 x) k (valueBits n v)
+octet-whole x k n v e h =
+    let none : 0 ≡ k = omega arith in
+    sym (append-nil (valueBits 8 v))
+    ∙ sym (written-middle [] (valueBits 8 x) (valueBits 8 v) [] 0 refl (rw (length-valueBits 8 v, length-valueBits 8 x)))
+    ∙ ap (λ (l : List ℕ). written l 0 (valueBits 8 v)) (append-nil (valueBits 8 x))
+    ∙ ap₂ (λ (i m : ℕ). written (valueBits 8 x) i (valueBits m v)) none (sym e)
+
+-- ---- bits of octet `i` replaced are bits of the list replaced
+
+pub written-left : (l m : List ℕ) (at : ℕ) (f : List ℕ) → at + length f ≤ length l → written (l ++ m) at f ≡ written l at f ++ m
+unfolding written
+written-left l m at [] h = refl
+written-left l m at (b ∷ f) h =
+    ap (λ (k : List ℕ). written k (suc at) f) (set-append-left l m at b (omega arith)) ∙ written-left (set l at b) m (suc at) f (rw length-set (omega arith))
+
+-- past an octet
+past : (x i k : ℕ) → 8 * suc i + k ≡ length (valueBits 8 x) + (8 * i + k)
+past x i k = rw length-valueBits (omega arith)
+
+pub written-octet : (s : List ℕ) (i k : ℕ) (f : List ℕ) (y : ℕ) → i < length s → k + length f ≤ 8 → valueBits 8 y ≡ written (valueBits 8 (getD s i 0)) k f
+    → bitsOf (set s i y) ≡ written (bitsOf s) (8 * i + k) f
+unfolding bitsOf
+written-octet [] i k f y h hk e = absurd (omega arith)
+written-octet (x ∷ s) zero k f y h hk e =
+    rw (e, zero-add) (sym (written-left (valueBits 8 x) (bitsOf s) k f (rw length-valueBits hk)))
+written-octet (x ∷ s) (suc i) k f y h hk e = rw (past x i k, written-add, written-octet s i k f y (omega arith) hk e)
+
+pub written-place : (s : List ℕ) (at n v y : ℕ) → at < 8 * length s → at % 8 + n ≤ 8
+    → valueBits 8 y ≡ written (valueBits 8 (getD s (at / 8) 0)) (at % 8) (valueBits n v) → bitsOf (set s (at / 8) y) ≡ written (bitsOf s) at (valueBits n v)
+written-place s at n v y h hn e =
+    written-octet s (at / 8) (at % 8) (valueBits n v) y (omega arith) (rw length-valueBits hn) e
+    ∙ ap (λ (m : ℕ). written (bitsOf s) m (valueBits n v)) (omega arith)
+
+-- ---- up to eight bits read out of two octets
+
+-- bits in the middle of a number
+pub part-valueBits : (a b c v : ℕ) → part (valueBits (a + (b + c)) v) a b ≡ valueBits b (v / 2 ^ c)
+unfolding part
+part-valueBits a b c v =
+    ap (λ (l : List ℕ). take b (drop a l)) (valueBits-append a (b + c) v)
+    ∙ ap (take b) (drop-at (valueBits a (v / 2 ^ (b + c))) (valueBits (b + c) v) a (length-valueBits a (v / 2 ^ (b + c))))
+    ∙ ap (take b) (valueBits-append b c v)
+    ∙ take-at (valueBits b (v / 2 ^ c)) (valueBits c v) b (length-valueBits b (v / 2 ^ c))
+
+-- a part of the first of two runs
+pub part-left : (l m : List ℕ) (at n : ℕ) → at + n ≤ length l → part (l ++ m) at n ≡ part l at n
+unfolding part
+part-left l m at n h =
+    ap (take n) (drop-append-le at l m (omega arith)) ∙ take-append-le n (drop at l) m (rw length-drop (omega arith))
+
+-- of which the first `w` bits stand at octet `i`
+pub part-number : (s : List ℕ) (i k n c w v : ℕ) (rest : List ℕ) → bitsOf (drop i s) ≡ valueBits w v ++ rest → k + (n + c) ≡ w
+    → part (bitsOf s) (8 * i + k) n ≡ valueBits n (v / 2 ^ c)
+unfolding part
+part-number s i k n c w v rest e h =
+    ap (take n) (sym (drop-drop k (8 * i) (bitsOf s)) ∙ ap (drop k) (drop-bitsOf i s ∙ e))
+    ∙ part-left (valueBits w v) rest k n (rw length-valueBits (omega arith))
+    ∙ ap (λ (m : ℕ). part (valueBits m v) k n) (sym h)
+    ∙ part-valueBits k n c v
+
+-- the octet at `i`, and it with the next
+one-octet : (s : List ℕ) (i : ℕ) → i < length s → bitsOf (drop i s) ≡ valueBits 8 (getD s i 0) ++ bitsOf (drop (suc i) s)
+unfolding bitsOf
+one-octet s i h = ap bitsOf (drop-cons s i 0 h)
+
+two-octets : (s : List ℕ) (i : ℕ) → i + 1 < length s → getD s (i + 1) 0 < 2 ^ 8
+    → bitsOf (drop i s) ≡ valueBits 16 (getD s i 0 * 256 + getD s (i + 1) 0) ++ bitsOf (drop (suc (i + 1)) s)
+two-octets s i h hy =
+    one-octet s i (omega arith)
+    ∙ ap (λ (m : ℕ). valueBits 8 (getD s i 0) ++ bitsOf (drop m s)) (sym (add-one i))
+    ∙ ap (_++_ (valueBits 8 (getD s i 0))) (one-octet s (i + 1) h)
+    ∙ sym (append-assoc (valueBits 8 (getD s i 0)) (valueBits 8 (getD s (i + 1) 0)) (bitsOf (drop (suc (i + 1)) s)))
+    ∙ ap (λ (l : List ℕ). l ++ bitsOf (drop (suc (i + 1)) s)) (valueBits-join 8 8 (getD s i 0) (getD s (i + 1) 0) hy)
+
+-- the bits from `at` on, out of the octets at which they begin and end: where these are one, what is read behind it does not count
+pub pair-part : (s : List ℕ) (at n : ℕ) → 0 < n → n ≤ 8 → at + n ≤ 8 * length s → ((i : ℕ) → getD s i 0 < 2 ^ 8)
+    → valueBits n ((getD s (at / 8) 0 * 256 + getD s ((at + n - 1) / 8) 0) / 2 ^ (16 - (at % 8 + n))) ≡ part (bitsOf s) at n
+pair-part s at n h0 h8 h fits = go (leb (at % 8 + n) 8) refl
+  where
+    i : ℕ
+    i = at / 8
+
+    x : ℕ
+    x = getD s (at / 8) 0
+
+    place : 8 * (at / 8) + at % 8 ≡ at
+    place = omega arith
+
+    go : (t : Bool) → leb (at % 8 + n) 8 ≡ t
+        → valueBits n ((getD s (at / 8) 0 * 256 + getD s ((at + n - 1) / 8) 0) / 2 ^ (16 - (at % 8 + n))) ≡ part (bitsOf s) at n
+    go true t =
+        let e : at % 8 + n ≤ 8 = leb-true (at % 8 + n) 8 t in
+        let c : 16 - (at % 8 + n) ≡ 8 + (8 - (at % 8 + n)) = omega arith in
+        let y = getD s ((at + n - 1) / 8) 0 in
+        ap (λ (m : ℕ). valueBits n ((x * 256 + y) / 2 ^ m)) c
+        ∙ ap (valueBits n) (sym (shr-shr (x * 256 + y) 8 (8 - (at % 8 + n))) ∙ ap (λ (m : ℕ). m / 2 ^ (8 - (at % 8 + n))) (high x 8 (fits ((at + n - 1) / 8))))
+        ∙ sym (part-number s (at / 8) (at % 8) n (8 - (at % 8 + n)) 8 x _ (one-octet s (at / 8) (omega arith)) (omega arith))
+        ∙ ap (λ (m : ℕ). part (bitsOf s) m n) place
+    go false t =
+        let e : 8 < at % 8 + n = leb-false (at % 8 + n) 8 t in
+        let j : (at + n - 1) / 8 ≡ at / 8 + 1 = omega arith in
+        ap (λ (m : ℕ). valueBits n ((x * 256 + getD s m 0) / 2 ^ (16 - (at % 8 + n)))) j
+        ∙ sym (part-number s (at / 8) (at % 8) n (16 - (at % 8 + n)) 16 (x * 256 + getD s (at / 8 + 1) 0) _ (two-octets s (at / 8) (omega arith) (fits (at / 8 + 1))) (omega arith))
+        ∙ ap (λ (m : ℕ). part (bitsOf s) m n) place
+
+-- ---- a turn of a loop over such pieces
+
+pub value-turn : (l : List ℕ) (at n left v : ℕ) → n ≤ left
+    → written (written l at (valueBits n (v / 2 ^ (left - n) % 2 ^ n))) (at + n) (valueBits (left - n) v) ≡ written l at (valueBits left v)
+value-turn l at n left v h =
+    let f = valueBits n (v / 2 ^ (left - n)) in
+    let all : n + (left - n) ≡ left = omega arith in
+    ap (λ (g : List ℕ). written (written l at g) (at + n) (valueBits (left - n) v)) (valueBits-mod n (v / 2 ^ (left - n)))
+    ∙ ap (λ (m : ℕ). written (written l at f) (at + m) (valueBits (left - n) v)) (sym (length-valueBits n (v / 2 ^ (left - n))))
+    ∙ sym (written-append l at f (valueBits (left - n) v))
+    ∙ ap (written l at) (sym (valueBits-append n (left - n) v) ∙ ap (λ (m : ℕ). valueBits m v) all)
+
+pub part-turn : (l : List ℕ) (at : ℕ) (m : List ℕ) (from n left : ℕ) → n ≤ left → from + n ≤ length m
+    → written (written l at (part m from n)) (at + n) (part m (from + n) (left - n)) ≡ written l at (part m from left)
+part-turn l at m from n left h hm =
+    let all : n + (left - n) ≡ left = omega arith in
+    ap (λ (k : ℕ). written (written l at (part m from n)) (at + k) (part m (from + n) (left - n))) (sym (length-part m from n hm))
+    ∙ sym (written-append l at (part m from n) (part m (from + n) (left - n)))
+    ∙ ap (written l at) (sym (part-split m from n (left - n)) ∙ ap (part m from) all)
+
+-- clear bits
+pub valueBits-zero : (n : ℕ) → valueBits n 0 ≡ replicate n 0
+unfolding valueBits
+valueBits-zero zero = refl
+valueBits-zero (suc n) = ap₂ _∷_ (ap (λ (m : ℕ). m % 2) (zero-div (2 ^ n))) (valueBits-zero n)
+
+pub zero-turn : (l : List ℕ) (at n left : ℕ) → n ≤ left
+    → written (written l at (valueBits n 0)) (at + n) (valueBits (left - n) 0) ≡ written l at (valueBits left 0)
+zero-turn l at n left h =
+    ap (λ (m : ℕ). written (written l at (valueBits n m)) (at + n) (valueBits (left - n) 0)) (sym (ap (λ (m : ℕ). m % 2 ^ n) (zero-div (2 ^ (left - n))) ∙ mod-eq-of-lt (pow-pos n)))
+    ∙ value-turn l at n left 0 h
+
+-- the number that two runs write, one behind the other
+pub bitsValue-append : (f g : List ℕ) → bitsValue (f ++ g) ≡ bitsValue f * 2 ^ length g + bitsValue g
+unfolding bitsValue
+bitsValue-append [] g = omega (arith, zero-mul (2 ^ length g))
+bitsValue-append (b ∷ f) g =
+    let p = 2 ^ length f in
+    let q = 2 ^ length g in
+    let power : 2 ^ length (f ++ g) ≡ p * q = ap (λ (m : ℕ). 2 ^ m) (length-append f g) ∙ pow-add 2 (length f) (length g) in
+    ap₂ (λ (m n : ℕ). b * m + n) power (bitsValue-append f g)
+    ∙ omega (arith, sym (mul-assoc b p q), sym (add-mul (b * p) (bitsValue f) q))
+
+pub number-turn : (l : List ℕ) (at n left a r : ℕ) → n ≤ left → at + left ≤ length l → valueBits n r ≡ part l at n → r < 2 ^ n
+    → (a * 2 ^ n + r) * 2 ^ (left - n) + bitsValue (part l (at + n) (left - n)) ≡ a * 2 ^ left + bitsValue (part l at left)
+number-turn l at n left a r h hl e hr =
+    let p = 2 ^ (left - n) in
+    let rest = part l (at + n) (left - n) in
+    let all : n + (left - n) ≡ left = omega arith in
+    let power : 2 ^ n * p ≡ 2 ^ left = sym (pow-add 2 n (left - n)) ∙ ap (λ (m : ℕ). 2 ^ m) all in
+    let whole : bitsValue (part l at left) ≡ r * p + bitsValue rest =
+    ap (λ (m : ℕ). bitsValue (part l at m)) (sym all) ∙ ap bitsValue (part-split l at n (left - n))
+    ∙ bitsValue-append (part l at n) rest
+    ∙ ap₂ (λ (m k : ℕ). m * 2 ^ k + bitsValue rest) (ap bitsValue (sym e) ∙ value-field n r hr) (length-part l (at + n) (left - n) (omega arith)) in
+    omega (arith, add-mul (a * 2 ^ n) r p, mul-assoc a (2 ^ n) p ∙ ap (λ (m : ℕ). a * m) power, whole)
