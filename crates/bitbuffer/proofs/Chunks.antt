@@ -1,10 +1,9 @@
--- A run of bits read or written octet by octet: the bits of it that lie in one octet, and a turn of a loop over such pieces.
--- Assumes nothing.
+-- A run of bits read, written or copied octet by octet: what is done in one octet, and a turn of a loop over them. Assumes nothing.
 use mathlib.Core.Path.{_≡_, refl, sym, ap, ap₂, _∙_, subst}
 use mathlib.Core.List.{List, [], _∷_, _++_, append-assoc, append-nil}
 use mathlib.Core.Bool.{Bool, true, false}
 use Prim.Native.Nat.{ℕ, zero, suc, _+_, _-_, _*_, _/_, _%_, _^_, _≤_, _<_}
-use native.Mathlib.Nat.{zero-add, add-zero, add-mul, zero-mul, mul-assoc, mod-lt, mod-eq-of-lt, zero-div}
+use native.Mathlib.Nat.{zero-add, add-zero, add-mul, zero-mul, mul-assoc, mod-lt, mod-eq-of-lt, zero-div, div-one}
 use native.Mathlib.Numerals.{add-one}
 use native.Mathlib.Omega.{arith}
 use lib.Arith.{digits-lt}
@@ -15,7 +14,7 @@ use lib.Dec.{leb}
 use lib.ListN.{length, take, drop, getD, set, replicate, length-append, length-drop, length-set}
 use lib.Seq.{set-append-left, drop-at, take-at, drop-cons, drop-drop, drop-append-le, take-append-le}
 use Rattle.bitbuffer.specs.Bits.{valueBits, bitsValue, bitsOf, written, part}
-use Rattle.bitbuffer.proofs.Laws.{length-valueBits, valueBits-append, valueBits-mod, one-shl, written-append, written-eq, length-part, value-field}
+use Rattle.bitbuffer.proofs.Laws.{length-valueBits, valueBits-append, valueBits-mod, one-shl, written-append, written-eq, length-part, length-bitsOf, past, value-field}
 use Rattle.bitbuffer.proofs.Octets.{part-split, valueBits-join, drop-bitsOf, written-add}
 
 -- ---- bits of an octet replaced
@@ -31,6 +30,7 @@ written-middle p q f r k e h =
     ∙ written-add p (q ++ r) 0 f
     ∙ ap (_++_ p) (written-eq (q ++ r) 0 f (rw length-append (omega arith)) ∙ ap (_++_ f) (drop-at q r (0 + length f) (omega arith)))
 
+-- the bits of that number
 pub withBits-written : (k n b x v : ℕ) → v < 2 ^ n
     → valueBits (k + n + b) (withBits x n b v) ≡ written (valueBits (k + n + b) x) k (valueBits n v)
 withBits-written k n b x v h =
@@ -39,7 +39,7 @@ withBits-written k n b x v h =
     ∙ ap₂ (λ (l m : List ℕ). l ++ m) (sym (valueBits-join k n q v h)) (valueBits-mod b x)
     ∙ append-assoc (valueBits k q) (valueBits n v) (valueBits b x)
     ∙ sym (written-middle (valueBits k q) (valueBits n (x / 2 ^ b)) (valueBits n v) (valueBits b x) k (length-valueBits k q) (rw (length-valueBits n (x / 2 ^ b), length-valueBits n v)))
-    ∙ ap (λ (l : List ℕ). written l k (valueBits n v)) (sym (parted))
+    ∙ ap (λ (l : List ℕ). written l k (valueBits n v)) (sym parted)
   where
     parted : valueBits (k + n + b) x ≡ valueBits k (x / 2 ^ (n + b)) ++ (valueBits n (x / 2 ^ b) ++ valueBits b x)
     parted =
@@ -47,7 +47,7 @@ withBits-written k n b x v h =
         ∙ ap (λ (l : List ℕ). l ++ valueBits b x) (valueBits-append k n (x / 2 ^ b) ∙ ap (λ (m : ℕ). valueBits k m ++ valueBits n (x / 2 ^ b)) (shr-shr x b n ∙ ap (λ (m : ℕ). x / 2 ^ m) (omega arith)))
         ∙ append-assoc (valueBits k (x / 2 ^ (n + b))) (valueBits n (x / 2 ^ b)) (valueBits b x)
 
--- as a machine of `w` bits works it out
+-- the number as a machine of `w` bits works it out
 pub withBits-or : (k n b x v w : ℕ) → x < 2 ^ (k + (n + b)) → v < 2 ^ n → k + n + b < w
     → bitOr (bitOr (x / 2 ^ (n + b) * 2 ^ n % 2 ^ w) v * 2 ^ b % 2 ^ w) (x % (1 * 2 ^ b % 2 ^ w)) ≡ withBits x n b v
 withBits-or k n b x v w hx hv hw =
@@ -61,6 +61,7 @@ withBits-or k n b x v w hx hv hw =
     top : x / 2 ^ (n + b) < 2 ^ k
     top = shr-lt k (n + b) hx
 
+-- it is no wider
 pub withBits-lt : (k n b x v : ℕ) → x < 2 ^ (k + (n + b)) → v < 2 ^ n → withBits x n b v < 2 ^ (k + n + b)
 withBits-lt k n b x v hx hv =
     rw (pow-add 2 (k + n) b, pow-add 2 k n) (digits-lt (digits-lt (shr-lt k (n + b) hx) hv) (mod-lt x (pow-pos b)))
@@ -97,15 +98,12 @@ octet-whole x k n v e h =
 
 -- ---- bits of octet `i` replaced are bits of the list replaced
 
+-- a write in the first of two runs
 pub written-left : (l m : List ℕ) (at : ℕ) (f : List ℕ) → at + length f ≤ length l → written (l ++ m) at f ≡ written l at f ++ m
 unfolding written
 written-left l m at [] h = refl
 written-left l m at (b ∷ f) h =
     ap (λ (k : List ℕ). written k (suc at) f) (set-append-left l m at b (omega arith)) ∙ written-left (set l at b) m (suc at) f (rw length-set (omega arith))
-
--- past an octet
-past : (x i k : ℕ) → 8 * suc i + k ≡ length (valueBits 8 x) + (8 * i + k)
-past x i k = rw length-valueBits (omega arith)
 
 pub written-octet : (s : List ℕ) (i k : ℕ) (f : List ℕ) (y : ℕ) → i < length s → k + length f ≤ 8 → valueBits 8 y ≡ written (valueBits 8 (getD s i 0)) k f
     → bitsOf (set s i y) ≡ written (bitsOf s) (8 * i + k) f
@@ -115,11 +113,17 @@ written-octet (x ∷ s) zero k f y h hk e =
     rw (e, zero-add) (sym (written-left (valueBits 8 x) (bitsOf s) k f (rw length-valueBits hk)))
 written-octet (x ∷ s) (suc i) k f y h hk e = rw (past x i k, written-add, written-octet s i k f y (omega arith) hk e)
 
+-- the same by the position of the bits, as code finds it
 pub written-place : (s : List ℕ) (at n v y : ℕ) → at < 8 * length s → at % 8 + n ≤ 8
     → valueBits 8 y ≡ written (valueBits 8 (getD s (at / 8) 0)) (at % 8) (valueBits n v) → bitsOf (set s (at / 8) y) ≡ written (bitsOf s) at (valueBits n v)
 written-place s at n v y h hn e =
     written-octet s (at / 8) (at % 8) (valueBits n v) y (omega arith) (rw length-valueBits hn) e
     ∙ ap (λ (m : ℕ). written (bitsOf s) m (valueBits n v)) (omega arith)
+
+-- one bit
+pub written-one : (l : List ℕ) (at b : ℕ) → b < 2 → written l at (valueBits 1 b) ≡ set l at b
+unfolding written valueBits
+written-one l at b h = ap (set l at) (ap (λ (m : ℕ). m % 2) (div-one b) ∙ mod-eq-of-lt h)
 
 -- ---- up to eight bits read out of two octets
 
@@ -138,7 +142,7 @@ unfolding part
 part-left l m at n h =
     ap (take n) (drop-append-le at l m (omega arith)) ∙ take-append-le n (drop at l) m (rw length-drop (omega arith))
 
--- of which the first `w` bits stand at octet `i`
+-- bits of octets, where the `w` bits from octet `i` on are those of a number
 pub part-number : (s : List ℕ) (i k n c w v : ℕ) (rest : List ℕ) → bitsOf (drop i s) ≡ valueBits w v ++ rest → k + (n + c) ≡ w
     → part (bitsOf s) (8 * i + k) n ≡ valueBits n (v / 2 ^ c)
 unfolding part
@@ -148,7 +152,7 @@ part-number s i k n c w v rest e h =
     ∙ ap (λ (m : ℕ). part (valueBits m v) k n) (sym h)
     ∙ part-valueBits k n c v
 
--- the octet at `i`, and it with the next
+-- the octet at `i`, alone and with the next
 one-octet : (s : List ℕ) (i : ℕ) → i < length s → bitsOf (drop i s) ≡ valueBits 8 (getD s i 0) ++ bitsOf (drop (suc i) s)
 unfolding bitsOf
 one-octet s i h = ap bitsOf (drop-cons s i 0 h)
@@ -167,9 +171,6 @@ pub pair-part : (s : List ℕ) (at n : ℕ) → 0 < n → n ≤ 8 → at + n ≤
     → valueBits n ((getD s (at / 8) 0 * 256 + getD s ((at + n - 1) / 8) 0) / 2 ^ (16 - (at % 8 + n))) ≡ part (bitsOf s) at n
 pair-part s at n h0 h8 h fits = go (leb (at % 8 + n) 8) refl
   where
-    i : ℕ
-    i = at / 8
-
     x : ℕ
     x = getD s (at / 8) 0
 
@@ -193,8 +194,9 @@ pair-part s at n h0 h8 h fits = go (leb (at % 8 + n) 8) refl
         ∙ sym (part-number s (at / 8) (at % 8) n (16 - (at % 8 + n)) 16 (x * 256 + getD s (at / 8 + 1) 0) _ (two-octets s (at / 8) (omega arith) (fits (at / 8 + 1))) (omega arith))
         ∙ ap (λ (m : ℕ). part (bitsOf s) m n) place
 
--- ---- a turn of a loop over such pieces
+-- ---- a turn of a loop that goes on by `n` bits
 
+-- it writes a number
 pub value-turn : (l : List ℕ) (at n left v : ℕ) → n ≤ left
     → written (written l at (valueBits n (v / 2 ^ (left - n) % 2 ^ n))) (at + n) (valueBits (left - n) v) ≡ written l at (valueBits left v)
 value-turn l at n left v h =
@@ -205,6 +207,7 @@ value-turn l at n left v h =
     ∙ sym (written-append l at f (valueBits (left - n) v))
     ∙ ap (written l at) (sym (valueBits-append n (left - n) v) ∙ ap (λ (m : ℕ). valueBits m v) all)
 
+-- it copies
 pub part-turn : (l : List ℕ) (at : ℕ) (m : List ℕ) (from n left : ℕ) → n ≤ left → from + n ≤ length m
     → written (written l at (part m from n)) (at + n) (part m (from + n) (left - n)) ≡ written l at (part m from left)
 part-turn l at m from n left h hm =
@@ -213,7 +216,7 @@ part-turn l at m from n left h hm =
     ∙ sym (written-append l at (part m from n) (part m (from + n) (left - n)))
     ∙ ap (written l at) (sym (part-split m from n (left - n)) ∙ ap (part m from) all)
 
--- clear bits
+-- it clears
 pub valueBits-zero : (n : ℕ) → valueBits n 0 ≡ replicate n 0
 unfolding valueBits
 valueBits-zero zero = refl
@@ -225,7 +228,7 @@ zero-turn l at n left h =
     ap (λ (m : ℕ). written (written l at (valueBits n m)) (at + n) (valueBits (left - n) 0)) (sym (ap (λ (m : ℕ). m % 2 ^ n) (zero-div (2 ^ (left - n))) ∙ mod-eq-of-lt (pow-pos n)))
     ∙ value-turn l at n left 0 h
 
--- the number that two runs write, one behind the other
+-- it reads a number
 pub bitsValue-append : (f g : List ℕ) → bitsValue (f ++ g) ≡ bitsValue f * 2 ^ length g + bitsValue g
 unfolding bitsValue
 bitsValue-append [] g = omega (arith, zero-mul (2 ^ length g))
@@ -248,3 +251,47 @@ number-turn l at n left a r h hl e hr =
     ∙ bitsValue-append (part l at n) rest
     ∙ ap₂ (λ (m k : ℕ). m * 2 ^ k + bitsValue rest) (ap bitsValue (sym e) ∙ value-field n r hr) (length-part l (at + n) (left - n) (omega arith)) in
     omega (arith, add-mul (a * 2 ^ n) r p, mul-assoc a (2 ^ n) p ∙ ap (λ (m : ℕ). a * m) power, whole)
+
+-- ---- whole octets copied
+
+-- an octet stored
+pub stored : (s : List ℕ) (i y : ℕ) → i < length s → bitsOf (set s i y) ≡ written (bitsOf s) (8 * i) (valueBits 8 y)
+stored s i y h =
+    written-octet s i 0 (valueBits 8 y) y h (rw length-valueBits (omega arith)) (octet-whole (getD s i 0) 0 8 y refl (omega arith))
+    ∙ ap (λ (m : ℕ). written (bitsOf s) m (valueBits 8 y)) (add-zero (8 * i))
+
+-- the eight bits from `at` on
+pub octet-part : (s : List ℕ) (at i : ℕ) → at / 8 + i + 1 < length s → getD s (at / 8 + i + 1) 0 < 2 ^ 8
+    → valueBits 8 ((getD s (at / 8 + i) 0 * 256 + getD s (at / 8 + i + 1) 0) / 2 ^ (8 - at % 8) % 256) ≡ part (bitsOf s) (at + 8 * i) 8
+octet-part s at i h hy =
+    let q = at / 8 + i in
+    let v = getD s q 0 * 256 + getD s (q + 1) 0 in
+    let place : 8 * q + at % 8 ≡ at + 8 * i = omega arith in
+    valueBits-mod 8 (v / 2 ^ (8 - at % 8))
+    ∙ sym (part-number s q (at % 8) 8 (8 - at % 8) 16 v (bitsOf (drop (suc (q + 1)) s)) (two-octets s q h hy) (omega arith))
+    ∙ ap (λ (m : ℕ). part (bitsOf s) m 8) place
+
+-- a turn of the loop
+pub octet-turn : (d₀ d s : List ℕ) (at from i y : ℕ) → bitsOf d ≡ written (bitsOf d₀) (8 * at) (part (bitsOf s) from (8 * i))
+    → at + i < length d → from + (8 * i + 8) ≤ 8 * length s → valueBits 8 y ≡ part (bitsOf s) (from + 8 * i) 8
+    → bitsOf (set d (at + i) y) ≡ written (bitsOf d₀) (8 * at) (part (bitsOf s) from (8 * (i + 1)))
+octet-turn d₀ d s at from i y e h hs ey =
+    let place : 8 * (at + i) ≡ 8 * at + 8 * i = omega arith in
+    let eight : 8 ≡ 8 * (i + 1) - 8 * i = omega arith in
+    stored d (at + i) y h
+    ∙ ap₂ (λ (l f : List ℕ). written l (8 * (at + i)) f) e (ey ∙ ap (part (bitsOf s) (from + 8 * i)) eight)
+    ∙ ap (λ (m : ℕ). written (written (bitsOf d₀) (8 * at) (part (bitsOf s) from (8 * i))) m (part (bitsOf s) (from + 8 * i) (8 * (i + 1) - 8 * i))) place
+    ∙ part-turn (bitsOf d₀) (8 * at) (bitsOf s) from (8 * i) (8 * (i + 1)) (omega arith) (rw length-bitsOf (omega arith))
+
+-- a part copied in three: `a` bits, `c` octets from octet `o` on, and the rest
+pub written-three : (l₁ l₂ l₃ l : List ℕ) (at : ℕ) (m : List ℕ) (from a o c n : ℕ) → from + n ≤ length m → a + 8 * c ≤ n → 8 * o ≡ at + a
+    → l₁ ≡ written l at (part m from a) → l₂ ≡ written l₁ (8 * o) (part m (from + a) (8 * c))
+    → l₃ ≡ written l₂ (at + (a + 8 * c)) (part m (from + (a + 8 * c)) (n - (a + 8 * c))) → l₃ ≡ written l at (part m from n)
+written-three l₁ l₂ l₃ l at m from a o c n h hc e e₁ e₂ e₃ =
+    let d = a + 8 * c in
+    let octets : 8 * c ≡ d - a = omega arith in
+    e₃ ∙ ap (λ (x : List ℕ). written x (at + d) (part m (from + d) (n - d)))
+    (e₂ ∙ ap₂ (λ (x : List ℕ) (j : ℕ). written x j (part m (from + a) (8 * c))) e₁ e
+    ∙ ap (λ (j : ℕ). written (written l at (part m from a)) (at + a) (part m (from + a) j)) octets
+    ∙ part-turn l at m from a d (omega arith) (omega arith))
+    ∙ part-turn l at m from d n hc (omega arith)

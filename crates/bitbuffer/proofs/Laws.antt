@@ -1,7 +1,7 @@
 -- The laws of the definitions of `specs/Bits.antt`, each for any width. Assumes nothing. The bit facts, here and in the modules named:
 --   a value to bits and back     value-field, value-valueBits, valueBits-value
 --   bits to octets and back      Octets: packed-bitsOf, bitsOf-packed, bitsOf-same
---   a bit at its octet           getD-place, set-place
+--   bits at their octets         getD-place; Chunks: written-place, pair-part, octet-part
 --   reading what was written     part-written, read-written, field-back; Writes: written-inside
 --   what a write leaves alone    part-before, part-after, length-written; Writes: written-elsewhere
 --   two writes in a row          written-append and `then` (adjacent); Writes: written-disjoint (apart)
@@ -10,13 +10,12 @@ use mathlib.Core.Path.{_≡_, refl, sym, ap, ap₂, _∙_, subst}
 use mathlib.Core.List.{List, [], _∷_, _++_, append-assoc}
 use Prim.Native.Nat.{ℕ, zero, suc, _+_, _-_, _*_, _/_, _%_, _^_, _≤_, _<_}
 use native.Mathlib.Nat.{add-zero, zero-add, suc-add, add-comm, mod-one, mod-lt, mod-eq-of-lt, pow-suc, one-mul, mul-one, mul-comm, mul-le-mul-left, lt-of-lt-of-le}
-use native.Mathlib.Numerals.{add-one, one-add}
+use native.Mathlib.Numerals.{one-add}
 use native.Mathlib.Omega.{arith}
-use lib.Arith.{digits-div, digits-mod, digits-lt}
-use lib.Bits.{bitOr, or-shifted}
-use lib.Pow.{pow-mono, shl-exact, shr-lt, pow-pos, shr-shr, mod-pow-add, mod-mod-pow, field as pow-field, high, low}
+use lib.Arith.{digits-lt}
+use lib.Pow.{pow-mono, shl-exact, pow-pos, shr-shr, mod-pow-add, mod-mod-pow, field as pow-field, high, low}
 use lib.ListN.{length, take, drop, getD, set, length-append, length-set, length-take, length-drop, List·getD-append}
-use lib.Seq.{getD-at, set-at, set-append-left, getD-append-add, sets, sets-eq, drop-at, take-at, take-append-seam, length-take-le, drop-set-lt, take-set-le, drop-set-add, drop-drop}
+use lib.Seq.{getD-at, getD-append-add, sets, sets-eq, drop-at, take-at, take-append-seam, length-take-le, drop-set-lt, take-set-le, drop-set-add, drop-drop}
 use Rattle.bitbuffer.specs.Bits.{valueBits, bitsValue, bitsOf, written, part, AreBits, field, Wrote}
 
 -- ---- the bits of a number
@@ -62,43 +61,9 @@ getD-valueBits i j v =
     ap (λ (l : List ℕ). getD l i 0) (valueBits-append i (suc j) v)
     ∙ getD-at (valueBits i (v / 2 ^ suc j)) (v / 2 ^ j % 2) (valueBits j v) 0 i (length-valueBits i (v / 2 ^ suc j))
 
--- `x` with that bit replaced
-abbrev pub withBit : ℕ → ℕ → ℕ → ℕ
-withBit x j b = (x / 2 ^ j / 2 * 2 + b) * 2 ^ j + x % 2 ^ j
-
-pub set-valueBits : (i j x b : ℕ) → b < 2 → valueBits (i + suc j) (withBit x j b) ≡ set (valueBits (i + suc j) x) i b
-unfolding valueBits
-set-valueBits i j x b h =
-    valueBits-append i (suc j) (withBit x j b)
-    ∙ ap₂ (λ (p q : List ℕ). p ++ q)
-    (ap (valueBits i) (sym (halved (withBit x j b)) ∙ ap (λ (n : ℕ). n / 2) (high _ j (mod-lt x (pow-pos j))) ∙ digits-div (x / 2 ^ j / 2) h ∙ halved x))
-    (ap₂ _∷_ (ap (λ (n : ℕ). n % 2) (high _ j (mod-lt x (pow-pos j))) ∙ digits-mod (x / 2 ^ j / 2) h)
-    (sym (valueBits-mod j (withBit x j b)) ∙ ap (valueBits j) (low _ j (mod-lt x (pow-pos j))) ∙ valueBits-mod j x))
-    ∙ sym (set-at (valueBits i (x / 2 ^ suc j)) (x / 2 ^ j % 2) (valueBits j x) b i (length-valueBits i (x / 2 ^ suc j)))
-    ∙ ap (λ (l : List ℕ). set l i b) (sym (valueBits-append i (suc j) x))
-  where
-    halved : (n : ℕ) → n / 2 ^ j / 2 ≡ n / 2 ^ suc j
-    halved n = shr-shr n j 1 ∙ ap (λ (k : ℕ). n / 2 ^ k) (add-one j)
-
 -- `1 << k`
 pub one-shl : {k : ℕ} (w : ℕ) → k < w → 1 * 2 ^ k % 2 ^ w ≡ 2 ^ k
 one-shl {k} w h = shl-exact {a = 1} 1 k w (omega arith) (omega arith) ∙ one-mul (2 ^ k)
-
--- `withBit` as a machine of `w` bits works it out
-pub withBit-or : {x k b : ℕ} (w : ℕ) → x < 2 ^ w → k < w → b < 2
-    → bitOr ((x / 2 ^ k / 2 * 2 + b) * 2 ^ k % 2 ^ w) (x % (1 * 2 ^ k % 2 ^ w)) ≡ withBit x k b
-withBit-or {x} {k} {b} w hx hk hb =
-    ap₂ bitOr (shl-exact (suc j) k w high-lt (omega arith)) (ap (λ (n : ℕ). x % n) (one-shl w hk))
-    ∙ or-shifted (x / 2 ^ k / 2 * 2 + b) k (x % 2 ^ k) (mod-lt x (pow-pos k))
-  where
-    j : ℕ
-    j = w - suc k
-
-    wide : suc j + k ≡ w
-    wide = omega arith
-
-    high-lt : x / 2 ^ k / 2 * 2 + b < 2 ^ suc j
-    high-lt = rw pow-suc (digits-lt (shr-lt j 1 (rw add-one (shr-lt (suc j) k (rw wide hx)))) hb)
 
 -- ---- the bits of octets
 
@@ -114,7 +79,7 @@ set-append-add [] m n b = rw zero-add
 set-append-add (x ∷ l) m n b = rw suc-add (ap (_∷_ x) (set-append-add l m n b))
 
 -- a position past the first octet
-past : (x i k : ℕ) → 8 * suc i + k ≡ length (valueBits 8 x) + (8 * i + k)
+pub past : (x i k : ℕ) → 8 * suc i + k ≡ length (valueBits 8 x) + (8 * i + k)
 past x i k = rw length-valueBits (omega arith)
 
 -- a bit of octet `i` is a bit of the list
@@ -124,15 +89,6 @@ getD-bitsOf [] i k h hk = absurd (omega arith)
 getD-bitsOf (x ∷ s) zero k h hk = rw zero-add (List·getD-append (valueBits 8 x) (bitsOf s) 0 k (rw length-valueBits hk))
 getD-bitsOf (x ∷ s) (suc i) k h hk =
     rw (past x i k, getD-append-add) (getD-bitsOf s i k (omega arith) hk)
-
--- a bit of octet `i` replaced is a bit of the list replaced
-pub set-bitsOf : (s : List ℕ) (i k b y : ℕ) → i < length s → k < 8 → valueBits 8 y ≡ set (valueBits 8 (getD s i 0)) k b
-    → bitsOf (set s i y) ≡ set (bitsOf s) (8 * i + k) b
-unfolding bitsOf
-set-bitsOf [] i k b y h hk e = absurd (omega arith)
-set-bitsOf (x ∷ s) zero k b y h hk e =
-    rw (e, zero-add) (sym (set-append-left (valueBits 8 x) (bitsOf s) k b (rw length-valueBits hk)))
-set-bitsOf (x ∷ s) (suc i) k b y h hk e = rw (past x i k, set-append-add, set-bitsOf s i k b y (omega arith) hk e)
 
 -- the same by the bit's position, as code finds it
 at-octet : (at : ℕ) → 8 * (at / 8) + at % 8 ≡ at
@@ -146,17 +102,6 @@ getD-place s at h =
     ap (λ (n : ℕ). getD (bitsOf s) n 0) (sym (at-octet at)) ∙ getD-bitsOf s (at / 8) (at % 8) (omega arith) (omega arith)
     ∙ ap (λ (n : ℕ). getD (valueBits n (getD s (at / 8) 0)) (at % 8) 0) (sym (seven {k = at % 8} (omega arith)))
     ∙ getD-valueBits (at % 8) (7 - at % 8) (getD s (at / 8) 0)
-
--- the octet that `withBit` makes
-pub octet-set : (x k b : ℕ) → k < 8 → b < 2 → valueBits 8 (withBit x k b) ≡ set (valueBits 8 x) (7 - k) b
-octet-set x k b hk hb =
-    subst (λ (w : ℕ). valueBits w (withBit x k b) ≡ set (valueBits w x) (7 - k) b) (omega arith) (set-valueBits (7 - k) k x b hb)
-
-pub set-place : (s : List ℕ) (at b y : ℕ) → at < 8 * length s → valueBits 8 y ≡ set (valueBits 8 (getD s (at / 8) 0)) (7 - (7 - at % 8)) b
-    → bitsOf (set s (at / 8) y) ≡ set (bitsOf s) at b
-set-place s at b y h e =
-    set-bitsOf s (at / 8) (at % 8) b y (omega arith) (omega arith) (e ∙ ap (λ (k : ℕ). set (valueBits 8 (getD s (at / 8) 0)) k b) (omega arith))
-    ∙ ap (λ (k : ℕ). set (bitsOf s) k b) (at-octet at)
 
 -- ---- what is 0 or 1
 

@@ -1,6 +1,6 @@
 // Fields of any width in a run of octets, most significant bit first.
 ghost use mathlib.Core.Path.{_≡_};
-ghost use Prim.Native.Nat.{_+_, _-_, _*_, _%_, _<_, _≤_, _^_};
+ghost use Prim.Native.Nat.{_+_, _-_, _*_, _/_, _%_, _<_, _≤_, _^_};
 ghost use lib.ListN.{length, getD, set, replicate};
 ghost use Rattle.bitbuffer.specs.Bits.{valueBits, bitsValue, bitsOf, written, part, Wrote};
 
@@ -11,23 +11,6 @@ pub fn bit_at(s: &[u8], at: usize) -> u8
 {
     let i = at / 8;
     (s[i] >> (7 - at % 8)) % 2
-}
-
-// `x` with the bit that counts `2 ^ k` set to `bit`.
-fn with_bit(x: u8, k: usize, bit: u8) -> u8
-    requires { ⌜ (k < 8) × (bit < 2) ⌝ }
-    ensures { λ r. ⌜ valueBits 8 r ≡ set (valueBits 8 x) (7 - k) bit ⌝ }
-{
-    (((x >> k) / 2 * 2 + bit) << k) | (x % (1 << k))
-}
-
-// Sets the bit at `at`, and leaves every other bit.
-pub fn set_bit(s: &mut [u8], at: usize, bit: u8)
-    requires { ⌜ (at < 8 * length (now s)) × (bit < 2) ⌝ }
-    ensures { λ _. ⌜ bitsOf (now (s .exit)) ≡ set (bitsOf (now (s .entry))) at bit ⌝ }
-{
-    let i = at / 8;
-    s[i] = with_bit(s[i], 7 - at % 8, bit);
 }
 
 // How many of the `left` bits from `at` on lie in the octet at `at`.
@@ -43,10 +26,10 @@ fn chunk(at: usize, left: usize) -> usize
 }
 
 // Two octets side by side.
-fn joined(x: u8, y: u8) -> u64
+fn joined(x: u8, y: u8) -> u16
     ensures { λ r. ⌜ r ≡ x * 256 + y ⌝ }
 {
-    x as u64 * 256 + y as u64
+    x as u16 * 256 + y as u16
 }
 
 // The number that the `n` bits from `at` on write, at most eight. The second octet counts only if they go on into it.
@@ -56,7 +39,7 @@ fn bits_at(s: &[u8], at: usize, n: usize) -> u64
 {
     let i = at / 8;
     let j = (at + n - 1) / 8;
-    let pair = joined(s[i], s[j]);
+    let pair = joined(s[i], s[j]) as u64;
     (pair >> (16 - (at % 8 + n))) % (1 << n)
 }
 
@@ -80,6 +63,14 @@ fn put_chunk(s: &mut [u8], at: usize, n: usize, v: u64)
 {
     let i = at / 8;
     s[i] = with_bits(s[i], at % 8, n, v);
+}
+
+// Sets the bit at `at`, and leaves every other bit.
+pub fn set_bit(s: &mut [u8], at: usize, bit: u8)
+    requires { ⌜ (at < 8 * length (now s)) × (bit < 2) ⌝ }
+    ensures { λ _. ⌜ bitsOf (now (s .exit)) ≡ set (bitsOf (now (s .entry))) at bit ⌝ }
+{
+    put_chunk(s, at, 1, bit as u64);
 }
 
 // Writes the low `width` bits of `value` from `at` on.
@@ -138,8 +129,8 @@ pub fn read_bits(s: &[u8], at: usize, width: usize) -> u64
     sum
 }
 
-// Copies `n` bits of `src` from `from` on to `dst` from `at` on.
-pub fn copy_bits(dst: &mut [u8], at: usize, src: &[u8], from: usize, n: usize)
+// Copies `n` bits of `src` from `from` on to `dst` from `at` on, what lies in one octet of `dst` at a time.
+fn copy_chunks(dst: &mut [u8], at: usize, src: &[u8], from: usize, n: usize)
     requires { ⌜ (at + n ≤ 8 * length (now dst)) × (from + n ≤ 8 * length (now src)) ⌝ }
     requires { ⌜ (at + n < 2 ^ 64) × (from + n < 2 ^ 64) ⌝ }
     ensures { λ _. ⌜ bitsOf (now (dst .exit)) ≡ written (bitsOf (now (dst .entry))) at (part (bitsOf (now (src .entry))) from n) ⌝ }
@@ -154,4 +145,43 @@ pub fn copy_bits(dst: &mut [u8], at: usize, src: &[u8], from: usize, n: usize)
         to += k;
         pos += k;
     }
+}
+
+// The octet that ends `r` bits before the end of two octets side by side.
+fn octet_within(x: u8, y: u8, r: usize) -> u8
+    requires { ⌜ r ≤ 8 ⌝ }
+    ensures { λ v. ⌜ v ≡ (x * 256 + y) / 2 ^ r % 256 ⌝ }
+{
+    ((joined(x, y) >> r) % 256) as u8
+}
+
+// Copies the bits of `src` from `from` on to `n` whole octets of `dst` from octet `at` on. One octet of `src` more is read, so that
+// no turn needs a test.
+fn copy_octets(dst: &mut [u8], at: usize, src: &[u8], from: usize, n: usize)
+    requires { ⌜ (at + n ≤ length (now dst)) × (from + (8 * n + 8) ≤ 8 * length (now src)) ⌝ }
+    ensures { λ _. ⌜ bitsOf (now (dst .exit)) ≡ written (bitsOf (now (dst .entry))) (8 * at) (part (bitsOf (now (src .entry))) from (8 * n)) ⌝ }
+{
+    let q = from / 8;
+    let low = 8 - from % 8;
+    for i in 0..n {
+        dst[at + i] = octet_within(src[q + i], src[q + i + 1], low);
+    }
+}
+
+// Copies `n` bits of `src` from `from` on to `dst` from `at` on: the bits up to an octet of `dst`, whole octets, and the rest.
+pub fn copy_bits(dst: &mut [u8], at: usize, src: &[u8], from: usize, n: usize)
+    requires { ⌜ (at + n ≤ 8 * length (now dst)) × (from + n ≤ 8 * length (now src)) ⌝ }
+    requires { ⌜ (at + n < 2 ^ 64) × (from + n < 2 ^ 64) ⌝ }
+    ensures { λ _. ⌜ bitsOf (now (dst .exit)) ≡ written (bitsOf (now (dst .entry))) at (part (bitsOf (now (src .entry))) from n) ⌝ }
+{
+    let gap = (8 - at % 8) % 8;
+    if n < gap + 16 {
+        copy_chunks(dst, at, src, from, n);
+        return;
+    }
+    copy_chunks(dst, at, src, from, gap);
+    let count = (n - gap) / 8 - 1;
+    copy_octets(dst, (at + gap) / 8, src, from + gap, count);
+    let done = gap + 8 * count;
+    copy_chunks(dst, at + done, src, from + done, n - done);
 }
