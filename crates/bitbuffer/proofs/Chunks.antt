@@ -66,7 +66,11 @@ pub withBits-lt : (k n b x v : ℕ) → x < 2 ^ (k + (n + b)) → v < 2 ^ n → 
 withBits-lt k n b x v hx hv =
     rw (pow-add 2 (k + n) b, pow-add 2 k n) (digits-lt (digits-lt (shr-lt k (n + b) hx) hv) (mod-lt x (pow-pos b)))
 
--- the same of an octet, with what `with_bits` computes for its `n` bits behind the first `k`
+-- the number that `with_bits` works out, of an octet
+abbrev pub octetWith : ℕ → ℕ → ℕ → ℕ → ℕ
+octetWith x k n v =
+    bitOr (bitOr (x / 2 ^ (n + (8 - (k + n))) * 2 ^ n % 2 ^ 64) v * 2 ^ (8 - (k + n)) % 2 ^ 64) (x % (1 * 2 ^ (8 - (k + n)) % 2 ^ 64))
+
 module _ (x k n v : ℕ) (small : x < 2 ^ 8) (h : k + n ≤ 8) (fits : v < 2 ^ n) where
   abbrev low : ℕ
   low = 8 - (k + n)
@@ -77,15 +81,16 @@ module _ (x k n v : ℕ) (small : x < 2 ^ 8) (h : k + n ≤ 8) (fits : v < 2 ^ n
   wide : x < 2 ^ (k + (n + low))
   wide = let e : 8 ≡ k + (n + low) = omega arith in subst (λ (m : ℕ). x < 2 ^ m) e small
 
-  pub octet-or : bitOr (bitOr (x / 2 ^ (n + (8 - (k + n))) * 2 ^ n % 2 ^ 64) v * 2 ^ (8 - (k + n)) % 2 ^ 64) (x % (1 * 2 ^ (8 - (k + n)) % 2 ^ 64))
-      ≡ withBits x n (8 - (k + n)) v
-  octet-or = withBits-or k n low x v 64 wide fits (omega arith)
+  exact : octetWith x k n v ≡ withBits x n low v
+  exact = withBits-or k n low x v 64 wide fits (omega arith)
 
-  pub octet-lt : withBits x n (8 - (k + n)) v < 2 ^ 8
-  octet-lt = subst (λ (m : ℕ). withBits x n low v < 2 ^ m) eight (withBits-lt k n low x v wide fits)
+  pub octet-lt : octetWith x k n v < 2 ^ 8
+  octet-lt = rw exact (subst (λ (m : ℕ). withBits x n low v < 2 ^ m) eight (withBits-lt k n low x v wide fits))
 
-  pub octet-written : valueBits 8 (withBits x n (8 - (k + n)) v) ≡ written (valueBits 8 x) k (valueBits n v)
-  octet-written = subst (λ (m : ℕ). valueBits m (withBits x n low v) ≡ written (valueBits m x) k (valueBits n v)) eight (withBits-written k n low x v fits)
+  pub octet-written : valueBits 8 (octetWith x k n v) ≡ written (valueBits 8 x) k (valueBits n v)
+  octet-written =
+      ap (valueBits 8) exact
+      ∙ subst (λ (m : ℕ). valueBits m (withBits x n low v) ≡ written (valueBits m x) k (valueBits n v)) eight (withBits-written k n low x v fits)
 
 -- all eight bits of an octet replaced
 pub octet-whole : (x k n v : ℕ) → n ≡ 8 → k + n ≤ 8 → valueBits 8 v ≡ written (valueBits 8 x) k (valueBits n v)

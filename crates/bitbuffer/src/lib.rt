@@ -48,6 +48,7 @@ fn with_bits(x: u8, k: usize, n: usize, v: u64) -> u8
     requires { ⌜ (k + n ≤ 8) × (v < 2 ^ n) ⌝ }
     ensures { λ r. ⌜ valueBits 8 r ≡ written (valueBits 8 x) k (valueBits n v) ⌝ }
 {
+    // A whole octet: nothing of the old one is left.
     if n == 8 {
         return v as u8;
     }

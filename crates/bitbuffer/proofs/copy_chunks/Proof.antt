@@ -3,6 +3,7 @@ use mathlib.Core.List.{List}
 use mathlib.Core.Path.{_≡_, refl, ap, _∙_}
 use Prim.Native.Nat.{ℕ, _+_, _-_}
 use native.Mathlib.Omega.{arith}
+use borrow.Author.Needs.{needs}
 use lib.ListN.{length}
 use Rattle.bitbuffer.specs.Bits.{bitsOf, written, part}
 use Rattle.bitbuffer.proofs.Laws.{part-done, length-bitsOf}
@@ -21,26 +22,8 @@ abbrev μ-loop : tie.MeasureT-loop
 loop-holds : tie.Need-loop-holds Inv-loop μ-loop
 loop-holds c = (refl, refl, refl, refl)
 
-chunk-requires : tie.Need-chunk-requires Inv-loop μ-loop
-chunk-requires c = omega arith
-
-sub-left : tie.Need-sub-left Inv-loop μ-loop
-sub-left c = omega arith
-
-bits-at-requires : tie.Need-bits-at-requires Inv-loop μ-loop
-bits-at-requires c κs = omega arith
-
 put-chunk-requires : tie.Need-put-chunk-requires Inv-loop μ-loop
 put-chunk-requires c κs = (omega arith, omega arith, c .bits-at .ensures .1)
-
-add-to : tie.Need-add-to Inv-loop μ-loop
-add-to c = omega arith
-
-add-pos : tie.Need-add-pos Inv-loop μ-loop
-add-pos c = omega arith
-
-loop-less : tie.Need-loop-less Inv-loop μ-loop
-loop-less c = omega arith
 
 loop-again : tie.Need-loop-again Inv-loop μ-loop
 loop-again c =
@@ -58,13 +41,10 @@ loop-again c =
           ∙ p .loop .inv .3,
     )
 
-same-length : tie.Need-same-length Inv-loop μ-loop
-same-length c = omega arith
-
 returns : tie.Need-returns Inv-loop μ-loop
 returns c = part-done _ _ _ _ _ (c .loop-test .left) ∙ c .before .loop .inv .3
 
 pub copy-chunks-spec : {M : Type 1} → statement M
 copy-chunks-spec =
     tie.close
-    (tie.spec Inv-loop μ-loop loop-holds chunk-requires sub-left bits-at-requires put-chunk-requires add-to add-pos loop-less loop-again same-length returns)
+    (tie.spec Inv-loop μ-loop loop-holds (λ c. search needs) (λ c. search needs) (λ c κs. search needs) put-chunk-requires (λ c. search needs) (λ c. search needs) (λ c. search needs) loop-again (λ c. search needs) returns)

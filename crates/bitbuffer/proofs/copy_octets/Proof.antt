@@ -2,6 +2,7 @@
 use mathlib.Core.Path.{_≡_, refl, ap, _∙_}
 use Prim.Native.Nat.{ℕ, _+_, _-_, _*_, _/_, _≤_}
 use native.Mathlib.Omega.{arith}
+use borrow.Author.Needs.{needs}
 use lib.ListN.{length, length-set}
 use Rattle.bitbuffer.specs.Bits.{valueBits, bitsOf, written, part}
 use Rattle.bitbuffer.proofs.Laws.{part-done}
@@ -16,41 +17,8 @@ Inv-loop dst₀ at src from n q low i₀ dst i =
 abbrev μ-loop : tie.MeasureT-loop
 μ-loop dst₀ at src from n q low i₀ dst i = n - i
 
-sub-low : tie.Need-sub-low Inv-loop μ-loop
-sub-low c = omega arith
-
 loop-holds : tie.Need-loop-holds Inv-loop μ-loop
 loop-holds c = (omega arith, refl, part-done _ _ _ _ _ (omega arith))
-
-add-octet-within : tie.Need-add-octet-within Inv-loop μ-loop
-add-octet-within c = omega arith
-
-shared-slice-read-octet-within : tie.Need-shared-slice-read-octet-within Inv-loop μ-loop
-shared-slice-read-octet-within c = omega arith
-
-add-octet-within-2 : tie.Need-add-octet-within-2 Inv-loop μ-loop
-add-octet-within-2 c = omega arith
-
-add-octet-within-3 : tie.Need-add-octet-within-3 Inv-loop μ-loop
-add-octet-within-3 c = omega arith
-
-shared-slice-read-octet-within-2 : tie.Need-shared-slice-read-octet-within-2 Inv-loop μ-loop
-shared-slice-read-octet-within-2 c = omega arith
-
-octet-within-requires : tie.Need-octet-within-requires Inv-loop μ-loop
-octet-within-requires c κs = omega arith
-
-add-dst : tie.Need-add-dst Inv-loop μ-loop
-add-dst c = omega arith
-
-slice-write-dst : tie.Need-slice-write-dst Inv-loop μ-loop
-slice-write-dst c = omega arith
-
-add-i : tie.Need-add-i Inv-loop μ-loop
-add-i c = omega arith
-
-loop-less : tie.Need-loop-less Inv-loop μ-loop
-loop-less c = omega arith
 
 loop-again : tie.Need-loop-again Inv-loop μ-loop
 loop-again c =
@@ -63,9 +31,6 @@ loop-again c =
           ∙ octet-part (a .src .now) (a .from) (k .loop .i) (omega arith) (c .before .shared-slice-known3 .given (a .from / 8 + k .loop .i + 1) .fits)),
     )
 
-same-length : tie.Need-same-length Inv-loop μ-loop
-same-length c = omega arith
-
 returns : tie.Need-returns Inv-loop μ-loop
 returns c =
     let k = c .before in
@@ -76,4 +41,4 @@ returns c =
 pub copy-octets-spec : {M : Type 1} → statement M
 copy-octets-spec =
     tie.close
-    (tie.spec Inv-loop μ-loop sub-low loop-holds add-octet-within shared-slice-read-octet-within add-octet-within-2 add-octet-within-3 shared-slice-read-octet-within-2 octet-within-requires add-dst slice-write-dst add-i loop-less loop-again same-length returns)
+    (tie.spec Inv-loop μ-loop (λ c. search needs) loop-holds (λ c. search needs) (λ c. search needs) (λ c. search needs) (λ c. search needs) (λ c. search needs) (λ c κs. search needs) (λ c. search needs) (λ c. search needs) (λ c. search needs) (λ c. search needs) loop-again (λ c. search needs) returns)

@@ -4,6 +4,7 @@ use mathlib.Core.Path.{_≡_, refl, sym, _∙_}
 use Prim.Native.Nat.{ℕ, _+_, _-_, _*_, _%_, _^_, _<_}
 use native.Mathlib.Nat.{lt-of-le-of-lt, lt-of-lt-of-le, mod-eq-of-lt}
 use native.Mathlib.Omega.{arith}
+use borrow.Author.Needs.{needs}
 use lib.Pow.{pow-mono}
 use Rattle.bitbuffer.specs.Bits.{bitsValue, bitsOf, part}
 use Rattle.bitbuffer.proofs.Laws.{value-all, sum-le, part-lt, bits-bitsOf, length-bitsOf}
@@ -48,26 +49,8 @@ exact c = mod-eq-of-lt (omega (arith, next c))
 loop-holds : tie.Need-loop-holds Inv-loop μ-loop
 loop-holds c = (refl, omega arith)
 
-chunk-requires : tie.Need-chunk-requires Inv-loop μ-loop
-chunk-requires c = omega arith
-
-sub-left : tie.Need-sub-left Inv-loop μ-loop
-sub-left c = omega arith
-
-shl-sum : tie.Need-shl-sum Inv-loop μ-loop
-shl-sum c = omega arith
-
-bits-at-requires : tie.Need-bits-at-requires Inv-loop μ-loop
-bits-at-requires c κs = omega arith
-
 add-sum : tie.Need-add-sum Inv-loop μ-loop
 add-sum c = rw (exact c) (record { fits = next c })
-
-add-pos : tie.Need-add-pos Inv-loop μ-loop
-add-pos c = omega arith
-
-loop-less : tie.Need-loop-less Inv-loop μ-loop
-loop-less c = omega arith
 
 loop-again : tie.Need-loop-again Inv-loop μ-loop
 loop-again c = (omega arith, rw (exact c) (turn c))
@@ -80,4 +63,4 @@ returns c =
 pub read-bits-spec : {M : Type 1} → statement M
 read-bits-spec =
     tie.close
-    (tie.spec Inv-loop μ-loop loop-holds chunk-requires sub-left shl-sum bits-at-requires add-sum add-pos loop-less loop-again returns)
+    (tie.spec Inv-loop μ-loop loop-holds (λ c. search needs) (λ c. search needs) (λ c. search needs) (λ c κs. search needs) add-sum (λ c. search needs) (λ c. search needs) loop-again returns)

@@ -4,6 +4,7 @@ use mathlib.Core.Path.{_≡_, refl, ap, _∙_}
 use Prim.Native.Nat.{ℕ, _+_, _-_, _/_, _%_, _^_, _≤_}
 use native.Mathlib.Nat.{mod-lt}
 use native.Mathlib.Omega.{arith}
+use borrow.Author.Needs.{needs}
 use lib.ListN.{length}
 use lib.Pow.{pow-pos}
 use Rattle.bitbuffer.specs.Bits.{valueBits, bitsOf, written}
@@ -23,29 +24,11 @@ abbrev μ-loop : tie.MeasureT-loop
 loop-holds : tie.Need-loop-holds Inv-loop μ-loop
 loop-holds c = (refl, omega arith, refl, refl)
 
-chunk-requires : tie.Need-chunk-requires Inv-loop μ-loop
-chunk-requires c = omega arith
-
-sub-left : tie.Need-sub-left Inv-loop μ-loop
-sub-left c = omega arith
-
-shr-put-chunk : tie.Need-shr-put-chunk Inv-loop μ-loop
-shr-put-chunk c = omega arith
-
-shl-put-chunk : tie.Need-shl-put-chunk Inv-loop μ-loop
-shl-put-chunk c = omega arith
-
 rem-put-chunk : tie.Need-rem-put-chunk Inv-loop μ-loop
 rem-put-chunk c = let n = c .before .chunk .result in rw (one-shl {k = n} 64 (omega arith)) (pow-pos n)
 
 put-chunk-requires : tie.Need-put-chunk-requires Inv-loop μ-loop
 put-chunk-requires c κs = let n = c .before .chunk .result in (omega arith, omega arith, rw (one-shl {k = n} 64 (omega arith)) (mod-lt _ (pow-pos n)))
-
-add-pos : tie.Need-add-pos Inv-loop μ-loop
-add-pos c = omega arith
-
-loop-less : tie.Need-loop-less Inv-loop μ-loop
-loop-less c = omega arith
 
 loop-again : tie.Need-loop-again Inv-loop μ-loop
 loop-again c =
@@ -64,13 +47,10 @@ loop-again c =
           ∙ p .loop .inv .3,
     )
 
-same-length : tie.Need-same-length Inv-loop μ-loop
-same-length c = omega arith
-
 returns : tie.Need-returns Inv-loop μ-loop
 returns c = value-done _ _ _ _ (c .loop-test .left) ∙ c .before .loop .inv .3
 
 pub write-bits-spec : {M : Type 1} → statement M
 write-bits-spec =
     tie.close
-    (tie.spec Inv-loop μ-loop loop-holds chunk-requires sub-left shr-put-chunk shl-put-chunk rem-put-chunk put-chunk-requires add-pos loop-less loop-again same-length returns)
+    (tie.spec Inv-loop μ-loop loop-holds (λ c. search needs) (λ c. search needs) (λ c. search needs) (λ c. search needs) rem-put-chunk put-chunk-requires (λ c. search needs) (λ c. search needs) loop-again (λ c. search needs) returns)

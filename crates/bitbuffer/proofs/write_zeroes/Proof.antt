@@ -3,6 +3,7 @@ use mathlib.Core.List.{List}
 use mathlib.Core.Path.{_≡_, refl, ap, _∙_}
 use Prim.Native.Nat.{ℕ, _+_, _-_}
 use native.Mathlib.Omega.{arith}
+use borrow.Author.Needs.{needs}
 use lib.ListN.{length}
 use lib.Pow.{pow-pos}
 use Rattle.bitbuffer.specs.Bits.{valueBits, bitsOf, written}
@@ -19,20 +20,8 @@ Inv-loop s₀ at n pos₀ left₀ s pos left =
 abbrev μ-loop : tie.MeasureT-loop
 μ-loop s₀ at n pos₀ left₀ s pos left = left
 
-chunk-requires : tie.Need-chunk-requires Inv-loop μ-loop
-chunk-requires c = omega arith
-
-sub-left : tie.Need-sub-left Inv-loop μ-loop
-sub-left c = omega arith
-
 put-chunk-requires : tie.Need-put-chunk-requires Inv-loop μ-loop
 put-chunk-requires c κs = (omega arith, omega arith, pow-pos (c .before .chunk .result))
-
-add-pos : tie.Need-add-pos Inv-loop μ-loop
-add-pos c = omega arith
-
-loop-less : tie.Need-loop-less Inv-loop μ-loop
-loop-less c = omega arith
 
 loop-again : tie.Need-loop-again Inv-loop μ-loop
 loop-again c =
@@ -47,9 +36,6 @@ loop-again c =
           ∙ p .loop .inv .2,
     )
 
-same-length : tie.Need-same-length Inv-loop μ-loop
-same-length c = omega arith
-
 returns : tie.Need-returns Inv-loop μ-loop
 returns c =
     value-done _ _ _ _ (c .loop-test .left) ∙ c .before .loop .inv .2
@@ -58,4 +44,4 @@ returns c =
 pub write-zeroes-spec : {M : Type 1} → statement M
 write-zeroes-spec =
     tie.close
-    (tie.spec Inv-loop μ-loop (λ c. (refl, refl, refl)) chunk-requires sub-left put-chunk-requires add-pos loop-less loop-again same-length returns)
+    (tie.spec Inv-loop μ-loop (λ c. (refl, refl, refl)) (λ c. search needs) (λ c. search needs) put-chunk-requires (λ c. search needs) (λ c. search needs) loop-again (λ c. search needs) returns)
