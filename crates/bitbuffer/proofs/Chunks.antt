@@ -61,36 +61,18 @@ withBits-or k n b x v w hx hv hw =
     top : x / 2 ^ (n + b) < 2 ^ k
     top = shr-lt k (n + b) hx
 
--- it is no wider
-pub withBits-lt : (k n b x v : ℕ) → x < 2 ^ (k + (n + b)) → v < 2 ^ n → withBits x n b v < 2 ^ (k + n + b)
-withBits-lt k n b x v hx hv =
-    rw (pow-add 2 (k + n) b, pow-add 2 k n) (digits-lt (digits-lt (shr-lt k (n + b) hx) hv) (mod-lt x (pow-pos b)))
-
--- the number that `with_bits` works out, of an octet
-abbrev pub octetWith : ℕ → ℕ → ℕ → ℕ → ℕ
-octetWith x k n v =
-    bitOr (bitOr (x / 2 ^ (n + (8 - (k + n))) * 2 ^ n % 2 ^ 64) v * 2 ^ (8 - (k + n)) % 2 ^ 64) (x % (1 * 2 ^ (8 - (k + n)) % 2 ^ 64))
-
-module _ (x k n v : ℕ) (small : x < 2 ^ 8) (h : k + n ≤ 8) (fits : v < 2 ^ n) where
-  abbrev low : ℕ
-  low = 8 - (k + n)
-
-  eight : k + n + low ≡ 8
-  eight = omega arith
-
-  wide : x < 2 ^ (k + (n + low))
-  wide = let e : 8 ≡ k + (n + low) = omega arith in subst (λ (m : ℕ). x < 2 ^ m) e small
-
-  exact : octetWith x k n v ≡ withBits x n low v
-  exact = withBits-or k n low x v 64 wide fits (omega arith)
-
-  pub octet-lt : octetWith x k n v < 2 ^ 8
-  octet-lt = rw exact (subst (λ (m : ℕ). withBits x n low v < 2 ^ m) eight (withBits-lt k n low x v wide fits))
-
-  pub octet-written : valueBits 8 (octetWith x k n v) ≡ written (valueBits 8 x) k (valueBits n v)
-  octet-written =
-      ap (valueBits 8) exact
-      ∙ subst (λ (m : ℕ). valueBits m (withBits x n low v) ≡ written (valueBits m x) k (valueBits n v)) eight (withBits-written k n low x v fits)
+-- of an octet, as `with_bits` works it out
+pub octet-written : (x k n v : ℕ) → x < 2 ^ 8 → k + n ≤ 8 → v < 2 ^ n
+    → valueBits 8
+    (bitOr (bitOr (x / 2 ^ (n + (8 - (k + n))) * 2 ^ n % 2 ^ 64) v * 2 ^ (8 - (k + n)) % 2 ^ 64) (x % (1 * 2 ^ (8 - (k + n)) % 2 ^ 64)) % 256)
+    ≡ written (valueBits 8 x) k (valueBits n v)
+octet-written x k n v small h fits =
+    let low = 8 - (k + n) in
+    let three : 8 ≡ k + (n + low) = omega arith in
+    let eight : k + n + low ≡ 8 = omega arith in
+    valueBits-mod 8 _
+    ∙ ap (valueBits 8) (withBits-or k n low x v 64 (subst (λ (m : ℕ). x < 2 ^ m) three small) fits (omega arith))
+    ∙ subst (λ (m : ℕ). valueBits m (withBits x n low v) ≡ written (valueBits m x) k (valueBits n v)) eight (withBits-written k n low x v fits)
 
 -- all eight bits of an octet replaced
 pub octet-whole : (x k n v : ℕ) → n ≡ 8 → k + n ≤ 8 → valueBits 8 v ≡ written (valueBits 8 x) k (valueBits n v)

@@ -54,7 +54,9 @@ fn with_bits(x: u8, k: usize, n: usize, v: u64) -> u8
     }
     let low = 8 - (k + n);
     let old = x as u64;
-    (((((old >> (n + low)) << n) | v) << low) | (old % (1 << low))) as u8
+    let before = old >> (n + low);
+    let behind = old % (1 << low);
+    (((((before << n) | v) << low) | behind) % 256) as u8
 }
 
 // Writes `n` bits from `at` on, in one octet.

@@ -1,10 +1,10 @@
--- `with_bits` meets its contract: its value is `octetWith`, of which `octet-written` speaks. Assumes nothing.
+-- `with_bits` meets its contract, by `octet-written`, and by `octet-whole` for a whole octet. Assumes nothing.
 use Prim.Native.Nat.{_+_, _-_}
 use borrow.Author.Needs.{needs}
 use native.Mathlib.Omega.{arith}
 use lib.Pow.{pow-pos}
 use Rattle.bitbuffer.proofs.Laws.{one-shl}
-use Rattle.bitbuffer.proofs.Chunks.{octet-lt, octet-written, octet-whole}
+use Rattle.bitbuffer.proofs.Chunks.{octet-written, octet-whole}
 use Rattle.bitbuffer.proofs.with_bits.Statement.{statement}
 use Rattle.bitbuffer.proofs.with_bits.Tie as tie
 
@@ -14,15 +14,10 @@ cast-result c = record { fits = rw (c .if1 .taken) at (c .before .pre .1) }
 returns : tie.Need-returns
 returns c = let a = c .before .args in octet-whole (a .x) (a .k) (a .n) (a .v) (c .if1 .taken) (c .before .pre .0)
 
-rem-result : tie.Need-rem-result
-rem-result c =
+rem-behind : tie.Need-rem-behind
+rem-behind c =
     let low = 8 - (c .before .args .k + c .before .args .n) in
     rw (one-shl {k = low} 64 (omega arith)) (pow-pos low)
-
-cast-result-2 : tie.Need-cast-result-2
-cast-result-2 c =
-    let b = c .before in
-    record { fits = octet-lt (b .args .x) (b .args .k) (b .args .n) (b .args .v) (b .fits .x .fits) (b .pre .0) (b .pre .1) }
 
 returns-2 : tie.Need-returns-2
 returns-2 c =
@@ -32,4 +27,4 @@ returns-2 c =
 pub with-bits-spec : {M : Type 1} → statement M
 with-bits-spec =
     tie.close
-    (tie.spec cast-result returns (λ c. search needs) (λ c. search needs) (λ c. search needs) (λ c. search needs) (λ c. search needs) (λ c. search needs) (λ c. search needs) rem-result cast-result-2 returns-2)
+    (tie.spec cast-result returns (λ c. search needs) (λ c. search needs) (λ c. search needs) (λ c. search needs) (λ c. search needs) rem-behind (λ c. search needs) (λ c. search needs) (λ c. search needs) returns-2)

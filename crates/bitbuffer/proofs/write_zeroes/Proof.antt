@@ -2,10 +2,11 @@
 use mathlib.Core.List.{List}
 use mathlib.Core.Path.{_≡_, refl, ap, _∙_}
 use Prim.Native.Nat.{ℕ, _+_, _-_}
+use native.Mathlib.Nat.{lt-of-lt-of-le}
 use native.Mathlib.Omega.{arith}
 use borrow.Author.Needs.{needs}
 use lib.ListN.{length}
-use lib.Pow.{pow-pos}
+use lib.Pow.{pow-mono}
 use Rattle.bitbuffer.specs.Bits.{valueBits, bitsOf, written}
 use Rattle.bitbuffer.proofs.Laws.{value-done}
 use Rattle.bitbuffer.proofs.Chunks.{valueBits-zero, zero-turn}
@@ -21,7 +22,7 @@ abbrev μ-loop : tie.MeasureT-loop
 μ-loop s₀ at n pos₀ left₀ s pos left = left
 
 put-chunk-requires : tie.Need-put-chunk-requires Inv-loop μ-loop
-put-chunk-requires c κs = (omega arith, omega arith, pow-pos (c .before .chunk .result))
+put-chunk-requires c κs = (omega arith, omega arith, lt-of-lt-of-le (omega arith) (pow-mono {i = 1} {j = c .before .chunk .result} (omega arith)))
 
 loop-again : tie.Need-loop-again Inv-loop μ-loop
 loop-again c =
