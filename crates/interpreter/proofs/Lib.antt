@@ -3,6 +3,8 @@ pub mod CallLaws
 pub mod TagLaws
 pub mod StepLaws
 pub mod RunLaws
+pub mod CutLaws
+pub mod TurnLaws
 -- derived by tools/derive.py:
 pub mod Mirs
 pub mod Walked_calls_request

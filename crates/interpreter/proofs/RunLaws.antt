@@ -20,7 +20,7 @@ use Rattle.interpreter.specs.declared.Command.{Command}
 use Rattle.interpreter.specs.declared.RunAnswer.{RunAnswer}
 use Rattle.interpreter.specs.declared.Executed.{Executed}
 use Rattle.interpreter.specs.declared.Advanced.{Advanced}
-use Rattle.interpreter.specs.Slotrun.{Session, session, Step, step, commandOf, isKnown, operandCount, isWhole, firstStep, behindFirst, Ran, ran, commands}
+use Rattle.interpreter.specs.Slotrun.{Session, session, Step, step, commandOf, isKnown, operandCount, isWhole, firstStep, behindFirst, Ran, ran, joined, commands}
 use Rattle.interpreter.specs.Steps.{Steps, Advances, Runs}
 use Rattle.interpreter.proofs.StepLaws.{advance-steps}
 
@@ -68,10 +68,6 @@ room-left l at n h = rw (rest-of l at) (omega (arith, length-drop at l))
 
 -- ---- commands
 
--- printed before a run
-abbrev pub joined : List ℕ → Ran → Ran
-joined text r = ran (r .session) (text ++ r .printed) (r .left)
-
 chosen : {A : Type 0} (b : Bool) (x y : A) → b ≡ true → cond b x y ≡ x
 chosen b x y h = rw h
 
@@ -84,11 +80,11 @@ unfolding commands
 stopped zero s input h = refl
 stopped (suc n) s input h = unchosen (isWhole input) _ _ h
 
-nothing-whole : (input : List ℕ) → length input ≤ 0 → isWhole input ≡ false
+pub nothing-whole : (input : List ℕ) → length input ≤ 0 → isWhole input ≡ false
 nothing-whole [] h = refl
 nothing-whole (c ∷ ops) h = absurd (omega arith)
 
-shorter : (input : List ℕ) (n : ℕ) → length input ≤ suc n → length (behindFirst input) ≤ n
+pub shorter : (input : List ℕ) (n : ℕ) → length input ≤ suc n → length (behindFirst input) ≤ n
 shorter [] n h = omega arith
 shorter (c ∷ ops) n h = let m = operandCount (commandOf c) in omega (arith, length-drop m ops)
 

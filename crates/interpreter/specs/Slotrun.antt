@@ -167,6 +167,10 @@ pub record Ran : Type 0 where
 abbrev pub ran : Session → List ℕ → List ℕ → Ran
 ran s printed left = record { session = s; printed = printed; left = left }
 
+-- a run with a text printed before it
+abbrev pub joined : List ℕ → Ran → Ran
+joined text r = ran (r .session) (text ++ r .printed) (r .left)
+
 -- the commands at the front of the octets, up to n of them
 unfoldable pub commands : ℕ → Session → List ℕ → Ran
 commands zero s input = ran s [] input
