@@ -2,9 +2,13 @@
 use mathlib.Core.Path.{_≡_, refl, sym, ap, _∙_}
 use mathlib.Core.Bool.{Bool, true, false, not, _&&_, cond, false≢true}
 use mathlib.Core.List.{List, [], _∷_, _++_, append-assoc, append-nil}
-use Prim.Native.Nat.{ℕ}
+use Prim.Native.Nat.{ℕ, _≤_, _<_}
+use native.Mathlib.Omega.{arith}
+use lib.Dec.{leb}
 use lib.ListN.{length}
-use Rattle.interpreter.specs.Slotrun.{commandOf, isKnown, isWhole, Ran, ran, joined, ending, start, slotrun}
+use borrow.Author.Tests.{leb-false}
+use Rattle.interpreter.specs.declared.Command.{Command}
+use Rattle.interpreter.specs.Slotrun.{operandCount, commandOf, isKnown, isWhole, Ran, ran, joined, ending, start, slotrun}
 use Rattle.interpreter.specs.Turns.{inputOf, wholeCommands, turn, turns, begun, isUnknown, atEnd, readingFrom, slotrunInParts}
 use Rattle.interpreter.proofs.RunLaws.{stopped}
 use Rattle.interpreter.proofs.CutLaws.{left-cut, cut-anywhere}
@@ -42,6 +46,11 @@ turns-turn r (next ∷ parts) w = turns-turn (turn r next) parts (left-cut (r .s
 pub turns-whole : (parts : List (List ℕ)) → turns begun parts ≡ wholeCommands start (inputOf parts)
 turns-whole parts = turns-turn begun parts refl
 
+pub turns-next : (r : Ran) (parts : List (List ℕ)) (next : List ℕ) → turns r (parts ++ (next ∷ [])) ≡ turn (turns r parts) next
+unfolding turns
+turns-next r [] next = refl
+turns-next r (first ∷ parts) next = turns-next (turn r first) parts next
+
 -- ---- an unknown command
 
 not-and : (k t : Bool) → not k ≡ true → k && t ≡ false
@@ -68,6 +77,29 @@ unknown-ends r (next ∷ parts) u =
     let e = turn-stops r next (unknown-cut (r .left) next u) in
     unknown-ends (turn r next) parts (ap (λ (x : Ran). isUnknown (x .left)) e ∙ unknown-stays (r .left) next u)
     ∙ ap atEnd e ∙ ap (λ (l : List ℕ). r .printed ++ l) (same-ending (r .left) next u)
+
+-- ---- a cut command
+
+most-operands : (c : Command) → operandCount c ≤ 33
+most-operands Command.New = omega arith
+most-operands Command.Advance = omega arith
+most-operands Command.Request = omega arith
+most-operands Command.Stage = omega arith
+most-operands Command.Queue = omega arith
+most-operands Command.Build = omega arith
+most-operands Command.Unknown = omega arith
+
+missing : (k t : Bool) → k && t ≡ false → not k ≡ false → t ≡ false
+missing true t w u = w
+missing false t w u = absurd (false≢true (sym u))
+
+-- what is left before it is at most 33 octets
+pub cut-short : (l : List ℕ) → isWhole l ≡ false → isUnknown l ≡ false → length l ≤ 33
+cut-short [] w u = omega arith
+cut-short (c ∷ ops) w u =
+    let m = operandCount (commandOf c) in
+    let few : length ops < m = leb-false m (length ops) (missing (isKnown (commandOf c)) (leb m (length ops)) w u) in
+    omega (arith, few, most-operands (commandOf c))
 
 -- ---- the program
 

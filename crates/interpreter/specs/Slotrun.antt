@@ -9,7 +9,6 @@ use Rattle.optional.specs.declared.OptU16.{OptU16}
 use Rattle.tdma_time.specs.declared.TdmaTime.{TdmaTime}
 use Rattle.bitbuffer.specs.Bits.{written, part}
 use Rattle.dl_record.specs.Record.{emptyHeader}
-use Rattle.sched_core.specs.declared.Reply.{Reply}
 use Rattle.sched_core.specs.declared.RequestReply.{RequestReply}
 use Rattle.sched_core.specs.declared.BuildReply.{BuildReply}
 use Rattle.sched_core.specs.Questions.{Memory, refusalNumber}
@@ -28,9 +27,13 @@ pub record Session : Type 0 where
 abbrev pub session : Memory → List ℕ → Session
 session m stage = record { memory = m; stage = stage }
 
--- "Until a first 54 is accepted the station is new at h 0, m 1, f 1, t 1"; "A staged SDU is 256 octets, all zero at the start."
+-- "Until a first 54 is accepted the station is new at h 0, m 1, f 1, t 1"
+abbrev pub firstTime : TdmaTime
+firstTime = record { h = 0; m = 1; f = 1; t = 1 }
+
+-- "A staged SDU is 256 octets, all zero at the start."
 abbrev pub start : Session
-start = session (newMemory (record { h = 0; m = 1; f = 1; t = 1 })) (replicate 256 0)
+start = session (newMemory firstTime) (replicate 256 0)
 
 -- ---- commands
 

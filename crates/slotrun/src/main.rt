@@ -5,9 +5,17 @@ use libc::STDIN_FILENO;
 use libc::STDOUT_FILENO;
 use sched_core::Station;
 use tdma_time::TdmaTime;
-ghost use Prim.Native.Nat.{_*_, _^_, _<_, _≤_};
+ghost use Prim.Native.Nat.{_-_, _*_, _^_, _<_, _≤_};
 ghost use mathlib.Core.Path.{_≡_};
-ghost use lib.ListN.{length};
+ghost use mathlib.Core.Bool.{_&&_, not};
+ghost use lib.ListN.{length, take, drop, replicate};
+ghost use Rattle.dl_record.specs.Record.{emptyRecord};
+ghost use Rattle.sched_core.specs.Station.{newStation};
+ghost use Rattle.sched_core.specs.Questions.{memory};
+ghost use Rattle.interpreter.specs.Slotrun.{firstTime, session, commands};
+ghost use Rattle.interpreter.specs.Steps.{Runs};
+ghost use Rattle.interpreter.specs.Turns.{isUnknown};
+ghost use Rattle.slotrun.specs.Turned.{Turned};
 
 // What a turn leaves: the station and its queue, how many octets of the input are kept, and whether there may be more.
 struct Turn {
@@ -18,7 +26,9 @@ struct Turn {
 }
 
 // "Until a first 54 is accepted the station is new at h 0, m 1, f 1, t 1"
-fn start() -> Station {
+fn start() -> Station
+    ensures { λ r. ⌜ r ≡ newStation firstTime ⌝ }
+{
     let time = TdmaTime {
         t: 1,
         f: 1,
@@ -30,7 +40,9 @@ fn start() -> Station {
 }
 
 // Is the command at `at` unknown?
-fn is_unknown(input: &[u8], at: usize) -> bool {
+fn is_unknown(input: &[u8], at: usize) -> bool
+    ensures { λ r. ⌜ r ≡ isUnknown (drop at (now (input .entry))) ⌝ }
+{
     if at < input.len() {
         let command = interpreter::command_of(input[at]);
         return !interpreter::is_known(command);
@@ -41,7 +53,7 @@ fn is_unknown(input: &[u8], at: usize) -> bool {
 // Moves the octets from `from` up to `to` to the front, and answers how many.
 fn keep_rest(input: &mut [u8], from: usize, to: usize) -> usize
     requires { ⌜ to ≤ length (now input) ⌝ }
-    ensures { λ r. ⌜ r ≤ to ⌝ }
+    ensures { λ r. ⌜ (r ≡ to - from) × (take r (now (input .exit)) ≡ take r (drop from (now (input .entry)))) ⌝ }
 {
     let mut at = from;
     let mut i = 0;
@@ -56,7 +68,7 @@ fn keep_rest(input: &mut [u8], from: usize, to: usize) -> usize
 // Reads once behind the octets that are held, and answers how many there are then.
 fn read_more(input: &mut [u8], held: usize) -> usize
     requires { ⌜ held ≤ length (now input) ⌝ }
-    ensures { λ r. ⌜ (held ≤ r) × (r ≤ length (now (input .entry))) ⌝ }
+    ensures { λ r. ⌜ (held ≤ r) × (r ≤ length (now (input .entry))) × (take held (now (input .exit)) ≡ take held (now (input .entry))) ⌝ }
 {
     let size = input.len();
     let got = libc::read(STDIN_FILENO, &mut input[held..]);
@@ -77,6 +89,7 @@ fn run_and_print(
     out: &mut [u8],
 ) -> RunAnswer
     requires { ⌜ (length (now store) ≡ 16384) × (length (now stage) ≡ 256) × (173 * length (now input) ≤ length (now out)) × (length (now out) < 2 ^ 64) ⌝ }
+    ensures { λ r. ⌜ Runs (commands (length (now (input .entry))) (session (memory station queue (now (store .entry))) (now (stage .entry))) (now (input .entry))) r (now (input .entry)) (now (store .exit)) (now (stage .exit)) (now (out .entry)) (now (out .exit)) ⌝ }
 {
     let r = interpreter::run(station, queue, store, stage, input, out);
     let count = r.count;
@@ -85,7 +98,9 @@ fn run_and_print(
 }
 
 // "An unknown or cut command prints E and ends."
-fn goes_on(input: &[u8], taken: usize, more: bool) -> bool {
+fn goes_on(input: &[u8], taken: usize, more: bool) -> bool
+    ensures { λ r. ⌜ r ≡ more && not (isUnknown (drop taken (now (input .entry)))) ⌝ }
+{
     if more & !is_unknown(input, taken) {
         return true;
     }
@@ -106,7 +121,7 @@ fn read_and_run(
     out: &mut [u8],
 ) -> Turn
     requires { ⌜ (length (now store) ≡ 16384) × (length (now stage) ≡ 256) × (held ≤ length (now input)) × (173 * length (now input) ≤ length (now out)) × (length (now out) < 2 ^ 64) ⌝ }
-    ensures { λ r. ⌜ r .held ≤ length (now (input .entry)) ⌝ }
+    ensures { λ r. ⌜ (r .held ≤ length (now (input .entry))) × Turned (session (memory station queue (now (store .entry))) (now (stage .entry))) (take held (now (input .entry))) r (now (store .exit)) (now (stage .exit)) (now (input .exit)) (now (out .entry)) (now (out .exit)) ⌝ }
 {
     let all = read_more(input, held);
     let r = run_and_print(station, queue, store, stage, &input[..all], out);
@@ -123,15 +138,21 @@ fn read_and_run(
     }
 }
 
+fn empty_queue() -> [Record; 64]
+    ensures { λ r. ⌜ r ≡ replicate 64 emptyRecord ⌝ }
+{
+    [Record::EMPTY; 64]
+}
+
 fn empty_store() -> [u8; 16384]
-    ensures { λ r. ⌜ 16384 ≡ length r ⌝ }
+    ensures { λ r. ⌜ r ≡ replicate 16384 0 ⌝ }
 {
     [0; 16384]
 }
 
 // "A staged SDU is 256 octets, all zero at the start."
 fn empty_stage() -> [u8; 256]
-    ensures { λ r. ⌜ 256 ≡ length r ⌝ }
+    ensures { λ r. ⌜ r ≡ replicate 256 0 ⌝ }
 {
     [0; 256]
 }
@@ -145,7 +166,7 @@ fn empty_input() -> [u8; 256]
 
 fn main() {
     let mut station = start();
-    let mut queue = [Record::EMPTY; 64];
+    let mut queue = empty_queue();
     let mut store = empty_store();
     let mut stage = empty_stage();
     let mut input = empty_input();

@@ -1,15 +1,10 @@
 -- What a host gets of a whole input. Assumes nothing.
 use mathlib.Core.Path.{_≡_}
 use mathlib.Core.List.{List}
-use Prim.Native.Nat.{ℕ, _+_, _-_, _*_, _^_, _≤_, _<_}
+use Prim.Native.Nat.{ℕ, _-_, _*_, _^_, _≤_, _<_}
 use lib.ListN.{length}
 use Rattle.bitbuffer.specs.Bits.{Wrote}
-use Rattle.tdma_time.specs.declared.TdmaTime.{TdmaTime}
 use Rattle.interpreter.specs.Slotrun.{start, commands}
-
--- "Until a first 54 is accepted the station is new at h 0, m 1, f 1, t 1"
-abbrev pub firstTime : TdmaTime
-firstTime = record { h = 0; m = 1; f = 1; t = 1 }
 
 -- With room for 173 octets for each octet of the input, what the commands at its front print stands at the front of `out`, and the answer is how
 -- many octets that are; else nothing is done.

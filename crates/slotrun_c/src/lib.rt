@@ -8,7 +8,8 @@ ghost use Prim.Native.Nat.{_-_, _^_, _<_, _≤_, _*_};
 ghost use lib.ListN.{length, replicate};
 ghost use Rattle.dl_record.specs.Record.{emptyRecord};
 ghost use Rattle.sched_core.specs.Station.{newStation};
-ghost use Rattle.slotrun_c.specs.Whole.{firstTime, Whole};
+ghost use Rattle.interpreter.specs.Slotrun.{firstTime};
+ghost use Rattle.slotrun_c.specs.Whole.{Whole};
 
 // "Until a first 54 is accepted the station is new at h 0, m 1, f 1, t 1"
 fn start() -> Station

@@ -1,12 +1,12 @@
 -- With room the run is that of the definition, from the start of a session; without it nothing is done.
-use mathlib.Core.Path.{_≡_, refl, sym, ap, _∙_}
+use mathlib.Core.Path.{_≡_, refl, sym}
 use native.Mathlib.Omega.{arith}
 use borrow.Author.Needs.{needs}
 use Prim.Native.Nat.{_*_, _≤_}
 use lib.ListN.{length}
 use Rattle.sched_core.specs.Questions.{memory}
 use Rattle.sched_core.specs.Calls.{newMemory}
-use Rattle.interpreter.specs.Slotrun.{Session, session, start}
+use Rattle.interpreter.specs.Slotrun.{session, start}
 use Rattle.slotrun_c.proofs.slotrun_run.Statement.{statement}
 use Rattle.slotrun_c.proofs.slotrun_run.Tie as tie
 

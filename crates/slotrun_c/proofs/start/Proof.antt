@@ -1,5 +1,5 @@
 -- A station that `new` hands out is new at the time given.
-use mathlib.Core.Path.{refl, ap, _∙_}
+use mathlib.Core.Path.{ap}
 use borrow.Author.Needs.{needs}
 use Rattle.tdma_time.specs.Time.{valid}
 use Rattle.sched_core.specs.declared.Answer.{Answer}
