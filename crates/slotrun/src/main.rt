@@ -15,7 +15,7 @@ ghost use Rattle.sched_core.specs.Questions.{memory};
 ghost use Rattle.interpreter.specs.Slotrun.{firstTime, session, commands};
 ghost use Rattle.interpreter.specs.Steps.{Runs};
 ghost use Rattle.interpreter.specs.Turns.{isUnknown};
-ghost use Rattle.slotrun.specs.Turned.{Turned};
+ghost use Rattle.slotrun.specs.Turned.{Turned, ReadTurn};
 
 // What a turn leaves: the station and its queue, how many octets of the input are kept, and whether there may be more.
 struct Turn {
@@ -110,6 +110,34 @@ fn goes_on(input: &[u8], taken: usize, more: bool) -> bool
     false
 }
 
+// Runs what is whole of the first `all` octets, and keeps the rest of them at the front. `more`: there may be more to read.
+fn run_and_keep(
+    station: Station,
+    queue: [Record; 64],
+    store: &mut [u8],
+    stage: &mut [u8],
+    input: &mut [u8],
+    all: usize,
+    more: bool,
+    out: &mut [u8],
+) -> Turn
+    requires { ⌜ (length (now store) ≡ 16384) × (length (now stage) ≡ 256) × (all ≤ length (now input)) × (173 * length (now input) ≤ length (now out)) × (length (now out) < 2 ^ 64) ⌝ }
+    ensures { λ r. ⌜ Turned (session (memory station queue (now (store .entry))) (now (stage .entry))) (take all (now (input .entry))) more r (now (store .exit)) (now (stage .exit)) (now (input .exit)) (now (out .entry)) (now (out .exit)) ⌝ }
+{
+    let r = run_and_print(station, queue, store, stage, &input[..all], out);
+    let taken = r.taken;
+    let reads_on = goes_on(&input[..all], taken, more);
+    let next = r.station;
+    let left = r.queue;
+    let kept = keep_rest(input, taken, all);
+    Turn {
+        station: next,
+        queue: left,
+        held: kept,
+        goes_on: reads_on,
+    }
+}
+
 // One turn.
 fn read_and_run(
     station: Station,
@@ -121,21 +149,11 @@ fn read_and_run(
     out: &mut [u8],
 ) -> Turn
     requires { ⌜ (length (now store) ≡ 16384) × (length (now stage) ≡ 256) × (held ≤ length (now input)) × (173 * length (now input) ≤ length (now out)) × (length (now out) < 2 ^ 64) ⌝ }
-    ensures { λ r. ⌜ (r .held ≤ length (now (input .entry))) × Turned (session (memory station queue (now (store .entry))) (now (stage .entry))) (take held (now (input .entry))) r (now (store .exit)) (now (stage .exit)) (now (input .exit)) (now (out .entry)) (now (out .exit)) ⌝ }
+    ensures { λ r. ⌜ ReadTurn (session (memory station queue (now (store .entry))) (now (stage .entry))) (take held (now (input .entry))) r (now (store .exit)) (now (stage .exit)) (now (input .exit)) (now (out .entry)) (now (out .exit)) ⌝ }
 {
     let all = read_more(input, held);
-    let r = run_and_print(station, queue, store, stage, &input[..all], out);
-    let taken = r.taken;
-    let more = goes_on(&input[..all], taken, held < all);
-    let next = r.station;
-    let left = r.queue;
-    let kept = keep_rest(input, taken, all);
-    Turn {
-        station: next,
-        queue: left,
-        held: kept,
-        goes_on: more,
-    }
+    let more = held < all;
+    run_and_keep(station, queue, store, stage, input, all, more, out)
 }
 
 fn empty_queue() -> [Record; 64]

@@ -38,8 +38,8 @@ loop-again c =
       search needs,
       search needs,
       search needs,
-      room-to-read (t .1) (search needs) (not-false (c .before .before .if1 .left)),
-      reached-next (l .inv .5) (t .1),
+      room-to-read (t .turned) (not-false (c .before .before .if1 .left)),
+      reached-next (l .inv .5) t,
     )
 
 pub main-spec : {M : Type 1} → statement M
