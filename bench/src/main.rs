@@ -21,13 +21,22 @@ const NEW: [u8; 6] = [0x54, 0, 0, 1, 1, 1];
 const REQUEST: [u8; 8] = [0x52, 1, 1, 0, 0, 0, 0, 1];
 const REFUSED: [u8; 8] = [0x52, 9, 1, 0, 0, 0, 0, 1];
 
-fn queue(number: u8, bits: u16) -> Vec<u8> {
+fn queue_for(timeslot: u8, number: u8, bits: u16) -> Vec<u8> {
     let [high, low] = bits.to_be_bytes();
-    vec![0x51, 1, 0, 0, 0, 0, number, 0, number, high, low]
+    vec![0x51, timeslot, 0, 0, 0, 0, number, 0, number, high, low]
+}
+
+fn queue(number: u8, bits: u16) -> Vec<u8> {
+    queue_for(1, number, bits)
 }
 
 fn records(count: u8, bits: u16) -> Vec<u8> {
     (1..=count).flat_map(|n| queue(n, bits)).collect()
+}
+
+/// Sixteen records for each timeslot: no place is left.
+fn all_places(bits: u16) -> Vec<u8> {
+    (1..=4).flat_map(|t| (1..=16).flat_map(move |n| queue_for(t, n, bits))).collect()
 }
 
 fn joined(parts: &[&[u8]]) -> Vec<u8> {
@@ -64,6 +73,7 @@ fn main() {
     println!("{:<52} {:>9} {:>9} {:>7}", "nanoseconds", "ours", "original", "ratio");
     row("advance", &[], &[0x41], &mut out);
     row("request refused with 3 (the questions alone)", &NEW, &REFUSED, &mut out);
+    row("the same, all 64 places filled", &joined(&[&NEW, &all_places(40)]), &REFUSED, &mut out);
     row("request granted, one slot", &NEW, &REQUEST, &mut out);
     row("request granted, 17 slots", &NEW, &[0x52, 1, 10, 0, 0, 0, 0, 1], &mut out);
     row("record queued, 40 bits", &NEW, &queue(1, 40), &mut out);

@@ -1,6 +1,6 @@
 -- Lists of zeros. Assumes nothing.
 use mathlib.Core.Path.{_≡_, refl, sym, ap, ap₂, _∙_}
-use mathlib.Core.Bool.{Bool, true, _&&_}
+use mathlib.Core.Bool.{Bool, true, false, _&&_}
 use mathlib.Core.List.{List, [], _∷_, _++_}
 use Prim.Native.Nat.{ℕ, zero, suc, _+_, _-_, _*_, _/_, _%_, _^_, _<_, _≤_}
 use native.Mathlib.Nat.{mod-eq-of-lt, mul-mod-left}
@@ -10,7 +10,7 @@ use lib.Dec.{eqb}
 use lib.Bits.{bitOr, or-add-and, and-le-l, and-le-r}
 use lib.Arith.{mod-mul}
 use lib.Pow.{pow-pos, pow-add, shl-shr, mod-pow-add}
-use lib.ListN.{length, drop, getD, drop-of-length-le}
+use lib.ListN.{length, drop, getD, drop-of-length-le, take}
 use lib.Seq.{getD-drop, drop-drop, drop-cons, drop-append-le, drop-at}
 use borrow.Author.Tests.{eqb-true, eq-eqb}
 use Rattle.optional.proofs.Tests.{and-left, and-right, and-intro}
@@ -119,3 +119,31 @@ clean-over s n k =
 pub none-left : (s : List ℕ) (i a : ℕ) → length s ≤ i → eqb a 0 ≡ eqb a 0 && allZero (drop i s)
 unfolding allZero
 none-left s i a h = sym (ap (λ (l : List ℕ). eqb a 0 && allZero l) (drop-of-length-le s h) ∙ and-true (eqb a 0))
+
+-- a first part that is looked at twice
+twice : (m : ℕ) (l : List ℕ) → allZero (take m l) && allZero l ≡ allZero l
+unfolding allZero
+twice zero l = refl
+twice (suc m) [] = refl
+twice (suc m) (x ∷ l) = go (eqb x 0) (twice m l)
+  where
+    go : (b : Bool) → allZero (take m l) && allZero l ≡ allZero l → (b && allZero (take m l)) && (b && allZero l) ≡ b && allZero l
+    go true h = h
+    go false h = refl
+
+-- two parts that overlap
+overlap : (d m : ℕ) (l : List ℕ) → d ≤ m → allZero (take m l) && allZero (drop d l) ≡ allZero l
+unfolding allZero
+overlap zero m l h = twice m l
+overlap (suc d) zero l h = absurd (omega arith)
+overlap (suc d) (suc m) [] h = refl
+overlap (suc d) (suc m) (x ∷ l) h = and-assoc (eqb x 0) (allZero (take m l)) (allZero (drop d l)) ∙ ap (λ (t : Bool). eqb x 0 && t) (overlap d m l (omega arith))
+
+-- the octets from a place on: the first m of them, and those from `last` on
+pub parts-zero : (s : List ℕ) (from m last x y : ℕ) → from ≤ last → last ≤ from + m → eqb x 0 ≡ allZero (take m (drop from s)) → eqb y 0 ≡ allZero (drop last s)
+    → eqb (bitOr x y) 0 ≡ allZero (drop from s)
+parts-zero s from m last x y h k ex ey =
+    let d : ℕ = last - from in
+    let sum : last ≡ from + d = omega arith in
+    let at : drop last s ≡ drop d (drop from s) = ap (λ (n : ℕ). drop n s) sum ∙ sym (drop-drop d from s) in
+    or-zero x y ∙ ap₂ _&&_ ex (ey ∙ ap allZero at) ∙ overlap d m (drop from s) (omega arith)

@@ -25,6 +25,20 @@ pub fn cell_is_zero(cell: &[u8]) -> bool
     any == 0
 }
 
+// The octets from `from` on, or-ed. The last 32 are looked at twice, so that no octet is left over beside the wide steps.
+fn any_bit_from(s: &[u8], from: usize) -> u8
+    requires { ⌜ from ≤ length (now s) ⌝ }
+    ensures { λ r. ⌜ eqb r 0 ≡ allZero (drop from (now (s .entry))) ⌝ }
+{
+    let left = s.len() - from;
+    if left < 32 {
+        return any_bit(&s[from..]);
+    }
+    let end = from + left / 32 * 32;
+    let last = s.len() - 32;
+    any_bit(&s[from..end]) | any_bit(&s[last..])
+}
+
 // Whether the bits of a cell past the first `bits` are zero.
 pub fn cell_is_clean(cell: &[u8], bits: u16) -> bool
     ensures { λ r. ⌜ r ≡ cleanPast bits (now (cell .entry)) ⌝ }
@@ -36,7 +50,7 @@ pub fn cell_is_clean(cell: &[u8], bits: u16) -> bool
     }
     let low = cell[k] << (n % 8);
     let rest = k + 1;
-    let above = any_bit(&cell[rest..]);
+    let above = any_bit_from(cell, rest);
     (low == 0) & (above == 0)
 }
 
