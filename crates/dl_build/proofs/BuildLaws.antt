@@ -63,7 +63,7 @@ stored-all : (xs : List (Item (List ℕ))) → All Kept xs → All SoundItem xs 
 stored-all [] a b c = tt
 stored-all (x ∷ xs) a b c = (record { kind = a .0; sound = b .0; cell = c .0 }, stored-all xs (a .1) (b .1) (c .1))
 
-sendables : (xs : List (Item (List ℕ))) → All Stored xs → All (λ (x : Item (List ℕ)). Sendable (x .rec)) xs
+pub sendables : (xs : List (Item (List ℕ))) → All Stored xs → All (λ (x : Item (List ℕ)). Sendable (x .rec)) xs
 sendables [] h = tt
 sendables (x ∷ xs) h = (stored-loaded x (h .0) .sendable, sendables xs (h .1))
 

@@ -1,4 +1,5 @@
 pub mod OrderLaws
 pub mod PlaceLaws
 pub mod BuildLaws
+pub mod FirstLaws
 pub mod AfterBuild
