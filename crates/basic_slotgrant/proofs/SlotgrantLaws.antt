@@ -6,7 +6,6 @@ use native.Mathlib.Omega.{arith}
 use lib.Dec.{lit<, eqb·suc-zero}
 use lib.ListN.{take}
 use borrow.Author.Tests.{le-leb, lt-leb, ne-eqb}
-use Rattle.slot_codes.specs.Codes.{grantOctet, capacityOf, delayOf}
 use Rattle.slot_codes.proofs.TableLaws.{past-the-last, agree-below}
 use Rattle.slot_codes.proofs.CodesLaws.{numbers-read, numbers-not-read, capacity-in-octet, delay-in-octet, octet-of-its-halves}
 use Rattle.basic_slotgrant.specs.declared.basic_slotgrant_cap_alloc.BasicSlotgrantCapAlloc.{BasicSlotgrantCapAlloc}

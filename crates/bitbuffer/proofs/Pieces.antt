@@ -1,6 +1,6 @@
 -- Several fields in one number, from the last to the first. Assumes nothing.
 use mathlib.Core.Path.{refl, sym, ap, ap₂, _∙_, subst}
-use mathlib.Core.List.{List, [], _++_}
+use mathlib.Core.List.{List, _++_}
 use Prim.Native.Nat.{ℕ, _+_, _*_, _^_, _<_}
 use native.Mathlib.Nat.{zero-add, zero-mul}
 use lib.Arith.{digits-lt}

@@ -1,6 +1,6 @@
 // Fields of any width in a run of octets, most significant bit first.
 ghost use mathlib.Core.Path.{_≡_};
-ghost use Prim.Native.Nat.{_+_, _-_, _*_, _/_, _%_, _<_, _≤_, _^_};
+ghost use Prim.Native.Nat.{_+_, _*_, _/_, _%_, _<_, _≤_, _^_};
 ghost use lib.ListN.{length, getD, set, replicate};
 ghost use Rattle.bitbuffer.specs.Bits.{valueBits, bitsValue, bitsOf, written, part, Wrote};
 

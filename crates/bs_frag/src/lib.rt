@@ -1,6 +1,6 @@
 // A PDU written whole: its header, a part of the record's SDU, and fill; what becomes of a record after its turn.
 ghost use mathlib.Core.Path.{_≡_};
-ghost use Prim.Native.Nat.{_+_, _-_, _*_, _/_, _<_, _≤_, _^_};
+ghost use Prim.Native.Nat.{_+_, _*_, _<_, _≤_, _^_};
 ghost use mathlib.Core.List.{_++_};
 ghost use lib.ListN.{length};
 ghost use Rattle.bitbuffer.specs.Bits.{bitsOf, part, Wrote};

@@ -2,7 +2,7 @@
 use mathlib.Core.Path.{_≡_, refl, ap, _∙_}
 use mathlib.Core.Bool.{true}
 use mathlib.Core.List.{List, [], _∷_, _++_}
-use Prim.Native.Nat.{ℕ, _+_, _*_, _<_}
+use Prim.Native.Nat.{ℕ, _*_, _<_}
 use lib.Dec.{leb}
 use lib.ListN.{length, getD, set}
 use borrow.Author.Tests.{leb-true}

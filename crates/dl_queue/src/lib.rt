@@ -1,8 +1,6 @@
 // The queue: 64 records, sixteen to a timeslot, with the store of 64 cells. Timeslots are counted from 0.
-use dl_record::QueuedHeader;
 use dl_record::Record;
 use optional::OptU8;
-use optional::OptU16;
 ghost use mathlib.Core.Path.{_≡_};
 ghost use Prim.Native.Nat.{_*_, _<_, _≤_};
 ghost use lib.ListN.{length, getD};

@@ -2,7 +2,7 @@
 use mathlib.Core.Path.{_≡_, refl}
 use mathlib.Core.Bool.{Bool, true, false, _&&_}
 use Rattle.optional.proofs.Tests.{and-left, and-right}
-use Rattle.mac_pdus.proofs.Conjunctions.{false-not-true, and2, and4}
+use Rattle.mac_pdus.proofs.Conjunctions.{false-not-true, and4}
 use Prim.Native.Nat.{ℕ, _<_, _≤_}
 use mathlib.Core.Logic.{_⊎_, inl, inr}
 use lib.Dec.{ltb}

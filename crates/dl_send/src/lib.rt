@@ -1,8 +1,7 @@
 // Records in the order in which they are taken, sent in a block.
 ghost use mathlib.Core.Path.{_≡_};
-ghost use Prim.Native.Nat.{_+_, _-_, _*_, _<_, _≤_, _^_};
-ghost use mathlib.Core.List.{_++_};
-ghost use lib.ListN.{length, replicate};
+ghost use Prim.Native.Nat.{_-_, _*_, _<_, _≤_, _^_};
+ghost use lib.ListN.{length};
 ghost use Rattle.bitbuffer.specs.Bits.{bitsOf, written};
 ghost use Rattle.mac_reader.specs.PduList.{blockBits};
 ghost use Rattle.dl_send.specs.Send.{again, tagsOf, nullIn};

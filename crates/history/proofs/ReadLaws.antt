@@ -5,13 +5,12 @@ use Prim.Native.Nat.{ℕ}
 use native.Mathlib.Omega.{arith}
 use Rattle.optional.specs.declared.OptU8.{OptU8}
 use Rattle.optional.specs.declared.OptU32.{OptU32}
-use Rattle.tdma_time.specs.declared.TdmaTime.{TdmaTime}
 use Rattle.tdma_time.specs.Time.{valid, timeOf, slotOf, clock}
 use Rattle.tdma_time.proofs.TimeLaws.{slotOf-timeOf, timeOf-valid, valid-true}
 use Rattle.uplink.specs.declared.Entry.{Entry}
 use Rattle.uplink.specs.declared.PhyBlockNum.{PhyBlockNum}
 use Rattle.uplink.specs.HalfSlot.{Half, firstHalf, secondHalf, View}
-use Rattle.uplink.specs.UplinkEntry.{Table, entryAt, tableView, ownerOf, usageOf}
+use Rattle.uplink.specs.UplinkEntry.{entryAt, tableView, ownerOf, usageOf}
 use Rattle.uplink.proofs.TableLaws.{entry-clock}
 use Rattle.sched_core.specs.declared.Station.{Station}
 use Rattle.sched_core.specs.declared.Refusal.{Refusal}

@@ -1,5 +1,5 @@
 -- The table of all starred cases holds: antt computes each row. Assumes nothing.
-use mathlib.Core.Path.{_≡_, refl}
+use mathlib.Core.Path.{refl}
 use Rattle.bitbuffer.specs.Bits.{valueBits, part}
 use Rattle.fillbits.specs.Fill.{fillBits, fromLastSet}
 use Rattle.tdma_time.specs.Time.{usable, firstOf, framesOn, usableOf}

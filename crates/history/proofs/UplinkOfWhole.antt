@@ -14,7 +14,6 @@ use Rattle.history.specs.UplinkCall as uplinkCall
 use Rattle.history.specs.UplinkCall.{CapacityRequest, UplinkCall}
 use Rattle.history.specs.UplinkModel as uplinkModel
 use Rattle.history.specs.UplinkModel.{UplinkModel, modelView, takenBy}
-use Rattle.history.specs.UplinkStation as uplinkStation
 use Rattle.history.specs.UplinkStation.{Sound}
 use Rattle.history.specs.UplinkHistory as uplinkHistory
 use Rattle.history.specs.UplinkHistory.{advances}

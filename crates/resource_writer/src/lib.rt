@@ -5,7 +5,6 @@ use mac_pdus::OptChanAlloc;
 use mac_pdus::ResourceHeader;
 use mac_writer::Piece;
 use optional::OptU8;
-ghost use mathlib.Core.Path.{_≡_};
 ghost use mathlib.Core.List.{_++_};
 ghost use Prim.Native.Nat.{_+_, _*_, _<_, _≤_, _^_};
 ghost use lib.ListN.{length};

@@ -1,7 +1,7 @@
 -- Document 01, "Cases": the starred ones about time, search, delay and markers, as rows of one table. Assumes nothing.
 use mathlib.Core.Path.{_≡_}
 use mathlib.Core.List.{List, [], _∷_, _++_, map}
-use Prim.Native.Nat.{ℕ, _-_}
+use Prim.Native.Nat.{ℕ}
 use Prim.Native.String.{String}
 use lib.ListN.{replicate}
 use Rattle.optional.specs.declared.OptU8.{OptU8}

@@ -6,7 +6,6 @@ use mac_pdus::MacResource;
 use mac_pdus::OptChanAlloc;
 use mac_pdus::PduHeader;
 use mac_pdus::ResourceHeader;
-use mac_reader::ReadOutcome;
 use mac_writer::WriteReply;
 use optional::OptU8;
 use optional::OptU16;

@@ -1,7 +1,5 @@
 -- An empty entry in the place of an empty one. Assumes nothing.
-use mathlib.Core.Path.{ap}
 use borrow.Author.Needs.{needs}
-use lib.ListN.{replicate}
 use Rattle.uplink.specs.UplinkEntry.{emptyEntry}
 use Rattle.sched_core.proofs.StationLaws.{set-replicate}
 use Rattle.sched_core.proofs.empty_table.Statement.{statement}
