@@ -1,12 +1,11 @@
 -- An entry's outcome with the queue by value. Assumes nothing.
-use mathlib.Core.Path.{_≡_, sym, ap, _∙_}
+use mathlib.Core.Path.{_≡_, ap, _∙_}
 use mathlib.Core.List.{List}
 use Prim.Native.Nat.{ℕ}
 use Rattle.optional.specs.declared.OptU16.{OptU16}
 use Rattle.dl_record.specs.declared.Record.{Record}
 use Rattle.dl_record.specs.declared.QueuedHeader.{QueuedHeader}
 use Rattle.dl_record.specs.Record.{emptyHeader}
-use Rattle.sched_core.specs.declared.Reply.{Reply}
 use Rattle.sched_core.specs.declared.RequestReply.{RequestReply}
 use Rattle.sched_core.specs.declared.Answer.{Answer}
 use Rattle.sched_core.specs.declared.RequestAnswer.{RequestAnswer}

@@ -1,10 +1,10 @@
 -- What each command's function answers is the outcome of the command. Assumes nothing.
 use mathlib.Core.Path.{_≡_, refl, sym, ap, _∙_, subst}
-use mathlib.Core.Bool.{Bool, true, false, cond}
+use mathlib.Core.Bool.{true, false}
 use mathlib.Core.List.{List, [], _∷_, _++_, append-nil}
 use Prim.Native.Nat.{ℕ, zero, suc, _+_, _*_, _≤_, _<_}
 use native.Mathlib.Omega.{arith}
-use lib.ListN.{length, take, drop, replicate, length-replicate, length-append}
+use lib.ListN.{length, take, drop, replicate, length-replicate}
 use lib.Seq.{paste, take-all, drop-length}
 use borrow.Author.Tests.{le-leb, lt-leb}
 use Rattle.optional.specs.declared.OptU8.{OptU8}
@@ -25,7 +25,7 @@ use Rattle.sched_core.specs.declared.BuildReply.{BuildReply}
 use Rattle.sched_core.specs.declared.Refusal.{Refusal}
 use Rattle.sched_core.specs.Station.{newStation}
 use Rattle.sched_core.specs.Questions.{Memory, memory, isTimeSound, refusalNumber}
-use Rattle.sched_core.specs.Calls.{Outcome, outcome, replyNumber, newCall, newMemory, advanceCall, advanceMemory, requestCall, requestOutcome, tmaCall, queueOutcome, buildCall, BuildOutcome, BuildAnswered}
+use Rattle.sched_core.specs.Calls.{Outcome, replyNumber, newCall, newMemory, advanceCall, advanceMemory, requestCall, requestOutcome, tmaCall, queueOutcome, buildCall, BuildAnswered}
 use Rattle.sched_core.specs.Invariant.{isDone}
 use Rattle.sched_core.proofs.AskLaws.{ask-elim}
 use Rattle.interpreter.specs.declared.Command.{Command}

@@ -1,5 +1,4 @@
 -- The first octet that is it. Assumes nothing.
-use borrow.Author.Needs.{needs}
 use borrow.Author.Tests.{eq-eqb, ne-eqb}
 use Rattle.interpreter.specs.Slotrun.{commandOf}
 use Rattle.interpreter.proofs.command_of.Statement.{statement}

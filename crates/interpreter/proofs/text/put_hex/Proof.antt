@@ -6,7 +6,7 @@ use lib.ListN.{length, take}
 use borrow.Author.Needs.{needs}
 use Rattle.bitbuffer.specs.Bits.{Wrote}
 use Rattle.interpreter.specs.Text.{hex}
-use Rattle.interpreter.proofs.TextLaws.{no-octets, one-octet-more, all-octets, length-wrote}
+use Rattle.interpreter.proofs.TextLaws.{no-octets, one-octet-more, all-octets}
 use Rattle.interpreter.proofs.text.put_hex.Statement.{statement}
 use Rattle.interpreter.proofs.text.put_hex.Tie as tie
 

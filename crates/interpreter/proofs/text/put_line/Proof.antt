@@ -1,5 +1,4 @@
 -- The parts of the line, one after another. Assumes nothing.
-use native.Mathlib.Omega.{arith}
 use borrow.Author.Needs.{needs}
 use Rattle.interpreter.proofs.TextLaws.{lined}
 use Rattle.interpreter.proofs.text.put_line.Statement.{statement}

@@ -1,12 +1,6 @@
 -- Two digits, one after the other. Assumes nothing.
-use mathlib.Core.Path.{_≡_, sym, ap₂, _∙_, subst}
-use mathlib.Core.List.{List, [], _∷_}
-use Prim.Native.Nat.{ℕ, _/_, _%_}
 use native.Mathlib.Omega.{arith}
 use borrow.Author.Needs.{needs}
-use Rattle.io.specs.Digits.{digits}
-use Rattle.bitbuffer.specs.Bits.{Wrote}
-use Rattle.bitbuffer.proofs.Laws.{then}
 use Rattle.interpreter.proofs.TextLaws.{octet-written}
 use Rattle.interpreter.proofs.text.put_octet.Statement.{statement}
 use Rattle.interpreter.proofs.text.put_octet.Tie as tie
