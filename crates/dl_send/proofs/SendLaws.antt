@@ -9,7 +9,8 @@ use lib.Dec.{ltb, leb}
 use lib.ListN.{length, drop, getD, set, replicate, length-append, drop-of-length-le, length-replicate, replicate-append-replicate}
 use lib.Seq.{take-all, drop-at, paste}
 use borrow.Author.Tests.{lt-ltb, le-ltb, ltb-true, ltb-false, leb-true, leb-false}
-use Rattle.bitbuffer.specs.Bits.{bitsOf, valueBits, written, packed}
+use Rattle.bitbuffer.specs.Bits.{bitsOf, written, packed}
+use Rattle.bitbuffer.proofs.Chunks.{valueBits-zero}
 use Rattle.bitbuffer.proofs.Laws.{written-append, length-bitsOf, written-eq}
 use Rattle.bitbuffer.proofs.Octets.{packed-bitsOf}
 use Rattle.mac_pdus.specs.Headers.{addressType, resourceBits, nullHeader, headerBits, headerLength}
@@ -205,15 +206,11 @@ module _ (block₀ : List ℕ) (w : ℕ) (store : List ℕ) (first : ℕ) (recor
 abbrev zeros : ℕ → List ℕ
 zeros n = replicate n 0
 
-zero-octet : valueBits 8 0 ≡ replicate 8 0
-unfolding valueBits
-zero-octet = refl
-
 zeros-bits : (n : ℕ) → bitsOf (replicate n 0) ≡ replicate (8 * n) 0
 unfolding bitsOf
 zeros-bits zero = refl
 zeros-bits (suc n) =
-    ap₂ _++_ zero-octet (zeros-bits n) ∙ replicate-append-replicate 8 (8 * n) 0 ∙ ap (λ (k : ℕ). replicate {A = ℕ} k 0) (let e : 8 + 8 * n ≡ 8 * suc n = omega arith in e)
+    ap₂ _++_ (valueBits-zero 8) (zeros-bits n) ∙ replicate-append-replicate 8 (8 * n) 0 ∙ ap (λ (k : ℕ). replicate {A = ℕ} k 0) (let e : 8 + 8 * n ≡ 8 * suc n = omega arith in e)
 
 drop-replicate : (k n : ℕ) → drop k (zeros n) ≡ zeros (n - k)
 drop-replicate k n = go (leb k n) refl

@@ -4,7 +4,7 @@ use mathlib.Core.Bool.{true}
 use mathlib.Core.List.{List, [], _∷_, _++_, append-assoc}
 use mathlib.Core.Logic.{⊎-elim}
 use Prim.Native.Nat.{ℕ, zero, suc, _+_, _-_, _*_, _/_, _%_, _^_, _<_, _≤_, min}
-use native.Mathlib.Nat.{add-zero, zero-div}
+use native.Mathlib.Nat.{add-zero}
 use lib.Dec.{eqb}
 use borrow.Author.Tests.{eqb-true}
 use Rattle.optional.proofs.Tests.{and-left, and-right}
@@ -14,6 +14,7 @@ use lib.Pow.{pow-pos, split}
 use lib.ListN.{length, drop, take, getD, replicate, length-append, length-replicate, replicate-append-replicate, length-drop, take-append-drop}
 use lib.Seq.{take-at, drop-at, getD-drop, take-append-le, take-append-add, length-take-le}
 use Rattle.bitbuffer.specs.Bits.{bitsOf, valueBits, packed, AreBits}
+use Rattle.bitbuffer.proofs.Chunks.{valueBits-zero}
 use Rattle.bitbuffer.proofs.Laws.{length-valueBits, valueBits-append, length-bitsOf, bits-append, bits-take, bits-bitsOf}
 use Rattle.bitbuffer.proofs.Octets.{valueBits-join, bitsOf-same, packed-bitsOf, bitsOf-packed}
 use Rattle.sdu_store.specs.Cells.{allZero, cleanPast, kept, cellOf}
@@ -22,14 +23,9 @@ use Rattle.sdu_store.proofs.CellLaws.{cellFrom, octetCell, length-cellF
 abbrev zeros : ℕ → List ℕ
 zeros n = replicate n 0
 
-bits-zero : (b : ℕ) → valueBits b 0 ≡ zeros b
-unfolding valueBits
-bits-zero zero = refl
-bits-zero (suc b) = ap₂ (λ (x : ℕ) (l : List ℕ). x % 2 ∷ l) (zero-div (2 ^ b)) (bits-zero b)
-
 kept-bits : (n x : ℕ) → n < 8 → valueBits 8 (kept n x) ≡ take n (valueBits 8 x) ++ zeros (8 - n)
 unfolding kept
-kept-bits zero x h = bits-zero 8
+kept-bits zero x h = valueBits-zero 8
 kept-bits (suc r) x h =
     let b : ℕ = 7 - r in
     let y : ℕ = x / 2 ^ b in
@@ -39,7 +35,7 @@ kept-bits (suc r) x h =
     ap (λ (w : ℕ). take (suc r) (valueBits w x)) e ∙ ap (take (suc r)) (valueBits-append (suc r) b x)
     ∙ take-at (valueBits (suc r) y) (valueBits b x) (suc r) (length-valueBits (suc r) y) in
     ap₂ valueBits e (sym (add-zero (y * 2 ^ b))) ∙ sym (valueBits-join (suc r) b y 0 (pow-pos b))
-    ∙ ap₂ (λ (l m : List ℕ). l ++ m) (sym first) (bits-zero b ∙ ap zeros (sym f))
+    ∙ ap₂ (λ (l m : List ℕ). l ++ m) (sym first) (valueBits-zero b ∙ ap zeros (sym f))
 
 octet-more : (k : ℕ) → 8 + 8 * k ≡ 8 * suc k
 octet-more k = omega arith
@@ -48,7 +44,7 @@ no-bits : (k : ℕ) (s : List ℕ) → bitsOf (cellFrom k 0 s) ≡ zeros (8 * k)
 unfolding cellFrom bitsOf kept
 no-bits zero s = refl
 no-bits (suc k) s =
-    ap₂ (λ (l m : List ℕ). l ++ m) (bits-zero 8) (no-bits k (drop 1 s))
+    ap₂ (λ (l m : List ℕ). l ++ m) (valueBits-zero 8) (no-bits k (drop 1 s))
     ∙ replicate-append-replicate 8 (8 * k) 0 ∙ ap zeros (octet-more k)
 
 abbrev Says : ℕ → ℕ → List ℕ → Type 0
