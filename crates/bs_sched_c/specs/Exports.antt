@@ -4,10 +4,9 @@ use mathlib.Core.List.{List}
 use Prim.Native.Nat.{ℕ}
 use lib.Dec.{eqb}
 use lib.ListN.{length, replicate}
-use Rattle.optional.specs.declared.OptU8.{OptU8}
 use Rattle.tdma_time.specs.declared.TdmaTime.{TdmaTime}
 use Rattle.uplink.specs.declared.PhyBlockNum.{PhyBlockNum}
-use Rattle.uplink.specs.UplinkEntry.{usageNumber, usageMarker}
+use Rattle.uplink.specs.UplinkEntry.{usageNumber, usageMarker, markerOrZero}
 use Rattle.dl_send.specs.Progress.{tagRow}
 use Rattle.sched_core.specs.declared.Answer.{Answer}
 use Rattle.sched_core.specs.declared.RequestReply.{RequestReply}
@@ -24,17 +23,13 @@ use Rattle.bs_sched_c.specs.declared.reply.BsSchedUsage.{BsSchedUsage}
 
 -- ---- replies
 
--- document 01: "for R capacity, delay, marker or 0"
-abbrev pub markerOr0 : OptU8 → ℕ
-markerOr0 OptU8.Absent = 0
-markerOr0 (OptU8.Of m) = m
-
 -- "On a no, the number is the whole reply": all else 0
 abbrev pub notGranted : ℕ → BsSchedGrant
 notGranted n = record { refusal = n; capacity = 0; delay = 0; «usage_marker» = 0 }
 
+-- document 01: "for R capacity, delay, marker or 0"
 abbrev pub grantOf : RequestReply → BsSchedGrant
-grantOf (RequestReply.Granted c d m) = record { refusal = 0; capacity = c; delay = d; «usage_marker» = markerOr0 m }
+grantOf (RequestReply.Granted c d m) = record { refusal = 0; capacity = c; delay = d; «usage_marker» = markerOrZero m }
 grantOf (RequestReply.Refused r) = notGranted (refusalNumber r)
 
 -- is there a block
@@ -63,7 +58,7 @@ abbrev pub usageAnswer : ℕ → ℕ → ℕ → BsSchedUsage
 usageAnswer n u m = record { refusal = n; usage = u; «usage_marker» = m }
 
 abbrev pub usageOf : UsageReply → BsSchedUsage
-usageOf (UsageReply.Usage u) = usageAnswer 0 (usageNumber u) (markerOr0 (usageMarker u))
+usageOf (UsageReply.Usage u) = usageAnswer 0 (usageNumber u) (markerOrZero (usageMarker u))
 usageOf (UsageReply.Refused r) = usageAnswer (refusalNumber r) 0 0
 
 -- the time that a caller names

@@ -10,10 +10,10 @@ use sched_core::UsageReply;
 use uplink::AccessAssignUlUsage;
 ghost use mathlib.Core.Path.{_≡_};
 ghost use mathlib.Core.Bool.{cond};
-ghost use Rattle.uplink.specs.UplinkEntry.{usageNumber, usageMarker};
+ghost use Rattle.uplink.specs.UplinkEntry.{usageNumber, usageMarker, markerOrZero};
 ghost use Rattle.sched_core.specs.Questions.{refusalNumber, soundStation};
 ghost use Rattle.sched_core.specs.Calls.{replyNumber, buildNumber, ownerNumber};
-ghost use Rattle.bs_sched_c.specs.Exports.{markerOr0, notGranted, grantOf, builtWord, notBuilt, ownerWord, usageAnswer, usageOf};
+ghost use Rattle.bs_sched_c.specs.Exports.{notGranted, grantOf, builtWord, notBuilt, ownerWord, usageAnswer, usageOf};
 
 // The grant of a request; usage_marker is 0 if there is none.
 #[repr(C)]
@@ -86,15 +86,6 @@ pub fn length_number(s: Station) -> u8
     2
 }
 
-fn marker_or_0(o: OptU8) -> u8
-    ensures { λ r. ⌜ r ≡ markerOr0 o ⌝ }
-{
-    match o {
-        OptU8::Absent => 0,
-        OptU8::Of(m) => m,
-    }
-}
-
 pub fn not_granted(n: u8) -> BsSchedGrant
     ensures { λ r. ⌜ r ≡ notGranted n ⌝ }
 {
@@ -107,9 +98,9 @@ pub fn not_granted(n: u8) -> BsSchedGrant
 }
 
 fn granted(capacity: u8, delay: u8, usage_marker: OptU8) -> BsSchedGrant
-    ensures { λ r. ⌜ r ≡ record { refusal = 0; capacity = capacity; delay = delay; «usage_marker» = markerOr0 «usage_marker» } ⌝ }
+    ensures { λ r. ⌜ r ≡ record { refusal = 0; capacity = capacity; delay = delay; «usage_marker» = markerOrZero «usage_marker» } ⌝ }
 {
-    let m = marker_or_0(usage_marker);
+    let m = uplink::marker_or_zero(usage_marker);
     BsSchedGrant {
         refusal: 0,
         capacity: capacity,
@@ -191,7 +182,7 @@ pub fn usage_answer(n: u8, usage: u8, usage_marker: u8) -> BsSchedUsage
 }
 
 fn usage_found(u: AccessAssignUlUsage) -> BsSchedUsage
-    ensures { λ r. ⌜ r ≡ usageAnswer 0 (usageNumber u) (markerOr0 (usageMarker u)) ⌝ }
+    ensures { λ r. ⌜ r ≡ usageAnswer 0 (usageNumber u) (markerOrZero (usageMarker u)) ⌝ }
 {
     match u {
         AccessAssignUlUsage::CommonOnly => usage_answer(0, 0, 0),

@@ -10,6 +10,7 @@ use borrow.Author.Tests.{le-leb, lt-leb}
 use Rattle.optional.specs.declared.OptU8.{OptU8}
 use Rattle.optional.specs.declared.OptU16.{OptU16}
 use Rattle.tdma_time.specs.declared.TdmaTime.{TdmaTime}
+use Rattle.uplink.specs.UplinkEntry.{markerOrZero}
 use Rattle.bitbuffer.specs.Bits.{written, part, Wrote}
 use Rattle.dl_record.specs.declared.Record.{Record}
 use Rattle.dl_record.specs.Record.{emptyRecord, emptyHeader}
@@ -31,7 +32,7 @@ use Rattle.sched_core.proofs.AskLaws.{ask-elim}
 use Rattle.interpreter.specs.declared.Command.{Command}
 use Rattle.interpreter.specs.declared.Executed.{Executed}
 use Rattle.interpreter.specs.Text.{number, line}
-use Rattle.interpreter.specs.Slotrun.{Session, session, Step, stageKept, step, operandCount, octet, twoOctets, fourOctets, timeOf, newStep, advanceStep, requestStep, markerOrZero, grantFields, staged, stageLine, queueStep, buildStep, blockFields}
+use Rattle.interpreter.specs.Slotrun.{Session, session, Step, stageKept, step, operandCount, octet, twoOctets, fourOctets, timeOf, newStep, advanceStep, requestStep, grantFields, staged, stageLine, queueStep, buildStep, blockFields}
 use Rattle.interpreter.specs.Steps.{Executes, Advances, Steps}
 use Rattle.interpreter.proofs.TextLaws.{nothing}
 use Rattle.interpreter.proofs.TagLaws.{few-tags}

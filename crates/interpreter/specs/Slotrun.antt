@@ -4,9 +4,9 @@ use mathlib.Core.List.{List, [], _∷_, _++_}
 use Prim.Native.Nat.{ℕ, zero, suc, _+_, _*_}
 use lib.Dec.{eqb, leb}
 use lib.ListN.{length, getD, drop, replicate}
-use Rattle.optional.specs.declared.OptU8.{OptU8}
 use Rattle.optional.specs.declared.OptU16.{OptU16}
 use Rattle.tdma_time.specs.declared.TdmaTime.{TdmaTime}
+use Rattle.uplink.specs.UplinkEntry.{markerOrZero}
 use Rattle.bitbuffer.specs.Bits.{written, part}
 use Rattle.dl_record.specs.Record.{emptyHeader}
 use Rattle.sched_core.specs.declared.RequestReply.{RequestReply}
@@ -90,10 +90,6 @@ unfoldable pub advanceStep : Memory → Outcome (List ℕ)
 advanceStep m = let o = advanceMemory m in outcome (line 65 (number (replyNumber (o .reply)))) (o .memory)
 
 -- "after a 0 only, for R capacity, delay, marker or 0"
-abbrev pub markerOrZero : OptU8 → ℕ
-markerOrZero OptU8.Absent = 0
-markerOrZero (OptU8.Of marker) = marker
-
 abbrev pub grantFields : RequestReply → List ℕ
 grantFields (RequestReply.Granted capacity delay marker) = number 0 ++ number capacity ++ number delay ++ number (markerOrZero marker)
 grantFields (RequestReply.Refused r) = number (refusalNumber r)

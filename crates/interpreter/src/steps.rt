@@ -3,7 +3,6 @@ use crate::Advanced;
 use crate::Command;
 use crate::Executed;
 use dl_record::Record;
-use optional::OptU8;
 use sched_core::BuildReply;
 use sched_core::Reply;
 use sched_core::RequestReply;
@@ -16,7 +15,7 @@ ghost use Rattle.bitbuffer.specs.Bits.{Wrote};
 ghost use Rattle.sched_core.specs.Questions.{memory};
 ghost use Rattle.sched_core.specs.Invariant.{isDone};
 ghost use Rattle.interpreter.specs.Text.{line};
-ghost use Rattle.interpreter.specs.Slotrun.{operandCount, markerOrZero, grantFields, blockFields, newStep, requestStep, staged, stageLine, queueStep, buildStep, session, step};
+ghost use Rattle.interpreter.specs.Slotrun.{operandCount, grantFields, blockFields, newStep, requestStep, staged, stageLine, queueStep, buildStep, session, step};
 ghost use Rattle.interpreter.specs.Steps.{Executes, Advances, Steps};
 
 fn is_done(r: Reply) -> bool
@@ -84,15 +83,6 @@ pub fn advance_step(station: Station, out: &mut [u8]) -> Advanced
     }
 }
 
-fn marker_or_zero(marker: OptU8) -> u8
-    ensures { λ r. ⌜ r ≡ markerOrZero marker ⌝ }
-{
-    match marker {
-        OptU8::Absent => 0,
-        OptU8::Of(m) => m,
-    }
-}
-
 // The line of a request.
 fn put_request(out: &mut [u8], reply: RequestReply) -> usize
     requires { ⌜ 173 ≤ length (now out) ⌝ }
@@ -103,7 +93,7 @@ fn put_request(out: &mut [u8], reply: RequestReply) -> usize
             capacity,
             delay,
             usage_marker,
-        } => crate::text::put_grant(out, capacity, delay, marker_or_zero(usage_marker)),
+        } => crate::text::put_grant(out, capacity, delay, uplink::marker_or_zero(usage_marker)),
         RequestReply::Refused(r) => crate::text::put_line(out, b'R', crate::refusal_number(r)),
     }
 }

@@ -10,7 +10,7 @@ use Rattle.tdma_time.specs.Time.{slotOf, frame, framesOn, nextTime}
 use Rattle.uplink.specs.declared.CapAnswer.{CapAnswer}
 use Rattle.uplink.specs.declared.CapReply.{CapReply}
 use Rattle.uplink.specs.HalfSlot.{Half, firstHalf, secondHalf}
-use Rattle.uplink.specs.UplinkEntry.{Table, emptyTable, tableView, reserve}
+use Rattle.uplink.specs.UplinkEntry.{Table, emptyTable, tableView, reserve, markerOrZero}
 use Rattle.uplink.specs.Request.{Request, Verdict, noRun, tooLate, grant, verdict, tableOf, answer}
 
 -- a case: what the definitions give, and what document 01 says, each as a list of numbers
@@ -39,13 +39,9 @@ takenBy9 hs slots = reserve emptyTable hs 9 OptU8.Absent slots
 abbrev pub both : List Half
 both = firstHalf ∷ secondHalf ∷ []
 
-abbrev pub markerShown : OptU8 → ℕ
-markerShown OptU8.Absent = 0
-markerShown (OptU8.Of m) = m
-
 -- "number (0 done); after a 0 only, [..] capacity, delay, marker or 0"
 abbrev pub shown : CapReply → List ℕ
-shown (CapReply.Granted cap delay m) = 0 ∷ cap ∷ delay ∷ markerShown m ∷ []
+shown (CapReply.Granted cap delay m) = 0 ∷ cap ∷ delay ∷ markerOrZero m ∷ []
 shown CapReply.NoRun = 9 ∷ []
 shown CapReply.TooLate = 10 ∷ []
 
@@ -62,7 +58,7 @@ asked tb k f code =
 
 -- the markers of two requests for two slots, one after the other, in frame 1 of an empty table
 abbrev pub markerIn : CapReply → ℕ
-markerIn (CapReply.Granted cap delay m) = markerShown m
+markerIn (CapReply.Granted cap delay m) = markerOrZero m
 markerIn CapReply.NoRun = 0
 markerIn CapReply.TooLate = 0
 

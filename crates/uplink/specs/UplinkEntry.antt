@@ -88,6 +88,11 @@ usageMarker AccessAssignUlUsage.CommonAndAssigned = OptU8.Absent
 usageMarker AccessAssignUlUsage.AssignedOnly = OptU8.Absent
 usageMarker (AccessAssignUlUsage.Traffic m) = OptU8.Of m
 
+-- "marker or 0"
+abbrev pub markerOrZero : OptU8 → ℕ
+markerOrZero OptU8.Absent = 0
+markerOrZero (OptU8.Of marker) = marker
+
 -- ---- reservation and clearing
 
 -- an entry with a half taken, with each of a list of halves taken, and with a marker

@@ -5,7 +5,7 @@ use tdma_time::TdmaTime;
 ghost use mathlib.Core.Path.{_≡_};
 ghost use Rattle.tdma_time.specs.Time.{Valid, slotOf};
 ghost use Rattle.uplink.specs.HalfSlot.{vacant};
-ghost use Rattle.uplink.specs.UplinkEntry.{entryAt, ownerOf, sameOwner, usageOf, cleared, soundOwner, soundCounter, soundMarker, unmarked, soundEntry, soundRow, soundTable, soundCounters};
+ghost use Rattle.uplink.specs.UplinkEntry.{entryAt, ownerOf, sameOwner, usageOf, markerOrZero, cleared, soundOwner, soundCounter, soundMarker, unmarked, soundEntry, soundRow, soundTable, soundCounters};
 
 // An entry of the uplink table: who holds each half of the slot, and the usage marker of the reservation.
 pub struct Entry {
@@ -156,6 +156,16 @@ pub fn ul_get_usage(table: [[Entry; 18]; 4], ts: TdmaTime) -> AccessAssignUlUsag
             }
             AccessAssignUlUsage::AssignedOnly
         }
+    }
+}
+
+// The marker, 0 if there is none.
+pub fn marker_or_zero(usage_marker: OptU8) -> u8
+    ensures { λ r. ⌜ r ≡ markerOrZero «usage_marker» ⌝ }
+{
+    match usage_marker {
+        OptU8::Absent => 0,
+        OptU8::Of(m) => m,
     }
 }
 

@@ -4,7 +4,7 @@ use Rattle.bs_sched_c.proofs.reply.granted.Statement.{statement}
 use Rattle.bs_sched_c.proofs.reply.granted.Tie as tie
 
 returns : tie.Need-returns
-returns c = rw (c .marker-or-0 .ensures)
+returns c = rw (c .marker-or-zero .ensures)
 
 pub granted-spec : {M : Type 1} → statement M
 granted-spec =
