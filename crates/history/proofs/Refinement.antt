@@ -12,7 +12,7 @@ use lib.Seq.{length-paste}
 use borrow.Author.Tests.{eq-eqb, leb-true, ltb-true, le-leb}
 use Rattle.optional.proofs.Tests.{and-left, and-right, and-intro}
 use Rattle.tdma_time.specs.declared.TdmaTime.{TdmaTime}
-use Rattle.tdma_time.specs.Time.{valid, timeslot, nextTime}
+use Rattle.tdma_time.specs.Time.{valid, nextTime}
 use Rattle.tdma_time.proofs.TimeLaws.{valid-true}
 use Rattle.slot_codes.specs.Codes.{grantOctet}
 use Rattle.uplink.specs.declared.CapAnswer.{CapAnswer}
@@ -40,15 +40,15 @@ use Rattle.sched_core.specs.declared.Refusal.{Refusal}
 use Rattle.sched_core.specs.declared.Reply as core
 use Rattle.sched_core.specs.declared.RequestReply.{RequestReply}
 use Rattle.sched_core.specs.Station.{tableOf, stationOf}
-use Rattle.sched_core.specs.Questions.{Memory, memory, soundCount, soundStation, isStationSound, areLengthsRight, isQueueSound, ask, refusalNumber, legalTimeslot, isTimeslotLegal, isRequirementLegal, isAddressLegal, isHeaderLegal, isSduPresent, isQueueOpen}
+use Rattle.sched_core.specs.Questions.{Memory, soundCount, soundStation, isStationSound, areLengthsRight, isQueueSound, ask, refusalNumber, legalTimeslot, isTimeslotLegal, isRequirementLegal, isAddressLegal, isHeaderLegal, isSduPresent, isQueueOpen}
 use Rattle.sched_core.specs.Calls.{Outcome, outcome, grantQueued, requestAnswered, requestOutcome, requestCall, advanceCall, advanceMemory, withRecord, withSdu, ackCall, tmaCall}
 use Rattle.history.specs.UplinkCall.{CapacityRequest, asked, UplinkReply, done, refused, asReply, question}
 use Rattle.history.specs.UplinkCall as uplinkCall
 use Rattle.history.specs.UplinkStation as uplinkStation
 use Rattle.history.specs.UplinkStation.{stationAnswer, Sound}
-use Rattle.history.specs.Call.{AckOffer, RecordOffer, recordOf, ackQuestion, recordQuestion, advance, request, enqueueAck, enqueueRecord, Reply}
+use Rattle.history.specs.Call.{AckOffer, RecordOffer, recordOf, ackQuestion, recordQuestion, advance, request, enqueueAck, enqueueRecord}
 use Rattle.history.specs.Queues.{Queues, queueAt, joins, afterRequest, afterAck, afterRecord, numbered}
-use Rattle.history.specs.Station.{cellLoads, Station, stationAfter, stationReply}
+use Rattle.history.specs.Station.{cellLoads, Station, stationAfter}
 use Rattle.history.specs.Memory.{queueReply, requestReply}
 use Rattle.uplink.proofs.Basics.{four}
 use Rattle.history.proofs.QuestionLaws.{Passed}

@@ -18,7 +18,7 @@ use Rattle.sdu_store.proofs.CellBits.{length-cellOf}
 use Rattle.dl_queue.specs.Queue.{nextPlace}
 use Rattle.sched_core.specs.declared.Reply.{Reply}
 use Rattle.sched_core.specs.declared.RequestReply.{RequestReply}
-use Rattle.sched_core.specs.Questions.{Memory, memory, requestQuestions, ackQuestions, tmaQuestions}
+use Rattle.sched_core.specs.Questions.{Memory, requestQuestions, ackQuestions, tmaQuestions}
 use Rattle.sched_core.specs.Calls.{Outcome, withRecord, withSdu, requestOutcome, grantQueued, requestAnswered, requestCall, ackCall, tmaCall}
 use Rattle.sched_core.specs.Invariant.{isDone, isGranted, Queues, EveryQueueingQueues}
 use Rattle.sched_core.proofs.AskLaws.{ask-elim}
