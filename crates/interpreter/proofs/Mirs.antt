@@ -4,6 +4,7 @@ use mir.Syntax.{Ty}
 use denote.Slice.{sliceTy}
 use Rattle.interpreter.proofs.Command.Laws as Command-laws
 use Rattle.interpreter.proofs.Executed.Laws as Executed-laws
+use Rattle.interpreter.proofs.Advanced.Laws as Advanced-laws
 use Rattle.interpreter.proofs.RunAnswer.Laws as RunAnswer-laws
 use Rattle.optional.proofs.OptU8.Laws as optional-OptU8-laws
 use Rattle.optional.proofs.OptU16.Laws as optional-OptU16-laws
@@ -69,6 +70,9 @@ Command = Command-laws.mir
 
 abbrev pub Executed : Ty
 Executed = Executed-laws.mir
+
+abbrev pub Advanced : Ty
+Advanced = Advanced-laws.mir
 
 abbrev pub RunAnswer : Ty
 RunAnswer = RunAnswer-laws.mir
