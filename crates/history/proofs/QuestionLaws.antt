@@ -6,6 +6,7 @@ use native.Mathlib.Omega.{arith}
 use lib.Dec.{leb, ltb}
 use borrow.Author.Tests.{leb-true, ltb-true}
 use Rattle.optional.proofs.Tests.{and-left, and-right}
+use Rattle.dl_record.specs.Questions.{legalAddress}
 use Rattle.history.specs.UplinkCall.{CapacityRequest, question}
 
 pub record Passed (a : CapacityRequest) (queued : ℕ) : Type 0 where
@@ -22,7 +23,7 @@ one-passed true k x h = (refl, h)
 one-passed false k x h = absurd (omega arith)
 
 pub question-passed : (a : CapacityRequest) (queued : ℕ) → question a queued ≡ 0 → Passed a queued
-unfolding question
+unfolding question legalAddress
 question-passed a queued e =
     let q3 = one-passed (leb 1 (a .timeslot) && leb (a .timeslot) 4) 2 _ e in
     let q4 = one-passed (leb (a .code) 15) 3 _ (q3 .1) in

@@ -1,8 +1,10 @@
 -- The calls of a history as the uplink meets them, their questions and their replies. Assumes nothing.
-use mathlib.Core.Bool.{_&&_, not, cond}
-use Prim.Native.Nat.{ℕ, _^_}
+use mathlib.Core.Bool.{not, cond}
+use Prim.Native.Nat.{ℕ}
 use lib.Dec.{leb, ltb}
 use Rattle.optional.specs.declared.OptU8.{OptU8}
+use Rattle.dl_record.specs.Questions.{legalAddress}
+use Rattle.sched_core.specs.Questions.{legalTimeslot}
 use Rattle.uplink.specs.declared.CapReply.{CapReply}
 use Rattle.uplink.specs.Request.{Request, replyNumber}
 
@@ -40,7 +42,7 @@ asReply CapReply.TooLate = refused (replyNumber CapReply.TooLate)
 -- The number of the first that is answered no, or 0; then come 9 and 10, which the search decides.
 unfoldable pub question : CapacityRequest → ℕ → ℕ
 question a queued =
-    cond (not (leb 1 (a .timeslot) && leb (a .timeslot) 4)) 3
+    cond (not (legalTimeslot (a .timeslot))) 3
     (cond (not (leb (a .code) 15)) 4
-    (cond (not (leb (a .kind) 2 && ltb (a .number) (2 ^ 24))) 5
+    (cond (not (legalAddress (a .kind) (a .number))) 5
     (cond (not (ltb queued 16)) 8 0)))
