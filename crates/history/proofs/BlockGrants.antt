@@ -1,13 +1,14 @@
--- A grant that is read in a built block is that of the request that it is named after, and what a mobile station derives from it is what was reserved
--- exactly when the first usable slots are one (`block-grants`). Assumes nothing.
+-- A reader lists the headers of a built block (`block-listed`); a named one has the grant of the request of that name (`block-stands`), and a grant that is
+-- read is that of the request that it is named after (`block-grants`). Assumes nothing.
 use mathlib.Core.Path.{_≡_, refl, sym, ap, _∙_}
 use mathlib.Core.Bool.{Bool, true, false, cond}
-use mathlib.Core.Option.{none, some}
+use mathlib.Core.Option.{Option, none, some}
 use mathlib.Core.List.{List, [], _∷_, _++_}
 use Prim.Native.Nat.{ℕ, zero, suc, _+_, _<_}
 use native.Mathlib.Omega.{arith}
 use native.Mathlib.Nat.{not-suc-le-zero, le-of-suc-le-suc}
 use lib.ListN.{length, getD}
+use Rattle.optional.specs.declared.OptU8.{OptU8}
 use Rattle.tdma_time.specs.declared.TdmaTime.{TdmaTime}
 use Rattle.tdma_time.specs.Time.{Valid, timeslot}
 use Rattle.slot_codes.specs.Codes.{capacityOf, delayOf}
@@ -33,12 +34,12 @@ use Rattle.history.specs.UplinkCall.{UplinkReply, refused, granted}
 use Rattle.history.specs.UplinkModel as uplinkModel
 use Rattle.history.specs.Call.{Call, request, build, Reply, replied, block, noBlock}
 use Rattle.history.specs.Queues.{queueAt, canBuild, built, buildReply, replyOf}
-use Rattle.history.specs.Model.{namedLoads, Model, newModel, callOf, modelReply, modelAt, namesBuilt}
+use Rattle.history.specs.Model.{namedLoads, Model, newModel, callOf, modelReply, modelAt, pdusBuilt, namesBuilt}
 use Rattle.history.specs.Station.{cellLoads, Station, newStation, stationReply, stationAt}
-use Rattle.history.specs.Demand3.{GrantRead, Origin, DerivedAt}
+use Rattle.history.specs.Demand3.{GrantRead, Origin, DerivedAt, ItsGrant}
 use Rattle.history.proofs.Derived.{GrantOf, grant-of, derived}
 use Rattle.history.proofs.WholeSimulation.{WholeAlike, whole-histories, whole-new, whole-reply, same-pdus}
-use Rattle.history.proofs.GrantNames.{along-at, GrantIn, built-tied}
+use Rattle.history.proofs.GrantNames.{Along, along-length, along-at, numberIn, grantIn, GrantIn, built-tied}
 use Rattle.history.proofs.NamedHistory.{Faithful, named-history}
 use Rattle.history.proofs.StoredHistory.{InCell, ordered-stored, stored-history}
 
@@ -54,6 +55,12 @@ unfolding placed
 placed-at at [] rest i l = absurd (not-suc-le-zero l)
 placed-at at (p ∷ ps) rest zero l = refl
 placed-at at (p ∷ ps) rest (suc i) l = placed-at (at + length (pduBits p)) ps rest i (le-of-suc-le-suc l)
+
+-- a name stands inside its list
+some-inside : {A : Type 0} (l : List (Option A)) (i : ℕ) (a : A) → getD l i none ≡ some a → i < length l
+some-inside [] i a e = absurd (let z : _≡_ {A = ℕ} 0 1 = cc in omega arith)
+some-inside (y ∷ l) zero a e = omega arith
+some-inside (y ∷ l) (suc i) a e = let q = some-inside l i a e in omega arith
 
 -- what is read in the block of a sound queue
 queue-read : (ys : List (Item (List ℕ))) → All InCell ys → readBlock 34 (blockOf 34 (blockBits (built cellLoads ys .pdus))) ≡ reader.replyOf (reader.headers (placed 0 (built cellLoads ys .pdus)))
@@ -90,13 +97,6 @@ module _ (x : TdmaTime) (xs : List Call) (t number octet name : ℕ) (o : Origin
 
 -- ---- a block built in a history
 
--- what is shown of a grant that is read
-abbrev pub Shown : TdmaTime → List Call → ℕ → ResourceHeader → ℕ → Type 0
-Shown x before i h octet =
-    (name : ℕ) × (getD (namesBuilt (modelAt x before)) i none ≡ some name)
-    × (o : Origin x before (timeslot (modelAt x before .uplink .now)) (numberOf (h .address)) octet name)
-    × DerivedAt (modelAt x (o .before)) (o .asker) octet (modelAt x before .uplink .now)
-
 -- the octets of a block
 abbrev octetsOf : Reply → List ℕ
 octetsOf (replied r) = []
@@ -122,10 +122,10 @@ module _ (x : TdmaTime) (v : Valid x) (before : List Call) (b : List ℕ) where
   alike = whole-histories before (newStation x) (newModel x) (whole-new x v)
 
   abbrev pdus : List Pdu
-  pdus = built namedLoads (queueAt (m .queues) t) .pdus
+  pdus = pdusBuilt m
 
   block-octets : (octets tags : List ℕ) → stationReply (build b) s ≡ block octets tags → octets ≡ blockOf 34 (blockBits pdus)
-  unfolding modelReply replyOf buildReply
+  unfolding modelReply replyOf buildReply pdusBuilt
   block-octets octets tags e = go (isBlockLength b) (canBuild (m .uplink .now) (m .queues)) (sym (whole-reply (build b) s m alike) ∙ e)
     where
       go : (right can : Bool) → cond right (cond can (block (blockOf 34 (blockBits pdus)) (built namedLoads (queueAt (m .queues) t) .tags)) noBlock) (replied (refused 2)) ≡ block octets tags → octets ≡ blockOf 34 (blockBits pdus)
@@ -133,22 +133,62 @@ module _ (x : TdmaTime) (v : Valid x) (before : List Call) (b : List ℕ) where
       go false can q = absurd (let z : _≡_ {A = ℕ} 0 1 = ap isBlock q in omega arith)
       go true false q = absurd (let z : _≡_ {A = ℕ} 0 1 = ap isBlock q in omega arith)
 
-  block-reading : (octets tags : List ℕ) → stationReply (build b) s ≡ block octets tags → readBlock 34 octets ≡ reader.replyOf (reader.headers (placed 0 pdus))
-  block-reading octets tags e =
+  -- what is read in it
+  pub block-listed : (octets tags : List ℕ) → stationReply (build b) s ≡ block octets tags → readBlock 34 octets ≡ reader.replyOf (reader.headers (placed 0 pdus))
+  unfolding pdusBuilt
+  block-listed octets tags e =
       let ys : List (Item (List ℕ)) = queueAt (s .queues) t in
       let same : built cellLoads ys .pdus ≡ pdus = same-pdus (s .queues) (m .queues) (alike .queues) t in
       ap (readBlock 34) (block-octets octets tags e ∙ ap (λ (ps : List Pdu). blockOf 34 (blockBits ps)) (sym same))
       ∙ queue-read ys (stored-history x v before t (omega arith))
       ∙ ap (λ (ps : List Pdu). reader.replyOf (reader.headers (placed 0 ps))) same
 
-  pub block-grants : (octets tags : List ℕ) → stationReply (build b) s ≡ block octets tags → (i : ℕ) (h : ResourceHeader) (octet : ℕ) → GrantRead octets i h octet → Shown x before i h octet
-  unfolding namesBuilt Faithful
-  block-grants octets tags e i h octet g =
-      let r : readBlock 34 octets ≡ reader.replyOf (reader.headers (placed 0 pdus)) = block-reading octets tags e in
-      let few : readBlock 34 octets .count ≡ length pdus = ap (λ (y : BlockHeaders). y .count) r ∙ placed-length 0 pdus in
-      let inside : i < length pdus = rw few at (g .listed) in
-      let same : header (getD pdus i null) ≡ PduHeader.Resource h = sym (placed-at 0 pdus _ i inside) ∙ ap (λ (y : BlockHeaders). getD (y .headers) i noHeader .header) (sym r) ∙ g .header in
-      let tied : GrantIn (Faithful x before t) (getD pdus i null) (getD (namesBuilt m) i none) =
-      along-at (GrantIn (Faithful x before t)) pdus (namesBuilt m) (built-tied (Faithful x before t) (queueAt (m .queues) t) (named-history x before t (omega arith))) i inside null none in
-      let (name, named, o) = tied h octet same (g .grant) octet refl in
-      (name, named, o, origin-derived x before t (numberOf (h .address)) octet name o (m .uplink .now))
+  -- the PDUs and their names, one by one
+  names-tied : Along (GrantIn (Faithful x before t)) pdus (namesBuilt m)
+  unfolding pdusBuilt namesBuilt
+  names-tied = built-tied (Faithful x before t) (λ n. tt) (queueAt (m .queues) t) (named-history x before t (omega arith))
+
+  module _ (octets tags : List ℕ) (e : stationReply (build b) s ≡ block octets tags) where
+    many-listed : readBlock 34 octets .count ≡ length pdus
+    many-listed = ap (λ (y : BlockHeaders). y .count) (block-listed octets tags e) ∙ placed-length 0 pdus
+
+    header-listed : (i : ℕ) → i < length pdus → getD (readBlock 34 octets .headers) i noHeader .header ≡ header (getD pdus i null)
+    header-listed i l = ap (λ (y : BlockHeaders). getD (y .headers) i noHeader .header) (block-listed octets tags e) ∙ placed-at 0 pdus _ i l
+
+    its-grant : (h : ResourceHeader) (octet name : ℕ) → Faithful x before t (numberOf (h .address)) (OptU8.Of octet) (some name) → ItsGrant x before h octet name
+    its-grant h octet name o = (o, origin-derived x before t (numberOf (h .address)) octet name o (m .uplink .now))
+
+    pub block-grants : (i : ℕ) (h : ResourceHeader) (octet : ℕ) → GrantRead octets i h octet
+        → (name : ℕ) × (getD (namesBuilt m) i none ≡ some name) × ItsGrant x before h octet name
+    block-grants i h octet g =
+        let inside : i < length pdus = rw many-listed at (g .listed) in
+        let same : header (getD pdus i null) ≡ PduHeader.Resource h = sym (header-listed i inside) ∙ g .header in
+        let tied : Faithful x before t (numberOf (h .address)) (h .«slot_granting_element») (getD (namesBuilt m) i none) =
+        rw same at (along-at (GrantIn (Faithful x before t)) pdus (namesBuilt m) names-tied i inside null none) in
+        go (getD (namesBuilt m) i none) refl (rw (g .grant) at tied)
+      where
+        go : (n : Option ℕ) → getD (namesBuilt m) i none ≡ n → Faithful x before t (numberOf (h .address)) (OptU8.Of octet) n
+            → (name : ℕ) × (getD (namesBuilt m) i none ≡ some name) × ItsGrant x before h octet name
+        go none q k = absurd k
+        go (some name) q k = (name, q, its-grant h octet name k)
+
+    pub block-stands : (i name : ℕ) → getD (namesBuilt m) i none ≡ some name
+        → (h : ResourceHeader) × (octet : ℕ) × GrantRead octets i h octet × ItsGrant x before h octet name
+    block-stands i name q =
+        let inside : i < length pdus = rw (along-length (GrantIn (Faithful x before t)) pdus (namesBuilt m) names-tied) (some-inside (namesBuilt m) i name q) in
+        go (header (getD pdus i null)) (header-listed i inside)
+        (rw q at (along-at (GrantIn (Faithful x before t)) pdus (namesBuilt m) names-tied i inside null none))
+      where
+        inside : i < readBlock 34 octets .count
+        inside = rw (many-listed, along-length (GrantIn (Faithful x before t)) pdus (namesBuilt m) names-tied) (some-inside (namesBuilt m) i name q)
+
+        by-grant : (h : ResourceHeader) (grant : OptU8) → h .«slot_granting_element» ≡ grant → getD (readBlock 34 octets .headers) i noHeader .header ≡ PduHeader.Resource h
+            → Faithful x before t (numberOf (h .address)) grant (some name) → (h : ResourceHeader) × (octet : ℕ) × GrantRead octets i h octet × ItsGrant x before h octet name
+        by-grant h OptU8.Absent g e k = absurd k
+        by-grant h (OptU8.Of octet) g e k = (h, octet, record { listed = inside; header = e; grant = g }, its-grant h octet name k)
+
+        go : (p : PduHeader) → getD (readBlock 34 octets .headers) i noHeader .header ≡ p → Faithful x before t (numberIn p) (grantIn p) (some name)
+            → (h : ResourceHeader) × (octet : ℕ) × GrantRead octets i h octet × ItsGrant x before h octet name
+        go (PduHeader.Resource h) e k = by-grant h _ refl e k
+        go (PduHeader.Frag f) e k = absurd k
+        go (PduHeader.End f) e k = absurd k

@@ -18,7 +18,7 @@ use Rattle.history.specs.Demand3.{Standing, Demand3}
 use Rattle.history.proofs.WholeSimulation.{whole-histories, whole-new, whole-reply}
 use Rattle.history.proofs.UplinkOfWhole.{whole-disjoint, whole-view, whole-table}
 use Rattle.history.proofs.ReadLaws.{owner-shown, usage-shown}
-use Rattle.history.proofs.BlockGrants.{block-grants}
+use Rattle.history.proofs.BlockGrants.{block-listed, block-stands, block-grants}
 use Rattle.history.proofs.Refinement.{Refines}
 use Rattle.history.proofs.RefinedHistory.{refined-history, history-reply, memory-sound}
 
@@ -42,6 +42,8 @@ pub demand3 : (x : TdmaTime) → Valid x → (xs : List Call) → Demand3 x xs
 demand3 x v xs =
     record {
       replies = λ before since c cut. history-reply x v before c ∙ whole-reply c _ _ (whole-histories before (newStation x) (newModel x) (whole-new x v));
+      listed = λ before since b cut octets tags e. block-listed x v before b octets tags (sym (history-reply x v before (build b)) ∙ e);
+      stands = λ before since b cut octets tags e i name q. block-stands x v before b octets tags (sym (history-reply x v before (build b)) ∙ e) i name q;
       derived = λ before since b cut octets tags e i h octet g. block-grants x v before b octets tags (sym (history-reply x v before (build b)) ∙ e) i h octet g;
       disjoint = λ before between since a a′ cut l y p q. whole-disjoint x v before between a a′ l y p q;
       table = memory-table x v xs;

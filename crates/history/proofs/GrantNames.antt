@@ -32,7 +32,7 @@ use Rattle.dl_send.specs.Send.{kept, isUnderway, nullIn, turn, sendAll}
 use Rattle.dl_send.proofs.KeptLaws.{all-append}
 use Rattle.dl_build.specs.Build.{inOrder, buildList}
 use Rattle.history.specs.Queues.{built}
-use Rattle.history.specs.Model.{NamedSdu, namedSdu, namedLoads, namesSent}
+use Rattle.history.specs.Model.{NamedSdu, namedSdu, namedLoads, nameIn, namesSent}
 
 -- ---- two lists, element by element
 
@@ -43,15 +43,21 @@ Along P (a ∷ ls) [] = ⊥
 Along P (a ∷ ls) (b ∷ bs) = P a b × Along P ls bs
 
 module _ {A B : Type 0} (P : A → B → Type 0) where
-  along-const : (b : B) (ls : List A) → All (λ a. P a b) ls → Along P ls (map (λ (a : A). b) ls)
-  along-const b [] h = tt
-  along-const b (a ∷ ls) h = (h .0, along-const b ls (h .1))
+  along-map : (f : A → B) (ls : List A) → All (λ a. P a (f a)) ls → Along P ls (map f ls)
+  along-map f [] h = tt
+  along-map f (a ∷ ls) h = (h .0, along-map f ls (h .1))
 
   along-append : (ls ls′ : List A) (bs bs′ : List B) → Along P ls bs → Along P ls′ bs′ → Along P (ls ++ ls′) (bs ++ bs′)
   along-append [] ls′ [] bs′ h k = k
   along-append [] ls′ (b ∷ bs) bs′ h k = absurd h
   along-append (a ∷ ls) ls′ [] bs′ h k = absurd h
   along-append (a ∷ ls) ls′ (b ∷ bs) bs′ h k = (h .0, along-append ls ls′ bs bs′ (h .1) k)
+
+  pub along-length : (ls : List A) (bs : List B) → Along P ls bs → length ls ≡ length bs
+  along-length [] [] h = refl
+  along-length [] (b ∷ bs) h = absurd h
+  along-length (a ∷ ls) [] h = absurd h
+  along-length (a ∷ ls) (b ∷ bs) h = ap suc (along-length ls bs (h .1))
 
   pub along-at : (ls : List A) (bs : List B) → Along P ls bs → (i : ℕ) → i < length ls → (a₀ : A) (b₀ : B) → P (getD ls i a₀) (getD bs i b₀)
   along-at [] bs h i l a₀ b₀ = absurd (not-suc-le-zero l)
@@ -80,79 +86,75 @@ header-grant : (r : Record) (fill len : ℕ) → headerOf r fill len .«slot_gra
 unfolding headerOf onAir
 header-grant r fill len = refl
 
--- the MAC-RESOURCE in a header
-abbrev resourceIn : PduHeader → ResourceHeader
-resourceIn (PduHeader.Resource h) = h
-resourceIn (PduHeader.Frag f) = nullHeader
-resourceIn (PduHeader.End e) = nullHeader
+-- the number and the grant in a PDU's header
+abbrev pub numberIn : PduHeader → ℕ
+numberIn (PduHeader.Resource h) = numberOf (h .address)
+numberIn (PduHeader.Frag f) = 0
+numberIn (PduHeader.End e) = 0
 
-no-grant : {octet : ℕ} → OptU8.Absent ≡ OptU8.Of octet → ⊥
-no-grant e = let z : _≡_ {A = ℕ} 0 1 = cc in omega arith
+abbrev pub grantIn : PduHeader → OptU8
+grantIn (PduHeader.Resource h) = h .«slot_granting_element»
+grantIn (PduHeader.Frag f) = OptU8.Absent
+grantIn (PduHeader.End e) = OptU8.Absent
 
-module _ (R : ℕ → OptU8 → Option ℕ → Type 0) where
-  -- if a PDU has a grant, then its number, the grant and this name are tied together
-  abbrev pub GrantIn : Pdu → Option ℕ → Type 0
-  GrantIn p name = (h : ResourceHeader) (octet : ℕ) → header p ≡ PduHeader.Resource h → h .«slot_granting_element» ≡ OptU8.Of octet → R (numberOf (h .address)) (OptU8.Of octet) name
+-- number, grant and name of a PDU's header are tied together
+abbrev pub GrantIn : (ℕ → OptU8 → Option ℕ → Type 0) → Pdu → Option ℕ → Type 0
+GrantIn R p name = R (numberIn (header p)) (grantIn (header p)) name
 
-  -- a PDU with the header of a record
-  resource-in : (r : Record) (name : Option ℕ) → R (r .number) (r .header .«slot_granting_element») name → (p : Pdu) (fill len : ℕ) → header p ≡ PduHeader.Resource (headerOf r fill len) → GrantIn p name
-  resource-in r name k p fill len e h octet q g =
-      let same : headerOf r fill len ≡ h = ap resourceIn (sym e ∙ q) in
-      let number : r .number ≡ numberOf (h .address) = sym (header-number r fill len) ∙ ap (λ (x : ResourceHeader). numberOf (x .address)) same in
-      let grant : r .header .«slot_granting_element» ≡ OptU8.Of octet = sym (header-grant r fill len) ∙ ap (λ (x : ResourceHeader). x .«slot_granting_element») same ∙ g in
-      subst (λ (n : ℕ). R n (OptU8.Of octet) name) number (subst (λ (o : OptU8). R (r .number) o name) grant k)
-
-  -- a PDU with no grant in its header
-  none-in : (p : Pdu) (name : Option ℕ) → resourceIn (header p) .«slot_granting_element» ≡ OptU8.Absent → GrantIn p name
-  none-in p name e h octet q g = absurd (no-grant (sym e ∙ ap (λ (x : PduHeader). resourceIn x .«slot_granting_element») q ∙ g))
-
+module _ (R : ℕ → OptU8 → Option ℕ → Type 0) (bare : (n : ℕ) → R n OptU8.Absent none) where
   -- ---- a record's turn
 
-  abbrev AllIn : Option ℕ → Next → Type 0
-  AllIn name n = All (λ p. GrantIn p name) (n .pdus)
+  abbrev AllIn : Option ℕ → List Pdu → Type 0
+  AllIn name ps = All (λ p. GrantIn R p (nameIn name p)) ps
 
-  one-of : (name : Option ℕ) (a b : Bool) (x y z : Next) → AllIn name x → AllIn name y → AllIn name z → AllIn name (cond a x (cond b y z))
+  one-of : (name : Option ℕ) (a b : Bool) (x y z : Next) → AllIn name (x .pdus) → AllIn name (y .pdus) → AllIn name (z .pdus) → AllIn name (cond a x (cond b y z) .pdus)
   one-of name true b x y z p q r = p
   one-of name false true x y z p q r = q
   one-of name false false x y z p q r = r
 
-  begin-in : (room : ℕ) (r : Record) (sdu : List ℕ) (name : Option ℕ) → R (r .number) (r .header .«slot_granting_element») name → AllIn name (begin room r sdu)
+  -- the header of a record
+  header-in : (r : Record) (name : Option ℕ) → R (r .number) (r .header .«slot_granting_element») name → (fill len : ℕ)
+      → R (numberOf (headerOf r fill len .address)) (headerOf r fill len .«slot_granting_element») name
+  header-in r name k fill len = rw (header-number r fill len, header-grant r fill len) k
+
+  begin-in : (room : ℕ) (r : Record) (sdu : List ℕ) (name : Option ℕ) → R (r .number) (r .header .«slot_granting_element») name → AllIn name (begin room r sdu .pdus)
   unfolding begin beginWith header
   begin-in room r sdu name k =
       let fill : ℕ = fillWanted room (headerSize r + r .bits) in
-      let part-sdu : List ℕ = take (room - headerSize r) sdu in
       one-of name (leb (headerSize r + r .bits) room) (ltb room 32 || ltb room (headerSize r)) _ _ _
-      (resource-in r name k (wholePdu r sdu fill) (fillFlag fill) ((headerSize r + r .bits + fill) / 8) refl, tt)
+      (header-in r name k (fillFlag fill) ((headerSize r + r .bits + fill) / 8), tt)
       tt
-      (resource-in r name k (firstPdu r part-sdu) 0 63 refl, tt)
+      (header-in r name k 0 63, tt)
 
-  continue-in : (room : ℕ) (r : Record) (sdu : List ℕ) (name : Option ℕ) → AllIn name (continue room r sdu)
+  continue-in : (room : ℕ) (r : Record) (sdu : List ℕ) (name : Option ℕ) → AllIn name (continue room r sdu .pdus)
   unfolding continue header
-  continue-in room r sdu name =
-      let rest : ℕ = r .bits - r .sent in
-      let size : ℕ = endOctets rest * 8 in
-      let n : ℕ = min (room - 4) rest in
-      one-of name (leb size room) (ltb room 16) _ _ _
-      (none-in (endPdu (endOctets rest) (part sdu (r .sent) rest) (size - (13 + rest))) name refl, tt)
-      tt
-      (none-in (fragPdu (part sdu (r .sent) n) (room - 4 - n)) name refl, tt)
+  continue-in room r sdu name = one-of name (leb (endOctets (r .bits - r .sent) * 8) room) (ltb room 16) _ _ _ (bare 0, tt) tt (bare 0, tt)
 
-  next-in : (room : ℕ) (r : Record) (sdu : List ℕ) (name : Option ℕ) → R (r .number) (r .header .«slot_granting_element») name → AllIn name (next room r sdu)
+  next-in : (room : ℕ) (r : Record) (sdu : List ℕ) (name : Option ℕ) → R (r .number) (r .header .«slot_granting_element») name → AllIn name (next room r sdu .pdus)
   unfolding next
   next-in room r sdu name k = go (isStarted (r .kind))
     where
-      go : (b : Bool) → AllIn name (cond b (continue room r sdu) (begin room r sdu))
+      go : (b : Bool) → AllIn name (cond b (continue room r sdu) (begin room r sdu) .pdus)
       go true = continue-in room r sdu name
       go false = begin-in room r sdu name k
 
-  null-in : (room : ℕ) → All (λ p. GrantIn p none) (nullIn room)
+  null-in : (room : ℕ) → AllIn none (nullIn room)
   unfolding header
   null-in room = go (ltb room 16)
     where
-      go : (b : Bool) → All (λ p. GrantIn p none) (cond b [] (null ∷ []))
+      go : (b : Bool) → AllIn none (cond b [] (null ∷ []))
       go true = tt
-      go false = (none-in null none refl, tt)
+      go false = (bare _, tt)
 
+  pdus-tied : (room : ℕ) (xs : List (Item NamedSdu)) → All (Tied R) xs → Along (GrantIn R) (sendAll namedSdu room xs .pdus) (namesSent room xs)
+  unfolding sendAll namesSent
+  pdus-tied room [] h = along-map (GrantIn R) (nameIn none) (nullIn room) (null-in room)
+  pdus-tied room (x ∷ xs) h =
+      let s : Next = turn namedSdu room x in
+      along-append (GrantIn R) (s .pdus) (sendAll namedSdu (s .room) xs .pdus) (map (nameIn (x .load .name)) (s .pdus)) (namesSent (s .room) xs)
+      (along-map (GrantIn R) (nameIn (x .load .name)) (s .pdus) (next-in room (x .rec) (x .load .sdu) (x .load .name) (h .0))) (pdus-tied (s .room) xs (h .1))
+
+module _ (R : ℕ → OptU8 → Option ℕ → Type 0) where
   -- ---- a list of records
 
   kept-tied : (o : Outcome) (x : Item NamedSdu) → Tied R x → All (Tied R) (kept o x)
@@ -166,14 +168,6 @@ module _ (R : ℕ → OptU8 → Option ℕ → Type 0) where
   left-tied room (x ∷ xs) h =
       let s : Next = turn namedSdu room x in
       all-append (Tied R) (kept (s .outcome) x) (sendAll namedSdu (s .room) xs .left) (kept-tied (s .outcome) x (h .0)) (left-tied (s .room) xs (h .1))
-
-  pdus-tied : (room : ℕ) (xs : List (Item NamedSdu)) → All (Tied R) xs → Along GrantIn (sendAll namedSdu room xs .pdus) (namesSent room xs)
-  unfolding sendAll namesSent
-  pdus-tied room [] h = along-const GrantIn none (nullIn room) (null-in room)
-  pdus-tied room (x ∷ xs) h =
-      let s : Next = turn namedSdu room x in
-      along-append GrantIn (s .pdus) (sendAll namedSdu (s .room) xs .pdus) (map (λ (p : Pdu). x .load .name) (s .pdus)) (namesSent (s .room) xs)
-      (along-const GrantIn (x .load .name) (s .pdus) (next-in room (x .rec) (x .load .sdu) (x .load .name) (h .0))) (pdus-tied (s .room) xs (h .1))
 
   only-tied : (p : Kind → Bool) (xs : List (Item NamedSdu)) → All (Tied R) xs → All (Tied R) (only p xs)
   unfolding only
@@ -196,6 +190,6 @@ module _ (R : ℕ → OptU8 → Option ℕ → Type 0) where
   unfolding built buildList
   built-left xs h = left-tied 268 (inOrder (mergeNamed [] xs)) (merged-tied xs h)
 
-  pub built-tied : (xs : List (Item NamedSdu)) → All (Tied R) xs → Along GrantIn (built namedLoads xs .pdus) (namesSent 268 (inOrder (mergeNamed [] xs)))
+  pub built-tied : ((n : ℕ) → R n OptU8.Absent none) → (xs : List (Item NamedSdu)) → All (Tied R) xs → Along (GrantIn R) (built namedLoads xs .pdus) (namesSent 268 (inOrder (mergeNamed [] xs)))
   unfolding built buildList
-  built-tied xs h = pdus-tied 268 (inOrder (mergeNamed [] xs)) (merged-tied xs h)
+  built-tied bare xs h = pdus-tied R bare 268 (inOrder (mergeNamed [] xs)) (merged-tied xs h)

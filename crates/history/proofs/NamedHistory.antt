@@ -2,7 +2,7 @@
 use mathlib.Core.Path.{_≡_, refl, sym, ap, subst, _∙_}
 use mathlib.Core.Logic.{_⊎_, inl, inr, ⊎-elim}
 use mathlib.Core.Bool.{Bool, true, false, cond}
-use mathlib.Core.Option.{Option, some}
+use mathlib.Core.Option.{Option, none, some}
 use mathlib.Core.List.{List, [], _∷_, _++_, append-assoc, append-nil}
 use Prim.Native.Nat.{ℕ, zero, suc, _-_, _≤_}
 use native.Mathlib.Omega.{arith}
@@ -33,17 +33,23 @@ use Rattle.history.proofs.Derived.{GrantOf, grant-of}
 use Rattle.history.proofs.WholeSimulation.{RecordPassed, record-passed, ack-passed}
 use Rattle.history.proofs.GrantNames.{built-left}
 
--- a record's grant, if it has one, is that of the request it is named after
-unfoldable pub Faithful : TdmaTime → List Call → ℕ → ℕ → OptU8 → Option ℕ → Type 0
-Faithful x xs t number grant name = (octet : ℕ) → grant ≡ OptU8.Of octet → (k : ℕ) × (name ≡ some k) × Origin x xs t number octet k
+-- a record's grant is that of the request it is named after; without a grant it has no name
+abbrev pub Faithful : TdmaTime → List Call → ℕ → ℕ → OptU8 → Option ℕ → Type 0
+Faithful x xs t number OptU8.Absent none = Unit {0}
+Faithful x xs t number OptU8.Absent (some k) = ⊥
+Faithful x xs t number (OptU8.Of octet) none = ⊥
+Faithful x xs t number (OptU8.Of octet) (some k) = Origin x xs t number octet k
 
 abbrev pub Good : TdmaTime → List Call → ℕ → Item NamedSdu → Type 0
 Good x xs t = Tied (Faithful x xs t)
 
 -- a record without grant
-bare-good : (x : TdmaTime) (xs : List Call) (t : ℕ) (y : Item NamedSdu) → absentU8 (y .rec .header .«slot_granting_element») ≡ true → Good x xs t y
-unfolding Faithful
-bare-good x xs t y e octet g = not-both true refl (sym e ∙ ap absentU8 g)
+bare-good : (x : TdmaTime) (xs : List Call) (t : ℕ) (y : Item NamedSdu) → absentU8 (y .rec .header .«slot_granting_element») ≡ true → y .load .name ≡ none → Good x xs t y
+bare-good x xs t y e n = rw n (go (y .rec .header .«slot_granting_element») e)
+  where
+    go : (grant : OptU8) → absentU8 grant ≡ true → Faithful x xs t (y .rec .number) grant none
+    go OptU8.Absent e = tt
+    go (OptU8.Of octet) e = not-both false e refl
 
 -- ---- one call more
 
@@ -65,8 +71,13 @@ origin-more x xs c o =
     }
 
 good-more : (x : TdmaTime) (xs : List Call) (c : Call) (t : ℕ) (y : Item NamedSdu) → Good x xs t y → Good x (xs ++ c ∷ []) t y
-unfolding Faithful
-good-more x xs c t y p octet g = let (k, e, o) = p octet g in (k, e, origin-more x xs c o)
+good-more x xs c t y = go (y .rec .header .«slot_granting_element») (y .load .name)
+  where
+    go : (grant : OptU8) (name : Option ℕ) → Faithful x xs t (y .rec .number) grant name → Faithful x (xs ++ c ∷ []) t (y .rec .number) grant name
+    go OptU8.Absent none p = tt
+    go OptU8.Absent (some k) p = absurd p
+    go (OptU8.Of octet) none p = absurd p
+    go (OptU8.Of octet) (some k) p = origin-more x xs c p
 
 -- ---- in each of the queues
 
@@ -129,9 +140,6 @@ record Named (x : TdmaTime) (xs : List Call) : Type 0 where
   counted : modelAt x xs .count ≡ length xs
   everywhere : Everywhere x xs (modelAt x xs .queues)
 
-octet-of : {a b : ℕ} → OptU8.Of a ≡ OptU8.Of b → a ≡ b
-octet-of e = cc
-
 module _ (x : TdmaTime) (xs : List Call) (k : modelAt x xs .count ≡ length xs) where
   abbrev m : Model
   m = modelAt x xs
@@ -139,25 +147,22 @@ module _ (x : TdmaTime) (xs : List Call) (k : modelAt x xs .count ≡ length xs)
   -- a request's own grant
   new-good : (a : CapacityRequest) (c d : ℕ) (marker : OptU8) → uplinkModel.modelReply (callOf (request a) m) (m .uplink) ≡ granted c d marker
       → Good x (xs ++ request a ∷ []) (a .timeslot) (item (grantRecord (a .kind) (a .number) (grantOctet c d) marker) (named (m .count)))
-  unfolding Faithful modelReply replyOf
-  new-good a c d marker e octet g = (
-    m .count,
-    refl,
-    record {
-      before = xs;
-      since = [];
-      asker = a;
-      cut = refl;
-      place = sym k;
-      its-timeslot = refl;
-      its-number = refl;
-      capacity = c;
-      delay = d;
-      marker = marker;
-      reply = ap replied e;
-      its-octet = octet-of g;
-    },
-  )
+  unfolding modelReply replyOf
+  new-good a c d marker e =
+      record {
+        before = xs;
+        since = [];
+        asker = a;
+        cut = refl;
+        place = sym k;
+        its-timeslot = refl;
+        its-number = refl;
+        capacity = c;
+        delay = d;
+        marker = marker;
+        reply = ap replied e;
+        its-octet = refl;
+      }
 
   after-request : (a : CapacityRequest) → Everywhere x (xs ++ request a ∷ []) (m .queues) → (reply : UplinkReply) → uplinkModel.modelReply (callOf (request a) m) (m .uplink) ≡ reply
       → Everywhere x (xs ++ request a ∷ []) (afterRequest a (named (m .count)) reply (m .queues))
@@ -176,7 +181,7 @@ module _ (x : TdmaTime) (xs : List Call) (k : modelAt x xs .count ≡ length xs)
       y = item (ackRecord (o .kind) (o .number)) (namedLoads .bare)
 
       go : (b : Bool) → eqb (ackQuestion o (length (queueAt (m .queues) (o .timeslot)))) 0 ≡ b → (t : ℕ) → 1 ≤ t → All (Good x ys t) (queueAt (cond b (joins (m .queues) (o .timeslot) y) (m .queues)) t)
-      go true q = joins-each (Good x ys) (m .queues) (o .timeslot) y (timeslot-low (o .timeslot) (ack-passed o _ (eqb-true _ _ q) .its-timeslot)) (bare-good x ys (o .timeslot) y refl) e
+      go true q = joins-each (Good x ys) (m .queues) (o .timeslot) y (timeslot-low (o .timeslot) (ack-passed o _ (eqb-true _ _ q) .its-timeslot)) (bare-good x ys (o .timeslot) y refl refl) e
       go false q = e
 
   offer-bare : (o : RecordOffer) → legalOffered (resourceOf (recordOf o) 0 0) ≡ true → absentU8 (o .header .«slot_granting_element») ≡ true
@@ -193,7 +198,7 @@ module _ (x : TdmaTime) (xs : List Call) (k : modelAt x xs .count ≡ length xs)
       go : (b : Bool) → eqb (recordQuestion o (length (queueAt (m .queues) (o .timeslot)))) 0 ≡ b → (t : ℕ) → 1 ≤ t → All (Good x ys t) (queueAt (cond b (joins (m .queues) (o .timeslot) y) (m .queues)) t)
       go true q =
           let p : RecordPassed o (length (queueAt (m .queues) (o .timeslot))) = record-passed o _ (eqb-true _ _ q) in
-          joins-each (Good x ys) (m .queues) (o .timeslot) y (timeslot-low (o .timeslot) (p .its-timeslot)) (bare-good x ys (o .timeslot) y (offer-bare o (p .header))) e
+          joins-each (Good x ys) (m .queues) (o .timeslot) y (timeslot-low (o .timeslot) (p .its-timeslot)) (bare-good x ys (o .timeslot) y (offer-bare o (p .header)) refl) e
       go false q = e
 
   after-build : (ys : List Call) → Everywhere x ys (m .queues) → Everywhere x ys (afterBuild namedLoads (m .uplink .now) (m .queues))

@@ -21,7 +21,8 @@ use Rattle.uplink.specs.Request.{msHalfSlots}
 use Rattle.mac_pdus.specs.declared.ResourceHeader.{ResourceHeader}
 use Rattle.mac_pdus.specs.declared.PduHeader.{PduHeader}
 use Rattle.mac_pdus.specs.Legal.{numberOf}
-use Rattle.mac_reader.specs.Reader.{noHeader, readBlock}
+use Rattle.mac_reader.specs.PduList.{placed}
+use Rattle.mac_reader.specs.Reader.{headers, noHeader, replyOf, readBlock}
 use Rattle.sched_core.specs.declared.OwnerReply.{OwnerReply}
 use Rattle.sched_core.specs.declared.UsageReply.{UsageReply}
 use Rattle.sched_core.specs.Station.{tableOf}
@@ -32,7 +33,7 @@ use Rattle.history.specs.UplinkModel as uplink
 use Rattle.history.specs.UplinkClaim.{farthest}
 use Rattle.history.specs.Call.{Call, advance, request, enqueueAck, enqueueRecord, build, read, replied, block}
 use Rattle.history.specs.Queues.{queueAt}
-use Rattle.history.specs.Model.{Model, modelReply, modelAt, namesBuilt}
+use Rattle.history.specs.Model.{Model, modelReply, modelAt, pdusBuilt, namesBuilt}
 use Rattle.history.specs.Memory.{memoryReply, memoryAt}
 
 -- what the model reserves for a request
@@ -78,6 +79,12 @@ DerivedAt m a octet b =
     (reserved a m ≡ msHalfSlots (a .timeslot) (capacityOf octet) (delayOf octet) b)
     ↔ (clock (firstUsable (a .timeslot) (m .uplink .now)) ≡ clock (firstUsable (a .timeslot) b))
 
+-- the grant octet in a header h of a block built after the calls xs is that of the request called `name`, and tells a mobile station what it is to tell
+abbrev pub ItsGrant : TdmaTime → List Call → ResourceHeader → ℕ → ℕ → Type 0
+ItsGrant x xs h octet name =
+    (o : Origin x xs (timeslot (modelAt x xs .uplink .now)) (numberOf (h .address)) octet name)
+    × DerivedAt (modelAt x (o .before)) (o .asker) octet (modelAt x xs .uplink .now)
+
 -- Half-slot y stands reserved under number w: a request of number w reserved it, and its slot is not passed.
 pub record Standing (x : TdmaTime) (xs : List Call) (y : HalfSlot) (w : ℕ) : Type 0 where
   pub before : List Call
@@ -99,14 +106,22 @@ modelEntry m c marker =
 pub record Demand3 (x : TdmaTime) (xs : List Call) : Type 0 where
   -- "The station grants the requests, with those grants, and builds the blocks that the book does, and no others."
   pub replies : (before since : List Call) (c : Call) → xs ≡ before ++ c ∷ since → memoryReply c (memoryAt x before) ≡ modelReply c (modelAt x before)
-  -- each grant that is read in a built block is named after a granted request, and is that request's grant; what was reserved for the request is
+  -- "read in the block as the build left it": a reader takes each built block, and lists the headers that the model wrote, at their bit positions
+  pub listed : (before since : List Call) (b : List ℕ) → xs ≡ before ++ build b ∷ since → (octets tags : List ℕ)
+      → memoryReply (build b) (memoryAt x before) ≡ block octets tags
+      → readBlock 34 octets ≡ replyOf (headers (placed 0 (pdusBuilt (modelAt x before))))
+  -- "In that header [..] the request's grant stands": where the model wrote a grant's name, the reader lists a MAC-RESOURCE with a grant, and it is that
+  -- of the request of this name
+  pub stands : (before since : List Call) (b : List ℕ) → xs ≡ before ++ build b ∷ since → (octets tags : List ℕ)
+      → memoryReply (build b) (memoryAt x before) ≡ block octets tags
+      → (i name : ℕ) → getD (namesBuilt (modelAt x before)) i none ≡ some name
+      → (h : ResourceHeader) × (octet : ℕ) × GrantRead octets i h octet × ItsGrant x before h octet name
+  -- and the other way: each grant that is read in a built block is named after a granted request, and is that request's grant; what was reserved for the request is
   -- what a mobile station derives from the grant, read at the block's slot, exactly when the two first usable slots are one
   pub derived : (before since : List Call) (b : List ℕ) → xs ≡ before ++ build b ∷ since → (octets tags : List ℕ)
       → memoryReply (build b) (memoryAt x before) ≡ block octets tags
       → (i : ℕ) (h : ResourceHeader) (octet : ℕ) → GrantRead octets i h octet
-      → (name : ℕ) × (getD (namesBuilt (modelAt x before)) i none ≡ some name)
-      × (o : Origin x before (timeslot (modelAt x before .uplink .now)) (numberOf (h .address)) octet name)
-      × DerivedAt (modelAt x (o .before)) (o .asker) octet (modelAt x before .uplink .now)
+      → (name : ℕ) × (getD (namesBuilt (modelAt x before)) i none ≡ some name) × ItsGrant x before h octet name
   -- two requests at most 65,535 hyperframes apart reserve no half-slot both
   pub disjoint : (before between since : List Call) (a a′ : CapacityRequest) → xs ≡ before ++ request a ∷ between ++ request a′ ∷ since → slotsAdvanced between ≤ farthest
       → (y : HalfSlot) → List·Memᴰ y (reserved a (modelAt x before)) → List·Memᴰ y (reserved a′ (modelAt x (before ++ request a ∷ between))) → ⊥

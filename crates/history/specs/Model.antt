@@ -6,7 +6,7 @@ use lib.ListN.{take}
 use Rattle.bitbuffer.specs.Bits.{bitsOf}
 use Rattle.tdma_time.specs.declared.TdmaTime.{TdmaTime}
 use Rattle.tdma_time.specs.Time.{timeslot}
-use Rattle.mac_reader.specs.PduList.{Pdu}
+use Rattle.mac_reader.specs.PduList.{Pdu, whole, first, frag, final, null}
 use Rattle.dl_queue.specs.Queue.{Item}
 use Rattle.dl_merge.specs.Merge.{Named, mergeNamed}
 use Rattle.bs_frag.specs.NextPdu.{Next}
@@ -16,7 +16,7 @@ use Rattle.history.specs.UplinkCall.{UplinkCall}
 use Rattle.history.specs.UplinkModel as uplink
 use Rattle.history.specs.UplinkModel.{UplinkModel}
 use Rattle.history.specs.Call.{Call, Reply}
-use Rattle.history.specs.Queues.{Queues, Loads, noQueues, queueAt, uplinkCall, queuesAfter, replyOf}
+use Rattle.history.specs.Queues.{Queues, Loads, noQueues, queueAt, uplinkCall, built, queuesAfter, replyOf}
 
 -- an SDU's bits, and the name of the grant in the header, if it has one: a place in the history
 abbrev pub NamedSdu : Type 0
@@ -72,14 +72,27 @@ modelRun (x ∷ xs) m = modelRun xs (modelAfter x m)
 abbrev pub modelAt : TdmaTime → List Call → Model
 modelAt x xs = modelRun xs (newModel x)
 
--- ---- names in a block
+-- ---- the block that the model builds now
 
--- "a grant keeps its name through merging into the header written": for each PDU the name of the grant of the record that wrote it; the null PDU
--- has none
+abbrev pub queueNow : Model → List (Item NamedSdu)
+queueNow m = queueAt (m .queues) (timeslot (m .uplink .now))
+
+-- its PDUs
+unfoldable pub pdusBuilt : Model → List Pdu
+pdusBuilt m = built namedLoads (queueNow m) .pdus
+
+-- "into the header written": the name goes with the MAC-RESOURCE that has the record's header; MAC-FRAG, MAC-END and the null PDU have none
+abbrev pub nameIn : Option ℕ → Pdu → Option ℕ
+nameIn name (whole r b) = name
+nameIn name (first r b) = name
+nameIn name (frag f b) = none
+nameIn name (final e b) = none
+nameIn name null = none
+
+-- "a grant keeps its name through merging into the header written": for each PDU the name of the grant in its header, or none
 unfoldable pub namesSent : ℕ → List (Item NamedSdu) → List (Option ℕ)
-namesSent room [] = map (λ (p : Pdu). none) (nullIn room)
-namesSent room (x ∷ xs) = let s : Next = turn namedSdu room x in map (λ (p : Pdu). x .load .name) (s .pdus) ++ namesSent (s .room) xs
+namesSent room [] = map (nameIn none) (nullIn room)
+namesSent room (x ∷ xs) = let s : Next = turn namedSdu room x in map (nameIn (x .load .name)) (s .pdus) ++ namesSent (s .room) xs
 
--- those of the block that the model builds now
 unfoldable pub namesBuilt : Model → List (Option ℕ)
-namesBuilt m = namesSent 268 (inOrder (mergeNamed [] (queueAt (m .queues) (timeslot (m .uplink .now)))))
+namesBuilt m = namesSent 268 (inOrder (mergeNamed [] (queueNow m)))
