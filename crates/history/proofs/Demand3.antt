@@ -7,16 +7,16 @@ use Rattle.optional.specs.declared.OptU32.{OptU32}
 use Rattle.tdma_time.specs.declared.TdmaTime.{TdmaTime}
 use Rattle.tdma_time.specs.Time.{Valid, slotOf, clock}
 use Rattle.uplink.specs.HalfSlot.{Half}
-use Rattle.uplink.specs.UplinkEntry.{tableView}
+use Rattle.uplink.specs.UplinkEntry.{entryAt, tableView}
 use Rattle.sched_core.specs.Station.{tableOf}
 use Rattle.history.specs.Call.{Call, build}
-use Rattle.history.specs.UplinkModel.{modelView}
+use Rattle.history.specs.UplinkModel.{modelEntry}
 use Rattle.history.specs.Model.{newModel, modelAt}
 use Rattle.history.specs.Station.{newStation, stationAt}
 use Rattle.history.specs.Memory.{memoryAt}
 use Rattle.history.specs.Demand3.{Standing, Demand3}
 use Rattle.history.proofs.WholeSimulation.{whole-histories, whole-new, whole-reply}
-use Rattle.history.proofs.UplinkOfWhole.{whole-disjoint, whole-view, whole-table}
+use Rattle.history.proofs.UplinkOfWhole.{whole-disjoint, whole-entry, whole-table}
 use Rattle.history.proofs.ReadLaws.{owner-shown, usage-shown}
 use Rattle.history.proofs.BlockGrants.{block-listed, block-stands, block-grants}
 use Rattle.history.proofs.Refinement.{Refines}
@@ -30,12 +30,12 @@ module _ (x : TdmaTime) (v : Valid x) where
       let r : Refines (memoryAt x xs) (stationAt x xs) = refined-history x v xs in
       rw (r .table, r .time) (whole-table x v xs k l h w)
 
-  -- table and model agree on each half of the 68 slots from now on
-  same-view : (xs : List Call) (k : ℕ) → k < 68 → (h : Half)
-      → tableView (tableOf (memoryAt x xs .station)) (slotOf (memoryAt x xs .station .time) + k) h ≡ modelView (modelAt x xs .uplink .taken) (slotOf (memoryAt x xs .station .time) + k) h
-  same-view xs k l h =
+  -- table and model agree on the entries of the 68 slots from now on
+  same-entry : (xs : List Call) (k : ℕ) → k < 68
+      → entryAt (tableOf (memoryAt x xs .station)) (slotOf (memoryAt x xs .station .time) + k) ≡ modelEntry (modelAt x xs .uplink .taken) (slotOf (memoryAt x xs .station .time) + k)
+  same-entry xs k l =
       let r : Refines (memoryAt x xs) (stationAt x xs) = refined-history x v xs in
-      rw (r .table, r .time) (whole-view x v xs k l h)
+      rw (r .table, r .time) (whole-entry x v xs k l)
 
 -- for every valid start time and every list of calls
 pub demand3 : (x : TdmaTime) → Valid x → (xs : List Call) → Demand3 x xs
@@ -47,7 +47,7 @@ demand3 x v xs =
       derived = λ before since b cut octets tags e i h octet g. block-grants x v before b octets tags (sym (history-reply x v before (build b)) ∙ e) i h octet g;
       disjoint = λ before between since a a′ cut l y p q. whole-disjoint x v before between a a′ l y p q;
       table = memory-table x v xs;
-      owners = λ k l half. owner-shown (memoryAt x xs .station) (memory-sound x v xs .station) _ (modelView (modelAt x xs .uplink .taken)) (same-view x v xs k l) half;
-      usages = λ k l. usage-shown (memoryAt x xs .station) (memory-sound x v xs .station) _ (modelView (modelAt x xs .uplink .taken)) (same-view x v xs k l);
+      owners = λ k l half. owner-shown (memoryAt x xs .station) (memory-sound x v xs .station) _ _ (same-entry x v xs k l) half;
+      usages = λ k l. usage-shown (memoryAt x xs .station) (memory-sound x v xs .station) _ _ (same-entry x v xs k l);
       sound = memory-sound x v xs;
     }

@@ -1,21 +1,17 @@
 -- "A grant keeps its name through merging into the header written": what ties number, grant and name of each queued record together ties those of each
 -- header written, and of what stays (`built-tied`). Assumes nothing.
-use mathlib.Core.Path.{_≡_, refl, sym, ap, subst, _∙_}
+use mathlib.Core.Path.{_≡_, refl, ap}
 use mathlib.Core.Bool.{Bool, true, false, _||_, cond}
 use mathlib.Core.Option.{Option, none}
 use mathlib.Core.List.{List, [], _∷_, _++_, map}
-use Prim.Native.Nat.{ℕ, zero, suc, _+_, _-_, _*_, _/_, min, _<_}
-use native.Mathlib.Omega.{arith}
+use Prim.Native.Nat.{ℕ, zero, suc, _+_, _-_, _*_, _/_, _<_}
 use native.Mathlib.Nat.{le-of-suc-le-suc, not-suc-le-zero}
 use lib.Dec.{leb, ltb}
-use lib.ListN.{length, getD, take}
+use lib.ListN.{length, getD}
 use Rattle.optional.specs.declared.OptU8.{OptU8}
 use Rattle.optional.specs.declared.OptU16.{OptU16}
-use Rattle.bitbuffer.specs.Bits.{part}
 use Rattle.fillbits.specs.Fill.{fillWanted}
-use Rattle.mac_pdus.specs.declared.ResourceHeader.{ResourceHeader}
 use Rattle.mac_pdus.specs.declared.PduHeader.{PduHeader}
-use Rattle.mac_pdus.specs.Headers.{nullHeader}
 use Rattle.mac_pdus.specs.Legal.{ssiOnAir, addressOnAir, onAir, numberOf}
 use Rattle.mac_reader.specs.PduList.{Pdu, null, header}
 use Rattle.dl_record.specs.declared.Kind.{Kind}
@@ -25,7 +21,7 @@ use Rattle.dl_queue.specs.Queue.{Item}
 use Rattle.dl_merge.specs.Merge.{isRecord, only, mergeNamed}
 use Rattle.dl_merge.proofs.MergeLaws.{All}
 use Rattle.dl_merge.proofs.NameLaws.{Tied, merge-tied}
-use Rattle.bs_frag.specs.NextPdu.{fillFlag, headerOf, headerSize, wholePdu, firstPdu, fragPdu, endPdu, Next, beginWith, begin, continue, isStarted, next, endOctets}
+use Rattle.bs_frag.specs.NextPdu.{fillFlag, headerOf, headerSize, Next, beginWith, begin, continue, isStarted, next, endOctets}
 use Rattle.bs_frag.specs.declared.Outcome.{Outcome}
 use Rattle.bs_frag.specs.declared.Outcome.the-variants.{Finished, Waiting, Started}
 use Rattle.dl_send.specs.Send.{kept, isUnderway, nullIn, turn, sendAll}

@@ -1,4 +1,5 @@
 pub mod ModelLaws
+pub mod EntryLaws
 pub mod Match
 pub mod QuestionLaws
 pub mod AnswerTable

@@ -7,6 +7,7 @@ use Prim.Native.Nat.{ℕ}
 use native.Mathlib.Omega.{arith}
 use lib.Dec.{eqb}
 use borrow.Author.Tests.{eqb-true, eq-eqb, ne-eqb}
+use Rattle.optional.specs.declared.OptU8.{OptU8}
 use Rattle.optional.specs.declared.OptU32.{OptU32}
 use Rattle.optional.proofs.Tests.{and-left, and-right}
 use Rattle.tdma_time.specs.Time.{clock}
@@ -64,35 +65,35 @@ freed-other (x ∷ xs) u t h k = go (eqb (x .what .time) u) refl (freed-other xs
 
 -- ---- half-slots taken
 
-pub takes-append : (ys zs : List HalfSlot) (who : ℕ) (xs : List Taken) → takes (ys ++ zs) who xs ≡ takes zs who (takes ys who xs)
+pub takes-append : (ys zs : List HalfSlot) (who : ℕ) (marker : OptU8) (xs : List Taken) → takes (ys ++ zs) who marker xs ≡ takes zs who marker (takes ys who marker xs)
 unfolding takes
-takes-append [] zs who xs = refl
-takes-append (y ∷ ys) zs who xs = takes-append ys zs who _
+takes-append [] zs who marker xs = refl
+takes-append (y ∷ ys) zs who marker xs = takes-append ys zs who marker _
 
 -- those of another slot
-pub takes-off : (hs : List Half) (c who : ℕ) (xs : List Taken) (t : ℕ) (h : Half) → clock c ≢ t → takenBy (takes (halvesAt hs c) who xs) t h ≡ takenBy xs t h
+pub takes-off : (hs : List Half) (c who : ℕ) (marker : OptU8) (xs : List Taken) (t : ℕ) (h : Half) → clock c ≢ t → takenBy (takes (halvesAt hs c) who marker xs) t h ≡ takenBy xs t h
 unfolding takes halvesAt
-takes-off [] c who xs t h e = refl
-takes-off (x ∷ hs) c who xs t h e = takes-off hs c who _ t h e ∙ taken-off _ xs t h e
+takes-off [] c who marker xs t h e = refl
+takes-off (x ∷ hs) c who marker xs t h e = takes-off hs c who marker _ t h e ∙ taken-off _ xs t h e
 
 -- what the number holds it keeps
-takes-keeps : (ys : List HalfSlot) (who : ℕ) (xs : List Taken) (t : ℕ) (h : Half) → takenBy xs t h ≡ OptU32.Of who → takenBy (takes ys who xs) t h ≡ OptU32.Of who
+takes-keeps : (ys : List HalfSlot) (who : ℕ) (marker : OptU8) (xs : List Taken) (t : ℕ) (h : Half) → takenBy xs t h ≡ OptU32.Of who → takenBy (takes ys who marker xs) t h ≡ OptU32.Of who
 unfolding takes takenBy
-takes-keeps [] who xs t h e = e
-takes-keeps (y ∷ ys) who xs t h e = takes-keeps ys who _ t h (go (eqb (y .time) t && sameHalf (y .half) h))
+takes-keeps [] who marker xs t h e = e
+takes-keeps (y ∷ ys) who marker xs t h e = takes-keeps ys who marker _ t h (go (eqb (y .time) t && sameHalf (y .half) h))
   where
     go : (b : Bool) → cond b (OptU32.Of who) (takenBy xs t h) ≡ OptU32.Of who
     go true = refl
     go false = e
 
 -- each of them is held by the number
-pub takes-has : (y : HalfSlot) (ys : List HalfSlot) (who : ℕ) (xs : List Taken) → List·Memᴰ y ys → takenBy (takes ys who xs) (y .time) (y .half) ≡ OptU32.Of who
+pub takes-has : (y : HalfSlot) (ys : List HalfSlot) (who : ℕ) (marker : OptU8) (xs : List Taken) → List·Memᴰ y ys → takenBy (takes ys who marker xs) (y .time) (y .half) ≡ OptU32.Of who
 unfolding takes
-takes-has y [] who xs m = absurd (List·Memᴰ·not-nil m)
-takes-has y (z ∷ ys) who xs m = ⊎-elim here (takes-has y ys who _) (List·Memᴰ·cases-cons m)
+takes-has y [] who marker xs m = absurd (List·Memᴰ·not-nil m)
+takes-has y (z ∷ ys) who marker xs m = ⊎-elim here (takes-has y ys who marker _) (List·Memᴰ·cases-cons m)
   where
-    here : y ≡ z → takenBy (takes ys who (record { what = z; who = who } ∷ xs)) (y .time) (y .half) ≡ OptU32.Of who
-    here e = rw e (takes-keeps ys who _ (z .time) (z .half) (taken-on _ xs (z .time) (z .half) refl ∙ rw (same-self (z .half))))
+    here : y ≡ z → takenBy (takes ys who marker (record { what = z; who = who; marker = marker } ∷ xs)) (y .time) (y .half) ≡ OptU32.Of who
+    here e = rw e (takes-keeps ys who marker _ (z .time) (z .half) (taken-on _ xs (z .time) (z .half) refl ∙ rw (same-self (z .half))))
 
 -- ---- what is held stays held where free half-slots are taken
 
@@ -102,10 +103,10 @@ Free xs y = takenBy xs (y .time) (y .half) ≡ OptU32.Absent
 abbrev Other : ℕ → Half → HalfSlot → Type 0
 Other t h y = eqb (y .time) t && sameHalf (y .half) h ≡ false
 
-takes-other : (ys : List HalfSlot) (who : ℕ) (xs : List Taken) (t : ℕ) (h : Half) → All (Other t h) ys → takenBy (takes ys who xs) t h ≡ takenBy xs t h
+takes-other : (ys : List HalfSlot) (who : ℕ) (marker : OptU8) (xs : List Taken) (t : ℕ) (h : Half) → All (Other t h) ys → takenBy (takes ys who marker xs) t h ≡ takenBy xs t h
 unfolding takes takenBy
-takes-other [] who xs t h k = refl
-takes-other (y ∷ ys) who xs t h k = takes-other ys who _ t h (k .1) ∙ rw (k .0)
+takes-other [] who marker xs t h k = refl
+takes-other (y ∷ ys) who marker xs t h k = takes-other ys who marker _ t h (k .1) ∙ rw (k .0)
 
 free-other : (xs : List Taken) (t : ℕ) (h : Half) (w : ℕ) → takenBy xs t h ≡ OptU32.Of w → (y : HalfSlot) → Free xs y → Other t h y
 free-other xs t h w e y f = ⊎-elim clash (λ n. n) (either _)
@@ -117,19 +118,19 @@ free-other xs t h w e y f = ⊎-elim clash (λ n. n) (either _)
         let taken : takenBy xs (y .time) (y .half) ≡ OptU32.Of w = rw (et, eh) e in
         absurd (held-not-free (sym taken ∙ f))
 
-pub takes-stays : (ys : List HalfSlot) (who : ℕ) (xs : List Taken) (t : ℕ) (h : Half) (w : ℕ) → All (Free xs) ys → takenBy xs t h ≡ OptU32.Of w → takenBy (takes ys who xs) t h ≡ OptU32.Of w
-takes-stays ys who xs t h w f e = takes-other ys who xs t h (all-map (free-other xs t h w e) ys f) ∙ e
+pub takes-stays : (ys : List HalfSlot) (who : ℕ) (marker : OptU8) (xs : List Taken) (t : ℕ) (h : Half) (w : ℕ) → All (Free xs) ys → takenBy xs t h ≡ OptU32.Of w → takenBy (takes ys who marker xs) t h ≡ OptU32.Of w
+takes-stays ys who marker xs t h w f e = takes-other ys who marker xs t h (all-map (free-other xs t h w e) ys f) ∙ e
 
 -- ---- what is held was taken now, or held before
 
 abbrev pub halfSlot : ℕ → Half → HalfSlot
 halfSlot t h = record { time = t; half = h }
 
-pub takes-source : (ys : List HalfSlot) (who : ℕ) (xs : List Taken) (t : ℕ) (h : Half) (w : ℕ) → takenBy (takes ys who xs) t h ≡ OptU32.Of w
+pub takes-source : (ys : List HalfSlot) (who : ℕ) (marker : OptU8) (xs : List Taken) (t : ℕ) (h : Half) (w : ℕ) → takenBy (takes ys who marker xs) t h ≡ OptU32.Of w
     → (List·Memᴰ (halfSlot t h) ys × (who ≡ w)) ⊎ (takenBy xs t h ≡ OptU32.Of w)
 unfolding takes takenBy
-takes-source [] who xs t h w e = inr e
-takes-source (y ∷ ys) who xs t h w e = go (takes-source ys who _ t h w e)
+takes-source [] who marker xs t h w e = inr e
+takes-source (y ∷ ys) who marker xs t h w e = go (takes-source ys who marker _ t h w e)
   where
     here : (b : Bool) → eqb (y .time) t && sameHalf (y .half) h ≡ b → cond b (OptU32.Of who) (takenBy xs t h) ≡ OptU32.Of w
         → (List·Memᴰ (halfSlot t h) (y ∷ ys) × (who ≡ w)) ⊎ (takenBy xs t h ≡ OptU32.Of w)
@@ -140,7 +141,7 @@ takes-source (y ∷ ys) who xs t h w e = go (takes-source ys who _ t h w e)
         inl (List·Memᴰ·head (λ i. record { time = et i; half = eh i }), e)
     here false b o = inr o
 
-    go : (List·Memᴰ (halfSlot t h) ys × (who ≡ w)) ⊎ (takenBy (record { what = y; who = who } ∷ xs) t h ≡ OptU32.Of w)
+    go : (List·Memᴰ (halfSlot t h) ys × (who ≡ w)) ⊎ (takenBy (record { what = y; who = who; marker = marker } ∷ xs) t h ≡ OptU32.Of w)
         → (List·Memᴰ (halfSlot t h) (y ∷ ys) × (who ≡ w)) ⊎ (takenBy xs t h ≡ OptU32.Of w)
     go (inl p) = inl (List·Memᴰ·tail (p .0), p .1)
     go (inr o) = here (eqb (y .time) t && sameHalf (y .half) h) refl o

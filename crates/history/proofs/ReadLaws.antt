@@ -1,16 +1,13 @@
--- The calls that only read: refused for their time only, and in the 68 slots from now on they answer what the reference model has taken. Assumes nothing.
-use mathlib.Core.Path.{_≡_, refl, sym, ap, _∙_}
+-- The calls that only read: refused for their time only, and else they answer what the entry of that time holds. Assumes nothing.
+use mathlib.Core.Path.{_≡_, refl, ap, _∙_}
 use mathlib.Core.Bool.{Bool, true, false, cond}
 use Prim.Native.Nat.{ℕ}
 use native.Mathlib.Omega.{arith}
-use Rattle.optional.specs.declared.OptU8.{OptU8}
-use Rattle.optional.specs.declared.OptU32.{OptU32}
 use Rattle.tdma_time.specs.Time.{valid, timeOf, slotOf, clock}
 use Rattle.tdma_time.proofs.TimeLaws.{slotOf-timeOf, timeOf-valid, valid-true}
 use Rattle.uplink.specs.declared.Entry.{Entry}
 use Rattle.uplink.specs.declared.PhyBlockNum.{PhyBlockNum}
-use Rattle.uplink.specs.HalfSlot.{Half, firstHalf, secondHalf, View}
-use Rattle.uplink.specs.UplinkEntry.{entryAt, tableView, ownerOf, usageOf}
+use Rattle.uplink.specs.UplinkEntry.{entryAt, ownerOf, usageOf}
 use Rattle.uplink.proofs.TableLaws.{entry-clock}
 use Rattle.sched_core.specs.declared.Station.{Station}
 use Rattle.sched_core.specs.declared.Refusal.{Refusal}
@@ -43,38 +40,14 @@ read-reply (usage x) m e = rw e (go (valid x))
 
 -- ---- what they answer
 
-module _ (s : Station) (sound : soundStation s ≡ true) (c : ℕ) where
-  entry-read : entryAt (tableOf s) (slotOf (timeOf c)) ≡ entryAt (tableOf s) c
-  entry-read = entry-clock (tableOf s) (slotOf (timeOf c)) c (ap clock (slotOf-timeOf c) ∙ omega arith)
+module _ (s : Station) (sound : soundStation s ≡ true) (c : ℕ) (e : Entry) (same : entryAt (tableOf s) c ≡ e) where
+  entry-read : entryAt (tableOf s) (slotOf (timeOf c)) ≡ e
+  entry-read = entry-clock (tableOf s) (slotOf (timeOf c)) c (ap clock (slotOf-timeOf c) ∙ omega arith) ∙ same
 
-  owner-answered : (half : PhyBlockNum) → ownerCall s (timeOf c) half ≡ OwnerReply.Owner (ownerOf half (entryAt (tableOf s) c))
+  pub owner-shown : (half : PhyBlockNum) → ownerCall s (timeOf c) half ≡ OwnerReply.Owner (ownerOf half e)
   unfolding ownerCall ask
-  owner-answered half = rw (sound, valid-true (timeOf c) (timeOf-valid c), entry-read)
+  owner-shown half = rw (sound, valid-true (timeOf c) (timeOf-valid c), entry-read)
 
-  usage-answered : usageCall s (timeOf c) ≡ UsageReply.Usage (usageOf (entryAt (tableOf s) c))
+  pub usage-shown : usageCall s (timeOf c) ≡ UsageReply.Usage (usageOf e)
   unfolding usageCall ask
-  usage-answered = rw (sound, valid-true (timeOf c) (timeOf-valid c), entry-read)
-
-  -- an owner does not depend on the marker
-  owner-unmarked : (half : PhyBlockNum) (a b : OptU32) (k k′ : OptU8)
-      → ownerOf half (record { ul1 = a; ul2 = b; «usage_marker» = k }) ≡ ownerOf half (record { ul1 = a; ul2 = b; «usage_marker» = k′ })
-  owner-unmarked PhyBlockNum.Block1 a b k k′ = refl
-  owner-unmarked PhyBlockNum.Block2 a b k k′ = refl
-  owner-unmarked PhyBlockNum.Both a b k k′ = refl
-
-  module _ (v : View) (alike : (h : Half) → tableView (tableOf s) c h ≡ v c h) where
-    abbrev halves : OptU8 → Entry
-    halves k = record { ul1 = v c firstHalf; ul2 = v c secondHalf; «usage_marker» = k }
-
-    -- the entry holds what the view shows
-    entry-shown : entryAt (tableOf s) c ≡ halves (entryAt (tableOf s) c .«usage_marker»)
-    entry-shown = rw (sym (alike firstHalf), sym (alike secondHalf))
-
-    pub owner-shown : (half : PhyBlockNum) → ownerCall s (timeOf c) half ≡ OwnerReply.Owner (ownerOf half (halves OptU8.Absent))
-    owner-shown half =
-        owner-answered half
-        ∙ ap (λ (e : Entry). OwnerReply.Owner (ownerOf half e)) entry-shown
-        ∙ ap OwnerReply.Owner (owner-unmarked half (v c firstHalf) (v c secondHalf) _ OptU8.Absent)
-
-    pub usage-shown : (marker : OptU8) × (usageCall s (timeOf c) ≡ UsageReply.Usage (usageOf (halves marker)))
-    usage-shown = (entryAt (tableOf s) c .«usage_marker», usage-answered ∙ ap (λ (e : Entry). UsageReply.Usage (usageOf e)) entry-shown)
+  usage-shown = rw (sound, valid-true (timeOf c) (timeOf-valid c), entry-read)

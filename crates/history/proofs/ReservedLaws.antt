@@ -104,7 +104,7 @@ request-stays a queued m t h w o = go (eqb (question a queued) 0)
     free (grant g) e = grant-free (m .taken) (m .now) (asked a) g (verdict-grant (modelView (m .taken)) (m .now) (asked a) g e)
 
     go : (b : Bool) → takenBy (cond b (settled (asked a) (modelVerdict m (asked a)) m) m .taken) t h ≡ OptU32.Of w
-    go true = takes-stays _ (a .number) (m .taken) t h w (free (modelVerdict m (asked a)) refl) o
+    go true = takes-stays _ (a .number) _ (m .taken) t h w (free (modelVerdict m (asked a)) refl) o
     go false = o
 
 -- what it reserves, and how it stands in the model after it
@@ -125,7 +125,7 @@ reserved-is a queued m y k = go (eqb (question a queued) 0) refl k
         record {
           place = all-at (NearBy (m .now)) _ (grant-near (m .taken) (m .now) (asked a) g given) k;
           free = all-at (Free (m .taken)) _ (grant-free (m .taken) (m .now) (asked a) g given) k;
-          held = rw (q, e) (takes-has y _ (a .number) (m .taken) k);
+          held = rw (q, e) (takes-has y _ (a .number) _ (m .taken) k);
         }
 
     go : (b : Bool) → eqb (question a queued) 0 ≡ b → List·Memᴰ y (cond b (reservedBy (modelView (m .taken)) (a .code) (modelVerdict m (asked a))) []) → Reserved a queued m y

@@ -18,7 +18,7 @@ use Rattle.history.specs.UplinkCall.{CapacityRequest, asked, UplinkCall,
 use Rattle.history.specs.UplinkModel.{UplinkModel, newModel, takes, modelView, modelVerdict, settled, modelAfter, modelReply}
 use Rattle.history.specs.UplinkStation.{UplinkStation, newStation, stationAnswer, stationAfter, stationReply}
 use Rattle.history.specs.UplinkHistory.{modelRun, modelReplies, stationRun, stationReplies}
-use Rattle.history.proofs.Match.{Matched, reserve-matched, advance-matched, new-matched}
+use Rattle.history.proofs.Match.{Matched, same-halves, halves-some, reserve-matched, advance-matched, new-matched}
 use Rattle.history.proofs.AnswerTable.{given-table}
 
 -- station and model are alike
@@ -33,7 +33,7 @@ module _ (s : UplinkStation) (m : UplinkModel) (a : Alike s m) where
   below-cycle = rw (← a .now) (slotOf-below (s .now) (a .valid))
 
   views : AgreeFrom (m .now) (tableView (s .table)) (modelView (m .taken))
-  views c l g h = a .matched .agree c l (omega arith) h
+  views c l g h = same-halves (m .now) (s .table) (m .taken) (a .matched) c l (omega arith) h
 
   same-verdict : (r : Request) → verdict (tableView (s .table)) (slotOf (s .now)) r ≡ modelVerdict m r
   unfolding modelVerdict
@@ -60,8 +60,8 @@ module _ (s : UplinkStation) (m : UplinkModel) (a : Alike s m) where
   after-matched r noRun e = a .matched
   after-matched r tooLate e = a .matched
   after-matched r (grant g) e =
-      rw (same-capacity r g e)
-      (reserve-matched (m .now) _ (r .number) (markerOf (s .markers) r) (g .slots)
+      rw (same-capacity r g e, ← a .markers)
+      (reserve-matched (m .now) _ (halves-some _) (r .number) (markerOf (s .markers) r) (g .slots)
       (granted-near (modelView (m .taken)) (m .now) r g (verdict-grant (modelView (m .taken)) (m .now) r g e)) _ _ (a .matched))
 
   pub answer-is : (r : Request) → stationAnswer s r ≡ given (s .table) (s .markers) r (modelVerdict m r)

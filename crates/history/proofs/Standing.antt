@@ -54,7 +54,7 @@ module _ (t : ℕ) (h : Half) (w : ℕ) where
       → Source m (request a queued ∷ xs) t h w
   unfolding settled advances reserved modelRun
   after-request a queued m xs false e o p = old o p
-  after-request a queued m xs true e o p = ⊎-elim new (λ q. old q p) (takes-source _ (a .number) (m .taken) t h w o)
+  after-request a queued m xs true e o p = ⊎-elim new (λ q. old q p) (takes-source _ (a .number) _ (m .taken) t h w o)
     where
       new : List·Memᴰ (halfSlot t h) (reservedBy (modelView (m .taken)) (a .code) (modelVerdict m (asked a))) × (a .number ≡ w) → Source m (request a queued ∷ xs) t h w
       new q = fresh [] xs a queued refl (q .1) (rw e (q .0)) p

@@ -14,6 +14,7 @@ use Rattle.history.specs.UplinkModel.{newModel, takenBy}
 use Rattle.history.specs.UplinkStation.{newStation}
 use Rattle.history.specs.UplinkHistory.{modelAt, stationAt}
 use Rattle.history.specs.UplinkClaim.{Standing, UplinkClaim}
+use Rattle.history.proofs.Match.{same-halves}
 use Rattle.history.proofs.Simulation.{Alike, histories, new-alike}
 use Rattle.history.proofs.Derived.{derived}
 use Rattle.history.proofs.Disjoint.{disjoint}
@@ -29,7 +30,7 @@ module _ (x : TdmaTime) (v : Valid x) (xs : List UplinkCall) where
       ↔ Standing x xs (record { time = clock (slotOf (stationAt x xs .now) + k); half = h }) w
   table-standing k l h w =
       let same : tableView (stationAt x xs .table) (slotOf (stationAt x xs .now) + k) h ≡ takenBy (modelAt x xs .taken) (clock (slotOf (stationAt x xs .now) + k)) h =
-      rw (alike .now) (alike .matched .agree (modelAt x xs .now + k) (omega arith) (omega arith) h) in
+      rw (alike .now) (same-halves (modelAt x xs .now) (stationAt x xs .table) (modelAt x xs .taken) (alike .matched) (modelAt x xs .now + k) (omega arith) (omega arith) h) in
       (λ e. taken-standing x v xs _ h w (sym same ∙ e), λ s. same ∙ standing-taken x v xs _ w s)
 
 -- for every valid start time and every list of calls

@@ -9,11 +9,12 @@ use Rattle.optional.specs.declared.OptU32.{OptU32}
 use Rattle.tdma_time.specs.declared.TdmaTime.{TdmaTime}
 use Rattle.tdma_time.specs.Time.{Valid, slotOf, clock}
 use Rattle.uplink.specs.HalfSlot.{Half, HalfSlot}
-use Rattle.uplink.specs.UplinkEntry.{tableView}
+use Rattle.uplink.specs.declared.Entry.{Entry}
+use Rattle.uplink.specs.UplinkEntry.{entryAt, holder, tableView}
 use Rattle.history.specs.UplinkCall as uplinkCall
 use Rattle.history.specs.UplinkCall.{CapacityRequest, UplinkCall}
 use Rattle.history.specs.UplinkModel as uplinkModel
-use Rattle.history.specs.UplinkModel.{UplinkModel, modelView, takenBy}
+use Rattle.history.specs.UplinkModel.{UplinkModel, modelEntry, takenBy}
 use Rattle.history.specs.UplinkStation.{Sound}
 use Rattle.history.specs.UplinkHistory as uplinkHistory
 use Rattle.history.specs.UplinkHistory.{advances}
@@ -25,6 +26,7 @@ use Rattle.history.specs.Model as model
 use Rattle.history.specs.Model.{Model, newModel, modelAfter, modelRun, modelAt}
 use Rattle.history.specs.Station.{Station, newStation, stationAfter, stationRun, stationAt}
 use Rattle.history.specs.Demand3.{reserved, slotsAdvanced, Standing}
+use Rattle.history.proofs.EntryLaws.{holder-entry}
 use Rattle.history.proofs.Simulation.{Alike}
 use Rattle.history.proofs.Disjoint.{disjoint}
 use Rattle.history.proofs.Standing.{taken-standing, standing-taken}
@@ -177,12 +179,12 @@ module _ (x : TdmaTime) (v : Valid x) where
         not-passed = rw (same-advances (s .since) m′) (s .not-passed);
       }
 
-  -- table and model agree on each half of the 68 slots from now on
-  pub whole-view : (xs : List Call) (k : ℕ) → k < 68 → (h : Half)
-      → tableView (stationAt x xs .uplink .table) (slotOf (stationAt x xs .uplink .now) + k) h ≡ modelView (modelAt x xs .uplink .taken) (slotOf (stationAt x xs .uplink .now) + k) h
-  whole-view xs k l h =
+  -- table and model agree on the entries of the 68 slots from now on
+  pub whole-entry : (xs : List Call) (k : ℕ) → k < 68
+      → entryAt (stationAt x xs .uplink .table) (slotOf (stationAt x xs .uplink .now) + k) ≡ modelEntry (modelAt x xs .uplink .taken) (slotOf (stationAt x xs .uplink .now) + k)
+  whole-entry xs k l =
       let a : Alike (stationAt x xs .uplink) (modelAt x xs .uplink) = whole-histories xs (newStation x) (newModel x) (whole-new x v) .uplink in
-      rw (a .now) (a .matched .agree (modelAt x xs .uplink .now + k) (omega arith) (omega arith) h)
+      rw (a .now) (a .matched .agree (modelAt x xs .uplink .now + k) (omega arith) (omega arith))
 
   pub whole-table : (xs : List Call) (k : ℕ) → k < 68 → (h : Half) (w : ℕ)
       → (tableView (stationAt x xs .uplink .table) (slotOf (stationAt x xs .uplink .now) + k) h ≡ OptU32.Of w)
@@ -190,7 +192,9 @@ module _ (x : TdmaTime) (v : Valid x) where
   whole-table xs k l h w =
       let s : Station = stationAt x xs in
       let same : tableView (s .uplink .table) (slotOf (s .uplink .now) + k) h ≡ takenBy (uplinkHistory.modelAt x (uplinkCalls xs (newModel x)) .taken) (clock (slotOf (s .uplink .now) + k)) h =
-      whole-view xs k l h ∙ ap (λ (u : UplinkModel). takenBy (u .taken) (clock (slotOf (s .uplink .now) + k)) h) (at-uplink x xs) in (
+      ap (λ (e : Entry). holder e h) (whole-entry xs k l)
+      ∙ holder-entry (modelAt x xs .uplink .taken) (slotOf (s .uplink .now) + k) h
+      ∙ ap (λ (u : UplinkModel). takenBy (u .taken) (clock (slotOf (s .uplink .now) + k)) h) (at-uplink x xs) in (
         λ e. whole-standing xs _ w (taken-standing x v (uplinkCalls xs (newModel x)) _ h w (sym same ∙ e)),
         λ t. same ∙ standing-taken x v (uplinkCalls xs (newModel x)) _ w (uplink-standing xs _ w t),
       )

@@ -13,9 +13,8 @@ use Rattle.optional.specs.declared.OptU32.{OptU32}
 use Rattle.tdma_time.specs.declared.TdmaTime.{TdmaTime}
 use Rattle.tdma_time.specs.Time.{slotOf, timeOf, clock, firstUsable, timeslot}
 use Rattle.slot_codes.specs.Codes.{grantOctet, capacityOf, delayOf}
-use Rattle.uplink.specs.declared.Entry.{Entry}
 use Rattle.uplink.specs.declared.PhyBlockNum.{PhyBlockNum}
-use Rattle.uplink.specs.HalfSlot.{Half, firstHalf, secondHalf, HalfSlot}
+use Rattle.uplink.specs.HalfSlot.{Half, HalfSlot}
 use Rattle.uplink.specs.UplinkEntry.{ownerOf, usageOf, tableView}
 use Rattle.uplink.specs.Request.{msHalfSlots}
 use Rattle.mac_pdus.specs.declared.ResourceHeader.{ResourceHeader}
@@ -98,11 +97,6 @@ pub record Standing (x : TdmaTime) (xs : List Call) (y : HalfSlot) (w : ℕ) : T
   pub soon : off < 68
   pub not-passed : slotsAdvanced since ≤ off
 
--- the entry in which the halves of slot c that the model has taken stand, with a marker or none
-abbrev pub modelEntry : Model → ℕ → OptU8 → Entry
-modelEntry m c marker =
-    record { ul1 = uplink.modelView (m .uplink .taken) c firstHalf; ul2 = uplink.modelView (m .uplink .taken) c secondHalf; «usage_marker» = marker }
-
 pub record Demand3 (x : TdmaTime) (xs : List Call) : Type 0 where
   -- "The station grants the requests, with those grants, and builds the blocks that the book does, and no others."
   pub replies : (before since : List Call) (c : Call) → xs ≡ before ++ c ∷ since → memoryReply c (memoryAt x before) ≡ modelReply c (modelAt x before)
@@ -129,13 +123,13 @@ pub record Demand3 (x : TdmaTime) (xs : List Call) : Type 0 where
   pub table : (k : ℕ) → k < 68 → (h : Half) (w : ℕ)
       → (tableView (tableOf (memoryAt x xs .station)) (slotOf (memoryAt x xs .station .time) + k) h ≡ OptU32.Of w)
       ↔ Standing x xs (record { time = clock (slotOf (memoryAt x xs .station .time) + k); half = h }) w
-  -- asked for a time in these 68 slots, the owner call answers as the model has the halves taken, and so does the usage call, but for the marker,
-  -- which the model does not hold
+  -- asked for a time in these 68 slots, owner call and usage call answer as the model has the slot's halves taken, with the marker that their request
+  -- drew or none
   pub owners : (k : ℕ) → k < 68 → (half : PhyBlockNum)
       → let c = slotOf (memoryAt x xs .station .time) + k in
-      ownerCall (memoryAt x xs .station) (timeOf c) half ≡ OwnerReply.Owner (ownerOf half (modelEntry (modelAt x xs) c OptU8.Absent))
+      ownerCall (memoryAt x xs .station) (timeOf c) half ≡ OwnerReply.Owner (ownerOf half (uplink.modelEntry (modelAt x xs .uplink .taken) c))
   pub usages : (k : ℕ) → k < 68
       → let c = slotOf (memoryAt x xs .station .time) + k in
-      (marker : OptU8) × (usageCall (memoryAt x xs .station) (timeOf c) ≡ UsageReply.Usage (usageOf (modelEntry (modelAt x xs) c marker)))
+      usageCall (memoryAt x xs .station) (timeOf c) ≡ UsageReply.Usage (usageOf (uplink.modelEntry (modelAt x xs .uplink .taken) c))
   -- what the code holds is sound: question 1 is never answered no
   pub sound : SoundMemory (memoryAt x xs)

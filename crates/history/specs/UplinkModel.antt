@@ -3,17 +3,21 @@ use mathlib.Core.Bool.{Bool, true, false, _&&_, cond}
 use mathlib.Core.List.{List, [], _∷_}
 use Prim.Native.Nat.{ℕ, _+_}
 use lib.Dec.{eqb}
+use Rattle.optional.specs.declared.OptU8.{OptU8}
 use Rattle.optional.specs.declared.OptU32.{OptU32}
 use Rattle.tdma_time.specs.declared.TdmaTime.{TdmaTime}
 use Rattle.tdma_time.specs.Time.{slotOf, clock}
+use Rattle.uplink.specs.declared.Entry.{Entry}
 use Rattle.uplink.specs.HalfSlot.{Half, firstHalf, secondHalf, HalfSlot, View}
-use Rattle.uplink.specs.Request.{Request, Verdict, verdict, reservedBy, countersAfter, replyTo}
+use Rattle.uplink.specs.Request.{Request, Verdict, verdict, reservedBy, markerOf, countersAfter, replyTo}
+use Rattle.dl_merge.specs.Merge.{orElse}
 use Rattle.history.specs.UplinkCall.{CapacityRequest, asked, UplinkCall, advance, request, other, UplinkReply, done, refused, asReply, question}
 
--- a half-slot that is taken, and the address number that it is taken under
+-- a half-slot that is taken, the address number that it is taken under, and the marker that its request drew, or none
 pub record Taken : Type 0 where
   pub what : HalfSlot
   pub who : ℕ
+  pub marker : OptU8
 
 -- now's slot, the timeslots' marker counters, and the half-slots taken
 pub record UplinkModel : Type 0 where
@@ -41,15 +45,24 @@ takenBy (x ∷ xs) t h = let rest : OptU32 = takenBy xs t h in cond (eqb (x .wha
 abbrev pub modelView : List Taken → View
 modelView xs c h = takenBy xs (clock c) h
 
+-- the marker with which a half of the slot of a time is taken, or none
+unfoldable pub markedBy : List Taken → ℕ → OptU8
+markedBy [] t = OptU8.Absent
+markedBy (x ∷ xs) t = let rest : OptU8 = markedBy xs t in cond (eqb (x .what .time) t) (orElse (x .marker) rest) rest
+
+-- the entry of slot c in which what is taken stands
+abbrev pub modelEntry : List Taken → ℕ → Entry
+modelEntry xs c = record { ul1 = modelView xs c firstHalf; ul2 = modelView xs c secondHalf; «usage_marker» = markedBy xs (clock c) }
+
 -- "frees the half-slots of the slot left"
 unfoldable pub freed : List Taken → ℕ → List Taken
 freed [] t = []
 freed (x ∷ xs) t = let rest : List Taken = freed xs t in cond (eqb (x .what .time) t) rest (x ∷ rest)
 
--- "stand as taken under its address number"
-unfoldable pub takes : List HalfSlot → ℕ → List Taken → List Taken
-takes [] who xs = xs
-takes (y ∷ ys) who xs = takes ys who (record { what = y; who = who } ∷ xs)
+-- "stand as taken under its address number", with "any marker drawn"
+unfoldable pub takes : List HalfSlot → ℕ → OptU8 → List Taken → List Taken
+takes [] who marker xs = xs
+takes (y ∷ ys) who marker xs = takes ys who marker (record { what = y; who = who; marker = marker } ∷ xs)
 
 -- ---- a request
 
@@ -69,7 +82,7 @@ settled r w m =
     record {
       now = m .now;
       markers = countersAfter (m .markers) r w;
-      taken = takes (reservedBy (modelView (m .taken)) (r .code) w) (r .number) (m .taken);
+      taken = takes (reservedBy (modelView (m .taken)) (r .code) w) (r .number) (markerOf (m .markers) r) (m .taken);
     }
 
 -- ---- a call
