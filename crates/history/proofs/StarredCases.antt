@@ -11,9 +11,9 @@ use Rattle.mac_pdus.specs.Headers.{addressType, headerLength, optBits, addressB
 use Rattle.mac_pdus.specs.Legal.{addressOnAir, onAir}
 use Rattle.mac_reader.specs.PduList.{header, body, pduBits}
 use Rattle.bs_frag.specs.NextPdu.{fillFlag, headerOf, headerSize, beginWith, begin, continue, next}
-use Rattle.dl_send.specs.Carried.{unfilled, sduIn}
+use Rattle.dl_send.specs.Carried.{unfilled, sduIn, over}
 use Rattle.history.specs.StarredCases.{pdusShown, sentIn, sduCases, starredCases}
 
 pub all-starred-cases : Holds starredCases
-unfolding asked twoMarkers uplinkCases usable firstOf framesOn usableOf runs onePast earliest runAt found entryAt store withHalves reserve candidates earliestRun settle verdict capacity halvesOf nextMarker markerOf markersAfter replyTo tableAfter countersAfter given answer pdusShown sentIn sduCases next begin beginWith continue headerSize headerOf onAir addressOnAir headerLength addressType fillFlag fillBits fromLastSet unfilled sduIn body part valueBits optBits addressBits fixedBits elementsBits optChanAllocBits resourceBits fragBits endBits headerBits header pduBits
+unfolding asked twoMarkers uplinkCases usable firstOf framesOn usableOf runs onePast earliest runAt found entryAt store withHalves reserve candidates earliestRun settle verdict capacity halvesOf nextMarker markerOf markersAfter replyTo tableAfter countersAfter given answer pdusShown sentIn sduCases next begin beginWith continue headerSize headerOf onAir addressOnAir headerLength addressType fillFlag fillBits fromLastSet unfilled sduIn over body part valueBits optBits addressBits fixedBits elementsBits optChanAllocBits resourceBits fragBits endBits headerBits header pduBits
 all-starred-cases = refl

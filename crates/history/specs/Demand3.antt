@@ -78,7 +78,8 @@ DerivedAt m a octet b =
     (reserved a m ≡ msHalfSlots (a .timeslot) (capacityOf octet) (delayOf octet) b)
     ↔ (clock (firstUsable (a .timeslot) (m .uplink .now)) ≡ clock (firstUsable (a .timeslot) b))
 
--- the grant octet in a header h of a block built after the calls xs is that of the request called `name`, and tells a mobile station what it is to tell
+-- the grant octet in a header h of the block built after the calls xs is that of the request called `name`, and what a mobile station derives from it,
+-- read at the block's slot, is as above
 abbrev pub ItsGrant : TdmaTime → List Call → ResourceHeader → ℕ → ℕ → Type 0
 ItsGrant x xs h octet name =
     (o : Origin x xs (timeslot (modelAt x xs .uplink .now)) (numberOf (h .address)) octet name)
@@ -104,14 +105,14 @@ pub record Demand3 (x : TdmaTime) (xs : List Call) : Type 0 where
   pub listed : (before since : List Call) (b : List ℕ) → xs ≡ before ++ build b ∷ since → (octets tags : List ℕ)
       → memoryReply (build b) (memoryAt x before) ≡ block octets tags
       → readBlock 34 octets ≡ replyOf (headers (placed 0 (pdusBuilt (modelAt x before))))
-  -- "In that header [..] the request's grant stands": where the model wrote a grant's name, the reader lists a MAC-RESOURCE with a grant, and it is that
-  -- of the request of this name
+  -- "In that header [..] the request's grant stands": where the model wrote a grant's name, the reader lists a MAC-RESOURCE with the grant of the
+  -- request of this name
   pub stands : (before since : List Call) (b : List ℕ) → xs ≡ before ++ build b ∷ since → (octets tags : List ℕ)
       → memoryReply (build b) (memoryAt x before) ≡ block octets tags
       → (i name : ℕ) → getD (namesBuilt (modelAt x before)) i none ≡ some name
       → (h : ResourceHeader) × (octet : ℕ) × GrantRead octets i h octet × ItsGrant x before h octet name
-  -- and the other way: each grant that is read in a built block is named after a granted request, and is that request's grant; what was reserved for the request is
-  -- what a mobile station derives from the grant, read at the block's slot, exactly when the two first usable slots are one
+  -- and the other way: each grant that is read in a built block is named after a granted request, and is that request's grant; what was reserved for
+  -- the request is what a mobile station derives from the grant, read at the block's slot, exactly when the two first usable slots are one
   pub derived : (before since : List Call) (b : List ℕ) → xs ≡ before ++ build b ∷ since → (octets tags : List ℕ)
       → memoryReply (build b) (memoryAt x before) ≡ block octets tags
       → (i : ℕ) (h : ResourceHeader) (octet : ℕ) → GrantRead octets i h octet

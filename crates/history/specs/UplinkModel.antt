@@ -13,7 +13,7 @@ use Rattle.uplink.specs.Request.{Request, Verdict, verdict, reservedBy, markerO
 use Rattle.dl_merge.specs.Merge.{orElse}
 use Rattle.history.specs.UplinkCall.{CapacityRequest, asked, UplinkCall, advance, request, other, UplinkReply, done, refused, asReply, question}
 
--- a half-slot that is taken, the address number that it is taken under, and the marker that its request drew, or none
+-- a half-slot that is taken, and the address number that it is taken under; beside it, for the usage call, the marker that its request drew, or none
 pub record Taken : Type 0 where
   pub what : HalfSlot
   pub who : ℕ
@@ -59,7 +59,7 @@ unfoldable pub freed : List Taken → ℕ → List Taken
 freed [] t = []
 freed (x ∷ xs) t = let rest : List Taken = freed xs t in cond (eqb (x .what .time) t) rest (x ∷ rest)
 
--- "stand as taken under its address number", with "any marker drawn"
+-- "stand as taken under its address number"
 unfoldable pub takes : List HalfSlot → ℕ → OptU8 → List Taken → List Taken
 takes [] who marker xs = xs
 takes (y ∷ ys) who marker xs = takes ys who marker (record { what = y; who = who; marker = marker } ∷ xs)
