@@ -199,7 +199,7 @@ addressLength (SsiEventLabel a e) = 37
 addressLength (SsiUsageMarker a m) = 33
 addressLength (SmiEventLabel a e) = 37
 
--- "channel allocation (25, or 27 with frame-18 pattern)"
+-- "channel allocation (25, or 27 with frame-18 pattern, ..)"
 abbrev pub chanAllocLength : OptU8 → ℕ
 chanAllocLength OptU8.Absent = 25
 chanAllocLength (OptU8.Of f) = 27

@@ -180,7 +180,7 @@ onAir h =
       «chan_alloc_element» = h .«chan_alloc_element»;
     }
 
--- ---- and back: "address types 1, 5 and 6 read as SSI"
+-- ---- and back: address types 1, 5 and 6 are read as SSI, since the kind is not on the air
 
 abbrev pub kindOf : Address → AddressKind
 kindOf Address.Null = AddressKind.Absent
