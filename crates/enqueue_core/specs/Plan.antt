@@ -31,7 +31,7 @@ pub record Planned {R : Type 0} (number : R → ℕ) (call : Memory → Outcome 
   pub joins : number reply ≡ 0 → place < 64
   pub refused : 1 ≤ number reply → (place ≡ 64) × (r ≡ emptyRecord) × (after ≡ before)
 
--- a refusal
+-- a call that is refused
 abbrev pub refusedPlan : Refusal → Station → QueuePlan
 refusedPlan x s = record { reply = Reply.Refused x; station = s; place = 64; «record» = emptyRecord }
 
