@@ -1,4 +1,5 @@
-// A request for capacity: the questions in order, the search, and the grant queued.
+// A request for capacity: the questions in order, the search, and the grant queued. A plan is what it leaves to a caller that keeps
+// the queue elsewhere.
 use dl_record::Record;
 use optional::OptU8;
 use sched_core::Refusal;
@@ -13,24 +14,35 @@ ghost use Prim.Native.Nat.{_-_, _≤_, _<_};
 ghost use lib.ListN.{length, getD};
 ghost use Rattle.tdma_time.specs.Time.{Valid};
 ghost use Rattle.uplink.specs.declared.CapReply.{CapReply};
+ghost use Rattle.sched_core.specs.declared.Refusal.{Refusal};
 ghost use Rattle.sched_core.specs.declared.RequestReply.{RequestReply};
 ghost use Rattle.sched_core.specs.Questions.{soundStation, memory};
-ghost use Rattle.sched_core.specs.Calls.{grantQueued, requestAnswered, requestCall, requestOutcome};
+ghost use Rattle.sched_core.specs.Calls.{grantQueued, requestCall, requestOutcome};
+ghost use Rattle.request_core.specs.RequestPlan.{refusedRequest, Grants, requestLeaves, RequestPlanned};
 
-fn request_refused(refusal: Refusal, station: Station, records: [Record; 64]) -> RequestCoreAnswer
-    ensures { λ r. ⌜ r ≡ record { reply = RequestReply.Refused refusal; station = station; records = records } ⌝ }
+// The reply, the station after the request, and the grant that joins the queue with its place; where none joins, the place is 64,
+// past the queue, and the record the empty one.
+pub struct RequestPlan {
+    pub reply: RequestReply,
+    pub station: Station,
+    pub place: usize,
+    pub record: Record,
+}
+
+fn request_refused(refusal: Refusal, station: Station) -> RequestPlan
+    ensures { λ r. ⌜ r ≡ refusedRequest refusal station ⌝ }
 {
-    RequestCoreAnswer {
+    RequestPlan {
         reply: RequestReply::Refused(refusal),
         station: station,
-        records: records,
+        place: 64,
+        record: Record::EMPTY,
     }
 }
 
 // A grant is queued; table and counters are those of the answer.
 fn queue_grant(
     station: Station,
-    records: [Record; 64],
     timeslot: u8,
     kind: u8,
     number: u32,
@@ -38,17 +50,16 @@ fn queue_grant(
     capacity: u8,
     delay: u8,
     usage_marker: OptU8,
-) -> RequestCoreAnswer
+) -> RequestPlan
     requires { ⌜ (1 ≤ timeslot) × (timeslot ≤ 4) × (getD (station .queued) (timeslot - 1) 0 < 16) ⌝ }
     requires { ⌜ (capacity ≤ 15) × (delay ≤ 13) ⌝ }
-    ensures { λ r. ⌜ r ≡ grantQueued station records timeslot kind number answer (CapReply.Granted capacity delay «usage_marker») ⌝ }
+    ensures { λ r. ⌜ Grants r (λ rs. grantQueued station rs timeslot kind number answer (CapReply.Granted capacity delay «usage_marker»)) ⌝ }
 {
-    let queued = station.queued;
-    let t = (timeslot - 1) as usize;
     let octet = capacity * 16 + delay;
-    let q = dl_queue::enqueue_grant(queued, records, t, kind, number, octet, usage_marker);
-    let counts = q.counts;
-    let after = q.records;
+    let grant = dl_record::grant_record(kind, number, octet, usage_marker);
+    let queued = station.queued;
+    let place = enqueue_core::next_place(queued, timeslot);
+    let counts = enqueue_core::one_more(queued, timeslot);
     let time = station.time;
     let row1 = answer.row1;
     let row2 = answer.row2;
@@ -64,29 +75,23 @@ fn queue_grant(
         next_usage_marker: counters,
         queued: counts,
     };
-    RequestCoreAnswer {
+    RequestPlan {
         reply: RequestReply::Granted {
             capacity: capacity,
             delay: delay,
             usage_marker: usage_marker,
         },
         station: next,
-        records: after,
+        place: place,
+        record: grant,
     }
 }
 
 // Questions 9 and 10, then the grant is queued.
-fn request_answered(
-    station: Station,
-    records: [Record; 64],
-    timeslot: u8,
-    code: u8,
-    kind: u8,
-    number: u32,
-) -> RequestCoreAnswer
+fn request_answered(station: Station, timeslot: u8, code: u8, kind: u8, number: u32) -> RequestPlan
     requires { ⌜ Valid (station .time) ⌝ }
     requires { ⌜ (1 ≤ timeslot) × (timeslot ≤ 4) × (getD (station .queued) (timeslot - 1) 0 < 16) ⌝ }
-    ensures { λ r. ⌜ r ≡ requestAnswered station records timeslot code kind number ⌝ }
+    ensures { λ r. ⌜ RequestPlanned (requestLeaves timeslot code kind number) station r ⌝ }
 {
     let now = station.time;
     let counters = station.next_usage_marker;
@@ -94,15 +99,14 @@ fn request_answered(
     let answer = ul_grant::ul_process_cap_req(table, counters, now, timeslot, code, number);
     let reply = answer.reply;
     match reply {
-        CapReply::NoRun => request_refused(Refusal::NoRun, station, records),
-        CapReply::TooLate => request_refused(Refusal::TooLate, station, records),
+        CapReply::NoRun => request_refused(Refusal::NoRun, station),
+        CapReply::TooLate => request_refused(Refusal::TooLate, station),
         CapReply::Granted {
             capacity,
             delay,
             usage_marker,
         } => queue_grant(
             station,
-            records,
             timeslot,
             kind,
             number,
@@ -111,6 +115,38 @@ fn request_answered(
             delay,
             usage_marker,
         ),
+    }
+}
+
+// A request for capacity, after questions 1 and 2.
+pub fn request_plan(station: Station, timeslot: u8, code: u8, kind: u8, number: u32) -> RequestPlan
+    requires { ⌜ soundStation station ≡ true ⌝ }
+    ensures { λ r. ⌜ RequestPlanned (λ m. requestCall m timeslot code kind number) station r ⌝ }
+{
+    if !sched_core::timeslot_is_legal(timeslot) {
+        return request_refused(Refusal::Timeslot, station);
+    }
+    if 15 < code {
+        return request_refused(Refusal::Requirement, station);
+    }
+    if !dl_record::address_is_legal(kind, number) {
+        return request_refused(Refusal::Address, station);
+    }
+    let queued = station.queued;
+    if !sched_core::has_room(queued, timeslot) {
+        return request_refused(Refusal::QueueFull, station);
+    }
+    request_answered(station, timeslot, code, kind, number)
+}
+
+// Records or cells that are not sound: nothing is altered.
+fn unsound(station: Station, records: [Record; 64]) -> RequestCoreAnswer
+    ensures { λ r. ⌜ r ≡ record { reply = RequestReply.Refused Refusal.Unsound; station = station; records = records } ⌝ }
+{
+    RequestCoreAnswer {
+        reply: RequestReply::Refused(Refusal::Unsound),
+        station: station,
+        records: records,
     }
 }
 
@@ -130,19 +166,16 @@ pub fn request_core(
 {
     let queued = station.queued;
     if !dl_queue::queue_is_sound(queued, records, store) {
-        return request_refused(Refusal::Unsound, station, records);
+        return unsound(station, records);
     }
-    if !sched_core::timeslot_is_legal(timeslot) {
-        return request_refused(Refusal::Timeslot, station, records);
+    let p = request_plan(station, timeslot, code, kind, number);
+    let reply = p.reply;
+    let next = p.station;
+    let r = p.record;
+    let after = enqueue_core::with_record(records, p.place, r);
+    RequestCoreAnswer {
+        reply: reply,
+        station: next,
+        records: after,
     }
-    if 15 < code {
-        return request_refused(Refusal::Requirement, station, records);
-    }
-    if !dl_record::address_is_legal(kind, number) {
-        return request_refused(Refusal::Address, station, records);
-    }
-    if !sched_core::has_room(queued, timeslot) {
-        return request_refused(Refusal::QueueFull, station, records);
-    }
-    request_answered(station, records, timeslot, code, kind, number)
 }

@@ -1,9 +1,17 @@
 -- No run, a run too late, or a grant that is queued. Assumes nothing.
-use mathlib.Core.Path.{_≡_, _∙_}
-use borrow.Author.Needs.{needs}
+use mathlib.Core.Path.{_≡_, refl, sym, ap, _∙_, subst}
+use mathlib.Core.List.{[]}
 use Rattle.uplink.specs.Request.{answer}
+use Rattle.sched_core.specs.declared.Refusal.{Refusal}
+use Rattle.sched_core.specs.declared.RequestReply.{RequestReply}
 use Rattle.sched_core.specs.Station.{tableOf}
+use Rattle.sched_core.specs.Questions.{Memory}
+use Rattle.sched_core.specs.Calls.{Outcome, requestNumber, requestOutcome}
 use Rattle.sched_core.proofs.GrantLaws.{answered-no-run, answered-too-late, answered-grant, grant-fits}
+use Rattle.enqueue_core.proofs.PlanLaws.{refused-planned, joined-planned}
+use Rattle.request_core.specs.declared.RequestPlan.{RequestPlan}
+use Rattle.request_core.specs.RequestPlan.{requestLeaves, RequestPlanned}
+use borrow.Author.Needs.{needs}
 use Rattle.request_core.proofs.request_answered.Statement.{statement}
 use Rattle.request_core.proofs.request_answered.Tie as tie
 
@@ -12,30 +20,43 @@ searched : (c : tie.After-ul-process-cap-req) → let a = c .before .before .bef
     c .ul-process-cap-req .result ≡ answer (tableOf (a .station)) (a .station .«next_usage_marker») (a .station .time) (record { timeslot = a .timeslot; code = a .code; number = a .number })
 searched c = rw (c .before .table-of .ensures) at (c .ul-process-cap-req .ensures)
 
+abbrev leaves : tie.Start → Memory → Outcome RequestReply
+leaves s = requestLeaves (s .args .timeslot) (s .args .code) (s .args .kind) (s .args .number)
+
+abbrev Plans : tie.Start → RequestPlan → Type 0
+Plans s p = RequestPlanned (leaves s) (s .args .station) p
+
 queue-grant-requires : tie.Need-queue-grant-requires
 queue-grant-requires c κs =
     let k = c .before .before .before in
     let s = k .before .before .before .before in
     let a = s .args in
-    (s .pre .1, grant-fits (a .station) (a .records) (a .timeslot) (a .code) (a .kind) (a .number) _ (searched k) _ _ _ (c .before .reply .given .1))
+    (s .pre .1, grant-fits (a .station) [] (a .timeslot) (a .code) (a .kind) (a .number) _ (searched k) _ _ _ (c .before .reply .given .1))
 
 returns : tie.Need-returns
 returns c =
     let k = c .before .before .before in
-    let a = k .before .before .before .before .args in
-    c .request-refused .ensures ∙ answered-no-run (a .station) (a .records) (a .timeslot) (a .code) (a .kind) (a .number) _ (searched k) (c .before .enum-told .given .1)
+    let s = k .before .before .before .before in
+    let a = s .args in
+    subst (Plans s) (sym (c .request-refused .ensures))
+    (λ st. refused-planned requestNumber (a .station) st (leaves s) RequestReply.Refused Refusal.NoRun refl (λ rs q. ap (λ x. requestOutcome x st) (answered-no-run (a .station) rs (a .timeslot) (a .code) (a .kind) (a .number) _ (searched k) (c .before .enum-told .given .1))))
 
 returns-2 : tie.Need-returns-2
 returns-2 c =
     let k = c .before .before .before in
-    let a = k .before .before .before .before .args in
-    c .request-refused2 .ensures ∙ answered-too-late (a .station) (a .records) (a .timeslot) (a .code) (a .kind) (a .number) _ (searched k) (c .before .enum-told2 .given .1)
+    let s = k .before .before .before .before in
+    let a = s .args in
+    subst (Plans s) (sym (c .request-refused2 .ensures))
+    (λ st. refused-planned requestNumber (a .station) st (leaves s) RequestReply.Refused Refusal.TooLate refl (λ rs q. ap (λ x. requestOutcome x st) (answered-too-late (a .station) rs (a .timeslot) (a .code) (a .kind) (a .number) _ (searched k) (c .before .enum-told2 .given .1))))
 
 returns-3 : tie.Need-returns-3
 returns-3 c =
     let k = c .before .before .before .before in
-    let a = k .before .before .before .before .args in
-    c .queue-grant .ensures ∙ answered-grant (a .station) (a .records) (a .timeslot) (a .code) (a .kind) (a .number) _ (searched k) _ _ _ (c .before .before .reply .given .1)
+    let s = k .before .before .before .before in
+    let a = s .args in
+    let g = c .queue-grant .ensures in
+    λ st. joined-planned requestNumber (a .station) st (leaves s) st _ _ _ _ (g .granted) (g .joins)
+    (λ rs. ap (λ x. requestOutcome x st) (g .whole rs ∙ answered-grant (a .station) rs (a .timeslot) (a .code) (a .kind) (a .number) _ (searched k) _ _ _ (c .before .before .reply .given .1)))
 
 pub request-answered-spec : {M : Type 1} → statement M
 request-answered-spec =
