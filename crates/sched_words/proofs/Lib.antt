@@ -1,3 +1,6 @@
 pub mod WordLaws
+pub mod FitLaws
+pub mod FitStation
 pub mod RoundTrip
+pub mod FitRecord
 pub mod QueueRoundTrip

@@ -358,7 +358,7 @@ unfolding soundPlaces soundPlace
 no-place zero s = rw not-empty
 no-place (suc n) s = rw not-sound
 
-no-queue : (n : ℕ) (ns s : List ℕ) → soundQueue (n ∷ ns) (replicate 64 noRecord) s ≡ true → ⊥
+pub no-queue : (n : ℕ) (ns s : List ℕ) → soundQueue (n ∷ ns) (replicate 64 noRecord) s ≡ true → ⊥
 unfolding soundQueue
 no-queue n ns s h =
     not-both (soundPlaces 16 n (replicate 64 noRecord) s)

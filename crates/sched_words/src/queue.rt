@@ -8,8 +8,9 @@ use mac_pdus::OptChanAlloc;
 use optional::OptU16;
 ghost use mathlib.Core.Path.{_≡_};
 ghost use Prim.Native.Nat.{_≤_};
-ghost use lib.ListN.{length};
-ghost use Rattle.sched_words.specs.Words.{wordAt, allocWords, allocFrom, headerFrom, recordWords, recordRead, noRecord, recordFrom, queueWords, recordsRead, queueFrom};
+ghost use lib.ListN.{length, drop};
+ghost use Rattle.sched_words.specs.Words.{sameWords, wordAt, allocWords, allocFrom, headerFrom, recordWords, recordRead, noRecord, recordFrom, queueWords, recordsRead, queueFrom};
+ghost use Rattle.sched_words.specs.Front.{begins};
 
 fn alloc_words(o: OptChanAlloc) -> [u32; 10]
     ensures { λ r. ⌜ r ≡ allocWords o ⌝ }
@@ -195,17 +196,57 @@ fn no_record() -> Record
     }
 }
 
+// ---- words that are a record's: each fits its field
+
+fn alloc_fits(words: &[u32]) -> bool
+    requires { ⌜ length (now words) ≡ 23 ⌝ }
+    ensures { λ r. ⌜ r ≡ begins (allocWords (allocFrom (wordAt (now (words .entry)) 11) (now (words .entry)))) (drop 11 (now (words .entry))) ⌝ }
+{
+    if words[11] == 0 {
+        let any = word::any_word(&words[12..21]);
+        return any == 0;
+    }
+    (words[11] == 1)
+        & (words[12] < 256)
+        & (words[13] < 256)
+        & (words[14] < 256)
+        & (words[15] < 256)
+        & (words[16] < 256)
+        & (words[17] < 65536)
+        & (words[18] < 256)
+        & (words[19] < 256)
+        & (words[20] <= 256)
+}
+
+// Are 23 words those of the record that is read from them? Every word is a number.
+pub fn record_fits(words: &[u32]) -> bool
+    requires { ⌜ length (now words) ≡ 23 ⌝ }
+    ensures { λ r. ⌜ r ≡ sameWords (recordWords (recordRead (now (words .entry)))) (now (words .entry)) ⌝ }
+{
+    (words[0] < 5)
+        & (words[1] < 256)
+        & (words[3] <= 65536)
+        & (words[4] < 256)
+        & (words[5] < 256)
+        & (words[6] < 256)
+        & (words[7] <= 65536)
+        & (words[8] <= 256)
+        & (words[9] <= 256)
+        & (words[10] <= 256)
+        & alloc_fits(words)
+        & (words[21] < 65536)
+        & (words[22] < 65536)
+}
+
 // The record of 23 words.
 pub fn record_from(words: &[u32]) -> Record
     requires { ⌜ length (now words) ≡ 23 ⌝ }
     ensures { λ r. ⌜ r ≡ recordFrom (now (words .entry)) ⌝ }
 {
-    let r = record_read(words);
-    let again = record_words(r);
-    if !word::same_words(&again, words) {
+    if !record_fits(words) {
         return no_record();
     }
-    r
+    record_read(words)
 }
 
 // The 64 records of 1,472 words.

@@ -6,7 +6,8 @@ use uplink::Entry;
 ghost use mathlib.Core.Path.{_≡_};
 ghost use Prim.Native.Nat.{_+_, _≤_};
 ghost use lib.ListN.{length};
-ghost use Rattle.sched_words.specs.Words.{Stored, timeWords, timeFrom, entryWords, entryFrom, rowWords, rowFrom, fourFrom, tableWords, stationWords, stationRead, noStation, stationFrom};
+ghost use Rattle.sched_words.specs.Words.{Stored, joined, parts, sameWords, timeWords, timeFrom, entryWords, entryFrom, rowWords, rowFrom, fourFrom, tableWords, stationWords, stationRead, stationFrom};
+ghost use Rattle.sched_words.specs.Front.{begins};
 
 fn time_from(words: &[u32]) -> TdmaTime
     requires { ⌜ 4 ≤ length (now words) ⌝ }
@@ -152,37 +153,49 @@ pub fn put_station(words: &mut [u32], s: Station)
     word::put(words, 224, &c);
 }
 
-// A station that question 1 refuses.
-fn no_station() -> Station
-    ensures { λ r. ⌜ r ≡ noStation ⌝ }
+// ---- words that are a station's: each fits its field
+
+fn time_fits(words: &[u32]) -> bool
+    requires { ⌜ 4 ≤ length (now words) ⌝ }
+    ensures { λ r. ⌜ r ≡ begins (timeWords (timeFrom (now (words .entry)))) (now (words .entry)) ⌝ }
 {
-    let time = TdmaTime {
-        t: 0,
-        f: 0,
-        m: 0,
-        h: 0,
-    };
-    Station {
-        time: time,
-        row1: [Entry::EMPTY; 18],
-        row2: [Entry::EMPTY; 18],
-        row3: [Entry::EMPTY; 18],
-        row4: [Entry::EMPTY; 18],
-        next_usage_marker: [0; 4],
-        queued: [0; 4],
-    }
+    (words[0] < 256) & (words[1] < 256) & (words[2] < 256) & (words[3] < 65536)
 }
 
-// The station of 228 words.
+fn four_fit(words: &[u32]) -> bool
+    requires { ⌜ 4 ≤ length (now words) ⌝ }
+    ensures { λ r. ⌜ r ≡ begins (fourFrom (now (words .entry))) (now (words .entry)) ⌝ }
+{
+    (words[0] < 256) & (words[1] < 256) & (words[2] < 256) & (words[3] < 256)
+}
+
+// The markers of the 72 entries. Every word is an owner's. No branch for an entry.
+fn entries_fit(words: &[u32]) -> bool
+    requires { ⌜ 216 ≤ length (now words) ⌝ }
+    ensures { λ r. ⌜ r ≡ begins (joined entryWords (parts entryFrom 3 72 (now (words .entry)))) (now (words .entry)) ⌝ }
+{
+    let mut fit = true;
+    for i in 0..72 {
+        fit = fit & (words[3 * i + 2] <= 256);
+    }
+    fit
+}
+
+fn station_fits(words: &[u32]) -> bool
+    requires { ⌜ length (now words) ≡ 228 ⌝ }
+    ensures { λ r. ⌜ r ≡ sameWords (stationWords (stationRead (now (words .entry)))) (now (words .entry)) ⌝ }
+{
+    time_fits(words) & entries_fit(&words[4..]) & four_fit(&words[220..]) & four_fit(&words[224..])
+}
+
+// The station of 228 words. Words 0 stand for others, read like any: a constant station would be taken apart into 72 entries.
 pub fn station_from(words: &[u32]) -> Station
     requires { ⌜ length (now words) ≡ 228 ⌝ }
     ensures { λ r. ⌜ r ≡ stationFrom (now (words .entry)) ⌝ }
 {
-    let s = station_read(words);
-    let mut again = [0u32; 228];
-    put_station(&mut again, s);
-    if !word::same_words(&again, words) {
-        return no_station();
+    if !station_fits(words) {
+        let zeros = [0u32; 228];
+        return station_read(&zeros);
     }
-    s
+    station_read(words)
 }

@@ -6,8 +6,10 @@ use optional::OptU16;
 use optional::OptU32;
 ghost use mathlib.Core.Path.{_≡_};
 ghost use Prim.Native.Nat.{_+_, _%_, _≤_};
+ghost use lib.Dec.{eqb};
 ghost use lib.ListN.{length};
 ghost use lib.Seq.{sets};
+ghost use Rattle.sdu_store.specs.Cells.{allZero};
 ghost use Rattle.sched_words.specs.Words.{wordOf8, wordOf16, wordOf32, optU8, optU16, optU32, kindWord, kindOf, sameWords};
 
 // The low 8 bits of a word.
@@ -110,19 +112,27 @@ pub fn kind_of(w: u32) -> Kind
 
 // ---- words
 
-// Are two runs of words the same?
+// Are two runs of words the same? No branch for a word.
 pub fn same_words(a: &[u32], b: &[u32]) -> bool
     requires { ⌜ length (now a) ≡ length (now b) ⌝ }
     ensures { λ r. ⌜ r ≡ sameWords (now (a .entry)) (now (b .entry)) ⌝ }
 {
-    let mut i = 0;
-    while i < a.len() {
-        if a[i] != b[i] {
-            return false;
-        }
-        i += 1;
+    let mut same = true;
+    for i in 0..a.len() {
+        same = same & (a[i] == b[i]);
     }
-    true
+    same
+}
+
+// The words, one or-ed to another: 0 exactly if each is 0.
+pub fn any_word(words: &[u32]) -> u32
+    ensures { λ r. ⌜ eqb r 0 ≡ allZero (now (words .entry)) ⌝ }
+{
+    let mut acc: u32 = 0;
+    for i in 0..words.len() {
+        acc = acc | words[i];
+    }
+    acc
 }
 
 // Stores the words of src from at on.

@@ -4,7 +4,7 @@ use mathlib.Core.Path.{_∙_, ap}
 use lib.ListN.{replicate}
 use Rattle.dl_record.specs.declared.Record.{Record}
 use Rattle.sched_words.specs.Words.{queueWords, recordsRead, noRecord, queueFrom}
-use Rattle.sched_words.proofs.WordLaws.{others, its-own}
+use Rattle.sched_words.proofs.WordLaws.{again-told, others, its-own}
 use Rattle.sched_words.proofs.queue.queue_from.Statement.{statement}
 use Rattle.sched_words.proofs.queue.queue_from.Tie as tie
 
@@ -13,15 +13,16 @@ unfolding queueFrom
 returns c =
     let t = c .before .before in
     let p = t .before .before .before in
-    ap (λ (r : Record). replicate 64 r) (c .no-record .ensures)
-    ∙ others queueWords recordsRead (replicate 64 noRecord) _ _ _ _ (p .before .before .records-read .ensures) (p .put-records .ensures) (t .same-words .ensures) (c .before .if1 .taken)
+    others queueWords recordsRead (replicate 64 noRecord) _ _ _ (again-told queueWords recordsRead _ _ _ _ (p .before .before .records-read .ensures) (p .put-records .ensures) (t .same-words .ensures)) (c .before .if1 .taken)
+    (ap (λ (r : Record). replicate 64 r) (c .no-record .ensures))
 
 returns-2 : tie.Need-returns-2
 unfolding queueFrom
 returns-2 c =
     let t = c .before in
     let p = t .before .before .before in
-    its-own queueWords recordsRead (replicate 64 noRecord) _ _ _ _ (p .before .before .records-read .ensures) (p .put-records .ensures) (t .same-words .ensures) (c .if1 .left)
+    let read = p .before .before .records-read .ensures in
+    its-own queueWords recordsRead (replicate 64 noRecord) _ _ _ (again-told queueWords recordsRead _ _ _ _ read (p .put-records .ensures) (t .same-words .ensures)) (c .if1 .left) read
 
 pub queue-from-spec : {M : Type 1} → statement M
 queue-from-spec =
