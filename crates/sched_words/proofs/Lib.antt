@@ -4,3 +4,4 @@ pub mod FitStation
 pub mod RoundTrip
 pub mod FitRecord
 pub mod QueueRoundTrip
+pub mod WordsQueue

@@ -7,8 +7,11 @@ use mac_pdus::ChanAllocElement;
 use mac_pdus::OptChanAlloc;
 use optional::OptU16;
 ghost use mathlib.Core.Path.{_≡_};
-ghost use Prim.Native.Nat.{_≤_};
+ghost use mathlib.Core.Bool.{true, false, _&&_};
+ghost use Prim.Native.Nat.{_*_, _<_, _≤_};
 ghost use lib.ListN.{length, drop};
+ghost use lib.Seq.{sets};
+ghost use Rattle.dl_queue.specs.Questions.{soundPlace, soundQueue};
 ghost use Rattle.sched_words.specs.Words.{sameWords, wordAt, allocWords, allocFrom, headerFrom, recordWords, recordRead, noRecord, recordFrom, queueWords, recordsRead, queueFrom};
 ghost use Rattle.sched_words.specs.Front.{begins};
 
@@ -154,7 +157,7 @@ fn record_read(words: &[u32]) -> Record
     }
 }
 
-fn records_read(words: &[u32]) -> [Record; 64]
+pub fn records_read(words: &[u32]) -> [Record; 64]
     requires { ⌜ 1472 ≤ length (now words) ⌝ }
     ensures { λ r. ⌜ r ≡ recordsRead (now (words .entry)) ⌝ }
 {
@@ -262,4 +265,67 @@ pub fn queue_from(words: &[u32]) -> [Record; 64]
         return [none; 64];
     }
     records
+}
+
+// ---- question 1 for the words of the queue and the cells
+
+// A filled place: its words are a record's, and it is sound, with its cell.
+fn filled_is_sound(words: &[u32], cell: &[u8]) -> bool
+    requires { ⌜ length (now words) ≡ 23 ⌝ }
+    ensures { λ b. ⌜ b ≡ sameWords (recordWords (recordRead (now (words .entry)))) (now (words .entry)) && soundPlace true (recordRead (now (words .entry))) (now (cell .entry)) ⌝ }
+{
+    let r = record_read(words);
+    record_fits(words) & record_sound::record_is_sound(r) & sdu_store::cell_is_clean(cell, r.bits)
+}
+
+// A place that is not filled: words and cell are 0.
+fn unfilled_is_sound(words: &[u32], cell: &[u8]) -> bool
+    requires { ⌜ length (now words) ≡ 23 ⌝ }
+    ensures { λ b. ⌜ b ≡ sameWords (recordWords (recordRead (now (words .entry)))) (now (words .entry)) && soundPlace false (recordRead (now (words .entry))) (now (cell .entry)) ⌝ }
+{
+    let any = word::any_word(words);
+    (any == 0) & sdu_store::cell_is_zero(cell)
+}
+
+// The filled places of a timeslot and the others in two loops, each with one test.
+pub fn queue_is_sound(counts: [u8; 4], words: &[u32], store: &[u8]) -> bool
+    requires { ⌜ (length (now words) ≡ 1472) × (length (now store) ≡ 16384) ⌝ }
+    ensures { λ r. ⌜ r ≡ soundQueue counts (queueFrom (now (words .entry))) (now (store .entry)) ⌝ }
+{
+    for t in 0..4 {
+        let n = counts[t] as usize;
+        if 16 < n {
+            return false;
+        }
+        for i in 0..n {
+            let p = 16 * t + i;
+            let at = 23 * p;
+            let end = at + 23;
+            let from = 256 * p;
+            let to = from + 256;
+            if !filled_is_sound(&words[at..end], &store[from..to]) {
+                return false;
+            }
+        }
+        for i in n..16 {
+            let p = 16 * t + i;
+            let at = 23 * p;
+            let end = at + 23;
+            let from = 256 * p;
+            let to = from + 256;
+            if !unfilled_is_sound(&words[at..end], &store[from..to]) {
+                return false;
+            }
+        }
+    }
+    true
+}
+
+// Stores the words of the record of a place.
+pub fn put_record(words: &mut [u32], place: usize, r: Record)
+    requires { ⌜ (place < 64) × (length (now words) ≡ 1472) ⌝ }
+    ensures { λ _. ⌜ now (words .exit) ≡ sets (now (words .entry)) (23 * place) (recordWords r) ⌝ }
+{
+    let w = record_words(r);
+    word::put(words, 23 * place, &w);
 }
