@@ -1,6 +1,7 @@
 #!/bin/sh
 # No entry relies on its caller: a function that docs/ARCHITECTURE.md lists as an entry has no `requires`, and is there.
 # A row of its table of entries reads: | `function` | `crate` | ..
+# And every `pub` function has a promise (`ensures`), but for those of the crates that only print.
 set -eu
 cd "$(dirname "$0")/.."
 bad=0
@@ -19,5 +20,10 @@ for row in $(sed -n '/^## Entries/,/^## /p' docs/ARCHITECTURE.md | grep -E '^\| 
         bad=1
     fi
 done
+silent=$(ls crates/*/src/*.rt | grep -vE '^crates/(show|vectors|build_vectors|differences)/' | xargs awk '
+    /^ *pub (extern "C" )?fn / { in_head = 1; said = 0; name = FILENAME ": " $0 }
+    in_head && /^ *ensures/ { said = 1 }
+    in_head && /\{ *$/ { if (!said) print "entries: no ensures: " name; in_head = 0 }')
+[ -z "$silent" ] || { echo "$silent"; bad=1; }
 [ "$bad" = 0 ] || exit 1
-echo "entries: $count entries, none with a requires"
+echo "entries: $count entries, none with a requires; every pub function has an ensures"
