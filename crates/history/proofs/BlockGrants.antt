@@ -1,18 +1,22 @@
--- A reader lists the headers of a built block (`block-listed`); a named one has the grant of the request of that name (`block-stands`), and a grant that is
--- read is that of the request that it is named after (`block-grants`). Assumes nothing.
+-- A reader lists the headers of a built block (`block-listed`); a named one has the grant of the request of that name (`block-stands`), a grant that is
+-- read is that of the request that it is named after (`block-grants`), and no grant gets lost (`block-kept`). Assumes nothing.
 use mathlib.Core.Path.{_≡_, refl, sym, ap, _∙_}
 use mathlib.Core.Bool.{Bool, true, false, cond}
 use mathlib.Core.Option.{Option, none, some}
-use mathlib.Core.List.{List, [], _∷_, _++_}
-use Prim.Native.Nat.{ℕ, zero, suc, _+_, _<_}
+use mathlib.Core.Logic.{_⊎_}
+use mathlib.Core.List.{List, [], _∷_, _++_, map, List·Memᴰ}
+use Prim.Native.Nat.{ℕ, zero, suc, _+_, _-_, _<_}
 use native.Mathlib.Omega.{arith}
 use native.Mathlib.Nat.{not-suc-le-zero, le-of-suc-le-suc}
 use lib.ListN.{length, getD}
+use lib.Seq.{getD-set-same}
 use Rattle.optional.specs.declared.OptU8.{OptU8}
+use Rattle.optional.proofs.Tests.{and-right}
 use Rattle.tdma_time.specs.declared.TdmaTime.{TdmaTime}
-use Rattle.tdma_time.specs.Time.{Valid, timeslot}
+use Rattle.tdma_time.specs.Time.{Valid, timeslot, usable}
 use Rattle.slot_codes.specs.Codes.{capacityOf, delayOf}
 use Rattle.slot_codes.proofs.CodesLaws.{capacity-in-octet, delay-in-octet}
+use Rattle.uplink.proofs.Basics.{not-both}
 use Rattle.uplink.proofs.VerdictLaws.{verdict-grant}
 use Rattle.mac_pdus.specs.declared.ResourceHeader.{ResourceHeader}
 use Rattle.mac_pdus.specs.declared.PduHeader.{PduHeader}
@@ -33,14 +37,15 @@ use Rattle.sched_core.specs.Questions.{isBlockLength}
 use Rattle.history.specs.UplinkCall.{UplinkReply, refused, granted}
 use Rattle.history.specs.UplinkModel as uplinkModel
 use Rattle.history.specs.Call.{Call, request, build, Reply, replied, block, noBlock}
-use Rattle.history.specs.Queues.{queueAt, canBuild, built, buildReply, replyOf}
-use Rattle.history.specs.Model.{namedLoads, Model, newModel, callOf, modelReply, modelAt, pdusBuilt, namesBuilt}
+use Rattle.history.specs.Queues.{Queues, queueAt, someQueued, canBuild, built, afterBuild, buildReply, replyOf}
+use Rattle.history.specs.Model.{NamedSdu, namedLoads, Model, newModel, callOf, modelAfter, modelReply, modelAt, queueNow, pdusBuilt, namesBuilt, pending, replaces}
 use Rattle.history.specs.Station.{cellLoads, Station, newStation, stationReply, stationAt}
 use Rattle.history.specs.Demand3.{GrantRead, Origin, DerivedAt, ItsGrant}
 use Rattle.history.proofs.Derived.{GrantOf, grant-of, derived}
 use Rattle.history.proofs.WholeSimulation.{WholeAlike, whole-histories, whole-new, whole-reply, same-pdus}
 use Rattle.history.proofs.GrantNames.{Along, along-length, along-at, numberIn, grantIn, GrantIn, built-tied}
-use Rattle.history.proofs.NamedHistory.{Faithful, named-history}
+use Rattle.history.proofs.NamedHistory.{Faithful, at-more, named-history}
+use Rattle.history.proofs.KeptNames.{build-keeps}
 use Rattle.history.proofs.StoredHistory.{InCell, ordered-stored, stored-history}
 
 -- ---- the reader's list
@@ -61,6 +66,11 @@ some-inside : {A : Type 0} (l : List (Option A)) (i : ℕ) (a : A) → getD l i 
 some-inside [] i a e = absurd (let z : _≡_ {A = ℕ} 0 1 = cc in omega arith)
 some-inside (y ∷ l) zero a e = omega arith
 some-inside (y ∷ l) (suc i) a e = let q = some-inside l i a e in omega arith
+
+queue-inside : {C : Type 0} (qs : Queues C) (i : ℕ) → someQueued (getD qs i []) ≡ true → i < length qs
+queue-inside [] i e = not-both false e refl
+queue-inside (q ∷ qs) zero e = omega arith
+queue-inside (q ∷ qs) (suc i) e = let h = queue-inside qs i e in omega arith
 
 -- what is read in the block of a sound queue
 queue-read : (ys : List (Item (List ℕ))) → All InCell ys → readBlock 34 (blockOf 34 (blockBits (built cellLoads ys .pdus))) ≡ reader.replyOf (reader.headers (placed 0 (built cellLoads ys .pdus)))
@@ -124,14 +134,32 @@ module _ (x : TdmaTime) (v : Valid x) (before : List Call) (b : List ℕ) where
   abbrev pdus : List Pdu
   pdus = pdusBuilt m
 
-  block-octets : (octets tags : List ℕ) → stationReply (build b) s ≡ block octets tags → octets ≡ blockOf 34 (blockBits pdus)
+  -- it was built, of the model's PDUs
+  block-built : (octets tags : List ℕ) → stationReply (build b) s ≡ block octets tags
+      → (isBlockLength b ≡ true) × (canBuild (m .uplink .now) (m .queues) ≡ true) × (octets ≡ blockOf 34 (blockBits pdus))
   unfolding modelReply replyOf buildReply pdusBuilt
-  block-octets octets tags e = go (isBlockLength b) (canBuild (m .uplink .now) (m .queues)) (sym (whole-reply (build b) s m alike) ∙ e)
+  block-built octets tags e = go (isBlockLength b) (canBuild (m .uplink .now) (m .queues)) (sym (whole-reply (build b) s m alike) ∙ e)
     where
-      go : (right can : Bool) → cond right (cond can (block (blockOf 34 (blockBits pdus)) (built namedLoads (queueAt (m .queues) t) .tags)) noBlock) (replied (refused 2)) ≡ block octets tags → octets ≡ blockOf 34 (blockBits pdus)
-      go true true q = sym (ap octetsOf q)
+      go : (right can : Bool) → cond right (cond can (block (blockOf 34 (blockBits pdus)) (built namedLoads (queueAt (m .queues) t) .tags)) noBlock) (replied (refused 2)) ≡ block octets tags
+          → (right ≡ true) × (can ≡ true) × (octets ≡ blockOf 34 (blockBits pdus))
+      go true true q = (refl, refl, sym (ap octetsOf q))
       go false can q = absurd (let z : _≡_ {A = ℕ} 0 1 = ap isBlock q in omega arith)
       go true false q = absurd (let z : _≡_ {A = ℕ} 0 1 = ap isBlock q in omega arith)
+
+  -- what stays of the queue
+  block-left : (octets tags : List ℕ) → stationReply (build b) s ≡ block octets tags → queueNow (modelAt x (before ++ build b ∷ [])) ≡ built namedLoads (queueNow m) .left
+  unfolding modelAfter uplinkModel.modelAfter afterBuild canBuild
+  block-left octets tags e =
+      let (right, can, same) = block-built octets tags e in
+      ap queueNow (at-more x before (build b))
+      ∙ rw (right, can) (getD-set-same (m .queues) (t - 1) _ [] (queue-inside (m .queues) (t - 1) (and-right (usable (m .uplink .now)) _ can)))
+
+  pub block-kept : (octets tags : List ℕ) → stationReply (build b) s ≡ block octets tags
+      → (front back : List (Item NamedSdu)) (g : Item NamedSdu) (name : ℕ) → queueNow m ≡ front ++ g ∷ back → pending g ≡ some name
+      → ((y : Item NamedSdu) → List·Memᴰ y back → replaces y g ≡ false)
+      → List·Memᴰ (some name) (namesBuilt m) ⊎ List·Memᴰ (some name) (map pending (queueNow (modelAt x (before ++ build b ∷ []))))
+  unfolding namesBuilt
+  block-kept octets tags e front back g name q n k = rw (block-left octets tags e, q) (build-keeps front back g name n k)
 
   -- what is read in it
   pub block-listed : (octets tags : List ℕ) → stationReply (build b) s ≡ block octets tags → readBlock 34 octets ≡ reader.replyOf (reader.headers (placed 0 pdus))
@@ -139,7 +167,8 @@ module _ (x : TdmaTime) (v : Valid x) (before : List Call) (b : List ℕ) where
   block-listed octets tags e =
       let ys : List (Item (List ℕ)) = queueAt (s .queues) t in
       let same : built cellLoads ys .pdus ≡ pdus = same-pdus (s .queues) (m .queues) (alike .queues) t in
-      ap (readBlock 34) (block-octets octets tags e ∙ ap (λ (ps : List Pdu). blockOf 34 (blockBits ps)) (sym same))
+      let (right, can, from) = block-built octets tags e in
+      ap (readBlock 34) (from ∙ ap (λ (ps : List Pdu). blockOf 34 (blockBits ps)) (sym same))
       ∙ queue-read ys (stored-history x v before t (omega arith))
       ∙ ap (λ (ps : List Pdu). reader.replyOf (reader.headers (placed 0 ps))) same
 

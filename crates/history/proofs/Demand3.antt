@@ -18,7 +18,7 @@ use Rattle.history.specs.Demand3.{Standing, Demand3}
 use Rattle.history.proofs.WholeSimulation.{whole-histories, whole-new, whole-reply}
 use Rattle.history.proofs.UplinkOfWhole.{whole-disjoint, whole-entry, whole-table}
 use Rattle.history.proofs.ReadLaws.{owner-shown, usage-shown}
-use Rattle.history.proofs.BlockGrants.{block-listed, block-stands, block-grants}
+use Rattle.history.proofs.BlockGrants.{block-kept, block-listed, block-stands, block-grants}
 use Rattle.history.proofs.Refinement.{Refines}
 use Rattle.history.proofs.RefinedHistory.{refined-history, history-reply, memory-sound}
 
@@ -45,6 +45,7 @@ demand3 x v xs =
       listed = λ before since b cut octets tags e. block-listed x v before b octets tags (sym (history-reply x v before (build b)) ∙ e);
       stands = λ before since b cut octets tags e i name q. block-stands x v before b octets tags (sym (history-reply x v before (build b)) ∙ e) i name q;
       derived = λ before since b cut octets tags e i h octet g. block-grants x v before b octets tags (sym (history-reply x v before (build b)) ∙ e) i h octet g;
+      kept = λ before since b cut octets tags e. block-kept x v before b octets tags (sym (history-reply x v before (build b)) ∙ e);
       disjoint = λ before between since a a′ cut l y p q. whole-disjoint x v before between a a′ l y p q;
       table = memory-table x v xs;
       owners = λ k l half. owner-shown (memoryAt x xs .station) (memory-sound x v xs .station) _ _ (same-entry x v xs k l) half;

@@ -16,6 +16,7 @@ pub mod WholeSimulation
 pub mod UplinkOfWhole
 pub mod GrantNames
 pub mod NamedHistory
+pub mod KeptNames
 pub mod StoredHistory
 pub mod BlockGrants
 pub mod Asked

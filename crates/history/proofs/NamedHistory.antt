@@ -128,7 +128,7 @@ unfolding modelRun
 run-append [] ys m = refl
 run-append (x ∷ xs) ys m = run-append xs ys (modelAfter x m)
 
-at-more : (x : TdmaTime) (xs : List Call) (c : Call) → modelAt x (xs ++ c ∷ []) ≡ modelAfter c (modelAt x xs)
+pub at-more : (x : TdmaTime) (xs : List Call) (c : Call) → modelAt x (xs ++ c ∷ []) ≡ modelAfter c (modelAt x xs)
 unfolding modelRun
 at-more x xs c = run-append xs (c ∷ []) (newModel x)
 

@@ -3,9 +3,10 @@
 -- xs is any list of calls on a new station at time x. A call of the history is a way to cut the list, `before ++ c ∷ since`; the reference
 -- model as the call met it is `modelAt x before`.
 use mathlib.Core.Path.{_≡_}
-use mathlib.Core.Logic.{_↔_}
+use mathlib.Core.Logic.{_↔_, _⊎_}
+use mathlib.Core.Bool.{false}
 use mathlib.Core.Option.{none, some}
-use mathlib.Core.List.{List, [], _∷_, _++_, List·Memᴰ}
+use mathlib.Core.List.{List, [], _∷_, _++_, map, List·Memᴰ}
 use Prim.Native.Nat.{ℕ, zero, suc, _+_, _≤_, _<_}
 use lib.ListN.{length, getD}
 use Rattle.optional.specs.declared.OptU8.{OptU8}
@@ -22,6 +23,7 @@ use Rattle.mac_pdus.specs.declared.PduHeader.{PduHeader}
 use Rattle.mac_pdus.specs.Legal.{numberOf}
 use Rattle.mac_reader.specs.PduList.{placed}
 use Rattle.mac_reader.specs.Reader.{headers, noHeader, replyOf, readBlock}
+use Rattle.dl_queue.specs.Queue.{Item}
 use Rattle.sched_core.specs.declared.OwnerReply.{OwnerReply}
 use Rattle.sched_core.specs.declared.UsageReply.{UsageReply}
 use Rattle.sched_core.specs.Station.{tableOf}
@@ -32,7 +34,7 @@ use Rattle.history.specs.UplinkModel as uplink
 use Rattle.history.specs.UplinkClaim.{farthest}
 use Rattle.history.specs.Call.{Call, advance, request, enqueueAck, enqueueRecord, build, read, replied, block}
 use Rattle.history.specs.Queues.{queueAt}
-use Rattle.history.specs.Model.{Model, modelReply, modelAt, pdusBuilt, namesBuilt}
+use Rattle.history.specs.Model.{NamedSdu, Model, modelReply, modelAt, queueNow, pdusBuilt, namesBuilt, pending, replaces}
 use Rattle.history.specs.Memory.{memoryReply, memoryAt}
 
 -- what the model reserves for a request
@@ -117,6 +119,13 @@ pub record Demand3 (x : TdmaTime) (xs : List Call) : Type 0 where
       → memoryReply (build b) (memoryAt x before) ≡ block octets tags
       → (i : ℕ) (h : ResourceHeader) (octet : ℕ) → GrantRead octets i h octet
       → (name : ℕ) × (getD (namesBuilt (modelAt x before)) i none ≡ some name) × ItsGrant x before h octet name
+  -- no grant gets lost: one that is queued and in no header yet is written by the build, in the header of its name, or it stays queued, unless a grant
+  -- behind it replaces it
+  pub kept : (before since : List Call) (b : List ℕ) → xs ≡ before ++ build b ∷ since → (octets tags : List ℕ)
+      → memoryReply (build b) (memoryAt x before) ≡ block octets tags
+      → (front back : List (Item NamedSdu)) (g : Item NamedSdu) (name : ℕ) → queueNow (modelAt x before) ≡ front ++ g ∷ back → pending g ≡ some name
+      → ((y : Item NamedSdu) → List·Memᴰ y back → replaces y g ≡ false)
+      → List·Memᴰ (some name) (namesBuilt (modelAt x before)) ⊎ List·Memᴰ (some name) (map pending (queueNow (modelAt x (before ++ build b ∷ []))))
   -- two requests at most 65,535 hyperframes apart reserve no half-slot both
   pub disjoint : (before between since : List Call) (a a′ : CapacityRequest) → xs ≡ before ++ request a ∷ between ++ request a′ ∷ since → slotsAdvanced between ≤ farthest
       → (y : HalfSlot) → List·Memᴰ y (reserved a (modelAt x before)) → List·Memᴰ y (reserved a′ (modelAt x (before ++ request a ∷ between))) → ⊥

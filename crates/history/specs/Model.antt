@@ -1,12 +1,15 @@
 -- The reference model (document 01's book), whole: its uplink, and the queues with named grants. Assumes nothing.
+use mathlib.Core.Bool.{Bool, true, false, _&&_}
 use mathlib.Core.Option.{Option, none, some}
 use mathlib.Core.List.{List, [], _∷_, _++_, map}
 use Prim.Native.Nat.{ℕ, suc}
+use lib.Dec.{eqb}
 use lib.ListN.{take}
 use Rattle.bitbuffer.specs.Bits.{bitsOf}
 use Rattle.tdma_time.specs.declared.TdmaTime.{TdmaTime}
 use Rattle.tdma_time.specs.Time.{timeslot}
 use Rattle.mac_reader.specs.PduList.{Pdu, whole, first, frag, final, null}
+use Rattle.dl_record.specs.declared.Kind.{Kind}
 use Rattle.dl_queue.specs.Queue.{Item}
 use Rattle.dl_merge.specs.Merge.{Named, mergeNamed}
 use Rattle.bs_frag.specs.NextPdu.{Next}
@@ -96,3 +99,27 @@ namesSent room (x ∷ xs) = let s : Next = turn namedSdu room x in map (nameIn (
 
 unfoldable pub namesBuilt : Model → List (Option ℕ)
 namesBuilt m = namesSent 268 (inOrder (mergeNamed [] (queueNow m)))
+
+-- ---- grants in no header yet
+
+abbrev pub isGrant : Kind → Bool
+isGrant Kind.Grant = true
+isGrant Kind.Ack = false
+isGrant Kind.Record = false
+isGrant Kind.Waiting = false
+isGrant Kind.Started = false
+
+-- the name of a grant that is queued, alone or in a record that waits, and in no header yet
+abbrev pub pendingAs : Kind → Option ℕ → Option ℕ
+pendingAs Kind.Grant name = name
+pendingAs Kind.Ack name = none
+pendingAs Kind.Record name = none
+pendingAs Kind.Waiting name = name
+pendingAs Kind.Started name = none
+
+abbrev pub pending : Item NamedSdu → Option ℕ
+pending y = pendingAs (y .rec .kind) (y .load .name)
+
+-- "A grant replaces the grant there": y, queued behind the grant g, is a grant for its number
+abbrev pub replaces : Item NamedSdu → Item NamedSdu → Bool
+replaces y g = isGrant (g .rec .kind) && isGrant (y .rec .kind) && eqb (y .rec .number) (g .rec .number)
