@@ -9,7 +9,7 @@ use optional::OptU16;
 ghost use mathlib.Core.Path.{_≡_};
 ghost use mathlib.Core.Bool.{true, false, _&&_};
 ghost use Prim.Native.Nat.{_*_, _<_, _≤_};
-ghost use lib.ListN.{length, drop};
+ghost use lib.ListN.{length, take, drop};
 ghost use lib.Seq.{sets};
 ghost use Rattle.dl_queue.specs.Questions.{soundPlace, soundQueue};
 ghost use Rattle.sched_words.specs.Words.{sameWords, wordAt, allocWords, allocFrom, headerFrom, recordWords, recordRead, noRecord, recordFrom, queueWords, recordsRead, queueFrom};
@@ -328,4 +328,16 @@ pub fn put_record(words: &mut [u32], place: usize, r: Record)
 {
     let w = record_words(r);
     word::put(words, 23 * place, &w);
+}
+
+// Stores the words of the sixteen records of a timeslot, the first of them at `first`.
+pub fn put_sixteen(words: &mut [u32], first: usize, records: [Record; 64])
+    requires { ⌜ (first ≤ 48) × (length (now words) ≡ 1472) ⌝ }
+    ensures { λ _. ⌜ now (words .exit) ≡ sets (now (words .entry)) (23 * first) (queueWords (take 16 (drop first records))) ⌝ }
+{
+    for i in 0..16 {
+        let place = first + i;
+        let r = records[place];
+        put_record(words, place, r);
+    }
 }

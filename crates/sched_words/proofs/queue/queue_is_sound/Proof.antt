@@ -37,7 +37,7 @@ returns : tie.Need-returns Inv-loop2 μ-loop2 Inv-loop3 μ-loop3 Inv-loop μ-loo
 returns c =
     let l = c .before .before in
     let a = l .before .before .before .args in
-    too-many (a .t1) (a .store .now) (a .words .now) (l .loop .inv .1) (search needs) (l .loop .t) (omega arith) (c .if1 .taken)
+    too-many (a .t1) (a .store .now) (a .words .now) (l .loop .inv .1) (search needs) (l .loop .t) (omega arith) (omega (arith, c .if1 .taken))
 
 loop2-holds : tie.Need-loop2-holds Inv-loop2 μ-loop2 Inv-loop3 μ-loop3 Inv-loop μ-loop
 loop2-holds c = (omega arith, omega (arith, c .if1 .left), omega arith, λ j h. absurd (omega arith))
