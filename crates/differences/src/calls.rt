@@ -1,4 +1,5 @@
 // Two channel allocations in one frame, and an entry with a second half and no first.
+use crate::memory;
 use mac_pdus::Address;
 use mac_pdus::OptChanAlloc;
 use mac_pdus::PduHeader;
@@ -80,11 +81,10 @@ fn next_slot(station: &mut [u32], queue: &mut [u32], store: &mut [u8], block: &m
 }
 
 fn two_channel_allocations() {
-    let mut station = [0u32; 228];
+    let mut station = memory::new_station();
     let mut queue = [0u32; 1472];
     let mut store = [0u8; 16384];
     let mut block = [0u8; 34];
-    let _new = bs_sched_c::bs_sched_new(&mut station, 0, 1, 1, 1);
     queued(&mut station, &mut queue, &mut store, 1);
     queued(&mut station, &mut queue, &mut store, 2);
     let _built = bs_sched_c::bs_sched_build(&mut station, &mut queue, &mut store, &mut block);
@@ -106,8 +106,7 @@ fn usage(text: &[u8], station: &[u32]) {
 
 // Words 4 and 5 are the owners of the halves of timeslot 1 in frame 1.
 fn second_half() {
-    let mut station = [0u32; 228];
-    let _new = bs_sched_c::bs_sched_new(&mut station, 0, 1, 1, 1);
+    let mut station = memory::new_station();
     station[4] = 4;
     station[5] = 4;
     usage(b"R3 first and second half:", &station);

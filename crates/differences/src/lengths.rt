@@ -42,10 +42,9 @@ fn each(station: &mut [u32], queue: &mut [u32], store: &mut [u8]) {
 
 // A queue of 63 records.
 fn queue_of_63() {
-    let mut station = [0u32; 228];
+    let mut station = memory::new_station();
     let mut queue = [0u32; 1449];
     let mut store = [0u8; 16384];
-    let _new = bs_sched_c::bs_sched_new(&mut station, 0, 1, 1, 1);
     let state = station;
     let words = queue;
     let cells = store;
@@ -56,10 +55,9 @@ fn queue_of_63() {
 
 // A store of 16,383 octets.
 fn store_of_16383() {
-    let mut station = [0u32; 228];
+    let mut station = memory::new_station();
     let mut queue = [0u32; 1472];
     let mut store = [0u8; 16383];
-    let _new = bs_sched_c::bs_sched_new(&mut station, 0, 1, 1, 1);
     let state = station;
     let words = queue;
     let cells = store;
@@ -70,11 +68,10 @@ fn store_of_16383() {
 
 // A block of 33 octets, with an ack queued.
 fn block_of_33() {
-    let mut station = [0u32; 228];
+    let mut station = memory::new_station();
     let mut queue = [0u32; 1472];
     let mut store = [0u8; 16384];
     let mut block = [0xffu8; 33];
-    let _new = bs_sched_c::bs_sched_new(&mut station, 0, 1, 1, 1);
     let _ack = bs_sched_c::bs_sched_enqueue_ack(&mut station, &mut queue, &store, 1, 0, 1);
     let state = station;
     let words = queue;

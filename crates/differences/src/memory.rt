@@ -1,4 +1,11 @@
-// What a call leaves of its buffers.
+// A new station, and what a call leaves of its buffers.
+
+// The words of a new station at 0/1/1/1.
+pub fn new_station() -> [u32; 228] {
+    let mut station = [0u32; 228];
+    let _new = bs_sched_c::bs_sched_new(&mut station, 0, 1, 1, 1);
+    station
+}
 
 // Whether a and b hold the same words.
 fn same_words(a: &[u32], b: &[u32]) -> bool {

@@ -23,11 +23,10 @@ fn allocating() -> [u32; 23] {
 
 // What the queue answers, and whether state, queue or store are altered.
 fn offered(text: &[u8], record: [u32; 23]) {
-    let mut station = [0u32; 228];
+    let mut station = memory::new_station();
     let mut queue = [0u32; 1472];
     let mut store = [0u8; 16384];
     let sdu = [0xa5u8; 1];
-    let _new = bs_sched_c::bs_sched_new(&mut station, 0, 1, 1, 1);
     let state = station;
     let words = queue;
     let cells = store;
