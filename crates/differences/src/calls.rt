@@ -7,7 +7,7 @@ use mac_pdus::ResourceHeader;
 use mac_reader::PlacedHeader;
 
 // A record with a channel allocation is queued for timeslot 1; its number as SSI is given.
-fn queued(station: &mut [u32], queue: &mut [u32], store: &mut [u8], number: u32) {
+fn queued(text: &[u8], station: &mut [u32], queue: &mut [u32], store: &mut [u8], number: u32) {
     let mut w = [0u32; 23];
     w[0] = 2;
     w[2] = number;
@@ -18,10 +18,8 @@ fn queued(station: &mut [u32], queue: &mut [u32], store: &mut [u8], number: u32)
     w[20] = 2;
     let sdu = [0u8; 1];
     let n = bs_sched_c::bs_sched_enqueue(station, queue, store, 1, &w, &sdu);
-    show::word(b"D1 SSI");
-    show::number(number as u64);
-    show::word(b" with channel allocation queued for timeslot 1:");
-    show::number(n as u64);
+    show::word(text);
+    memory::number(n);
     show::end();
 }
 
@@ -76,7 +74,7 @@ fn next_slot(station: &mut [u32], queue: &mut [u32], store: &mut [u8], block: &m
     let _next = bs_sched_c::bs_sched_advance(station);
     let b = bs_sched_c::bs_sched_build(station, queue, store, block);
     show::word(b"D1 timeslot 2, blocks:");
-    show::number(b.built as u64);
+    memory::number(b.built);
     show::end();
 }
 
@@ -85,8 +83,20 @@ fn two_channel_allocations() {
     let mut queue = [0u32; 1472];
     let mut store = [0u8; 16384];
     let mut block = [0u8; 34];
-    queued(&mut station, &mut queue, &mut store, 1);
-    queued(&mut station, &mut queue, &mut store, 2);
+    queued(
+        b"D1 SSI 1 with channel allocation queued for timeslot 1:",
+        &mut station,
+        &mut queue,
+        &mut store,
+        1,
+    );
+    queued(
+        b"D1 SSI 2 with channel allocation queued for timeslot 1:",
+        &mut station,
+        &mut queue,
+        &mut store,
+        2,
+    );
     let _built = bs_sched_c::bs_sched_build(&mut station, &mut queue, &mut store, &mut block);
     headers(&block);
     next_slot(&mut station, &mut queue, &mut store, &mut block);
@@ -98,9 +108,9 @@ fn usage(text: &[u8], station: &[u32]) {
     let o = bs_sched_c::bs_sched_slot_owner(station, 0, 1, 1, 1);
     show::word(text);
     show::word(b" usage");
-    show::number(u.refusal as u64);
+    memory::number(u.refusal);
     show::word(b", owners");
-    show::number(o.refusal as u64);
+    memory::number(o.refusal);
     show::end();
 }
 

@@ -5,14 +5,14 @@ use crate::memory;
 fn request(station: &mut [u32], queue: &mut [u32], store: &[u8]) {
     let grant = bs_sched_c::bs_sched_request(station, queue, store, 1, 1, 0, 1);
     show::word(b" request");
-    show::number(grant.refusal as u64);
+    memory::number(grant.refusal);
 }
 
 // What an ack is answered.
 fn ack(station: &mut [u32], queue: &mut [u32], store: &[u8]) {
     let n = bs_sched_c::bs_sched_enqueue_ack(station, queue, store, 1, 0, 1);
     show::word(b", ack");
-    show::number(n as u64);
+    memory::number(n);
 }
 
 // What a record is answered.
@@ -21,14 +21,14 @@ fn record(station: &mut [u32], queue: &mut [u32], store: &mut [u8]) {
     let sdu = [0u8; 1];
     let n = bs_sched_c::bs_sched_enqueue(station, queue, store, 1, &words, &sdu);
     show::word(b", record");
-    show::number(n as u64);
+    memory::number(n);
 }
 
 // What a build is answered.
 fn built(text: &[u8], station: &mut [u32], queue: &mut [u32], store: &mut [u8], block: &mut [u8]) {
     let b = bs_sched_c::bs_sched_build(station, queue, store, block);
     show::word(text);
-    show::number(b.refusal as u64);
+    memory::number(b.refusal);
 }
 
 // What each call is answered that is lent a queue and a store.

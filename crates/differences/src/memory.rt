@@ -7,6 +7,11 @@ pub fn new_station() -> [u32; 228] {
     station
 }
 
+// The number that a call answers.
+pub fn number(n: u8) {
+    show::number(n as u64);
+}
+
 // Whether a and b hold the same words.
 fn same_words(a: &[u32], b: &[u32]) -> bool {
     if a.len() != b.len() {

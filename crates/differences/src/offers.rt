@@ -32,7 +32,7 @@ fn offered(text: &[u8], record: [u32; 23]) {
     let cells = store;
     let n = bs_sched_c::bs_sched_enqueue(&mut station, &mut queue, &mut store, 1, &record, &sdu);
     show::word(text);
-    show::number(n as u64);
+    memory::number(n);
     memory::compared(&state, &station, &words, &queue, &cells, &store);
 }
 
