@@ -102,7 +102,7 @@ module _ (ns s ws : List ℕ) (counts : length ns ≡ 4) where
 -- ---- timeslot by timeslot
 
 -- what is asked of the places of timeslot t
-pub record Slot (ns s ws : List ℕ) (t : ℕ) : Type 0 where
+pub record Timeslot (ns s ws : List ℕ) (t : ℕ) : Type 0 where
   pub count : getD ns t 0 ≤ 16
   pub places : (j : ℕ) → j < 16 → soundAt (ltb j (getD ns t 0)) ws s (16 * t + j) ≡ true
 
@@ -119,7 +119,7 @@ module _ (ns s ws : List ℕ) (counts : length ns ≡ 4) (size : length ws ≡ 1
       begins-whole (queueWords (recordsRead ws)) ws
       (length-joined recordWords 23 record-size (recordsRead ws) ∙ ap (λ (n : ℕ). n * 23) (length-parts recordRead 23 64 ws) ∙ sym size)
 
-  pub slots-sound : ((t : ℕ) → t < 4 → Slot ns s ws t) → soundQueue ns (queueFrom ws) s ≡ true
+  pub slots-sound : ((t : ℕ) → t < 4 → Timeslot ns s ws t) → soundQueue ns (queueFrom ws) s ≡ true
   slots-sound f =
       let fits : (p : ℕ) → p < 64 → fit (wordsAt ws p) ≡ true = λ p h.
       let t : ℕ = p / 16 in
@@ -129,14 +129,14 @@ module _ (ns s ws : List ℕ) (counts : length ns ≡ 4) (size : length ws ≡ 1
       ∙ and-left (fit (wordsAt ws (16 * t + j))) (soundPlace (ltb j (getD ns t 0)) (recordRead (wordsAt ws (16 * t + j))) (cellAt s (16 * t + j))) (f t (omega arith) .places j (omega arith)) in
       ap (λ (rs : List Record). soundQueue ns rs s) (same-read ws (sym run-same ∙ fits-all 64 ws (omega arith) fits))
       ∙ queue-all ns (recordsRead ws) s
-      (λ t h. let slot = f t (omega arith) in (
-        slot .count,
+      (λ t h. let here = f t (omega arith) in (
+        here .count,
         places-all 16 (getD ns t 0) (drop (16 * t) (recordsRead ws)) (drop (256 * (16 * t)) s)
             (λ j l. place-at (ltb j (getD ns t 0)) t j (omega arith) l
-            ∙ and-right (fit (wordsAt ws (16 * t + j))) (soundPlace (ltb j (getD ns t 0)) (recordRead (wordsAt ws (16 * t + j))) (cellAt s (16 * t + j))) (slot .places j l)),
+            ∙ and-right (fit (wordsAt ws (16 * t + j))) (soundPlace (ltb j (getD ns t 0)) (recordRead (wordsAt ws (16 * t + j))) (cellAt s (16 * t + j))) (here .places j l)),
       ))
 
-  pub sound-slots : soundQueue ns (queueFrom ws) s ≡ true → (t : ℕ) → t < 4 → Slot ns s ws t
+  pub sound-slots : soundQueue ns (queueFrom ws) s ≡ true → (t : ℕ) → t < 4 → Timeslot ns s ws t
   sound-slots h t l =
       let same = sound-same ns s ws counts h in
       let q = queue-at ns (recordsRead ws) s (ap (λ (rs : List Record). soundQueue ns rs s) (sym (same-read ws same)) ∙ h) t (omega arith) in

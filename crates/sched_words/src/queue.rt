@@ -157,6 +157,7 @@ fn record_read(words: &[u32]) -> Record
     }
 }
 
+// The 64 records read from the words as they stand.
 pub fn records_read(words: &[u32]) -> [Record; 64]
     requires { ⌜ 1472 ≤ length (now words) ⌝ }
     ensures { λ r. ⌜ r ≡ recordsRead (now (words .entry)) ⌝ }
@@ -221,7 +222,7 @@ fn alloc_fits(words: &[u32]) -> bool
         & (words[20] <= 256)
 }
 
-// Are 23 words those of the record that is read from them? Every word is a number.
+// Are 23 words those of the record that is read from them? For a number any word will do.
 pub fn record_fits(words: &[u32]) -> bool
     requires { ⌜ length (now words) ≡ 23 ⌝ }
     ensures { λ r. ⌜ r ≡ sameWords (recordWords (recordRead (now (words .entry)))) (now (words .entry)) ⌝ }

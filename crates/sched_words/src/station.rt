@@ -155,6 +155,7 @@ pub fn put_station(words: &mut [u32], s: Station)
 
 // ---- words that are a station's: each fits its field
 
+// t, f, m, h.
 fn time_fits(words: &[u32]) -> bool
     requires { ⌜ 4 ≤ length (now words) ⌝ }
     ensures { λ r. ⌜ r ≡ begins (timeWords (timeFrom (now (words .entry)))) (now (words .entry)) ⌝ }
@@ -162,6 +163,7 @@ fn time_fits(words: &[u32]) -> bool
     (words[0] < 256) & (words[1] < 256) & (words[2] < 256) & (words[3] < 65536)
 }
 
+// The numbers of the four timeslots.
 fn four_fit(words: &[u32]) -> bool
     requires { ⌜ 4 ≤ length (now words) ⌝ }
     ensures { λ r. ⌜ r ≡ begins (fourFrom (now (words .entry))) (now (words .entry)) ⌝ }
@@ -169,7 +171,7 @@ fn four_fit(words: &[u32]) -> bool
     (words[0] < 256) & (words[1] < 256) & (words[2] < 256) & (words[3] < 256)
 }
 
-// The markers of the 72 entries. Every word is an owner's. No branch for an entry.
+// The 72 entries: their markers, since for an owner any word will do. No branch for an entry.
 fn entries_fit(words: &[u32]) -> bool
     requires { ⌜ 216 ≤ length (now words) ⌝ }
     ensures { λ r. ⌜ r ≡ begins (joined entryWords (parts entryFrom 3 72 (now (words .entry)))) (now (words .entry)) ⌝ }

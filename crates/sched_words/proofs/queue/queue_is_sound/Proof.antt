@@ -7,13 +7,13 @@ use borrow.Author.Tests.{not-true, not-false, lt-ltb, le-ltb}
 use borrow.Author.Count.{below-more}
 use lib.Dec.{ltb}
 use lib.ListN.{length, getD}
-use Rattle.sched_words.proofs.WordsQueue.{soundAt, Slot, slots-sound, place-told, too-many, place-fails}
+use Rattle.sched_words.proofs.WordsQueue.{soundAt, Timeslot, slots-sound, place-told, too-many, place-fails}
 use borrow.Author.Needs.{needs}
 use Rattle.sched_words.proofs.queue.queue_is_sound.Statement.{statement}
 use Rattle.sched_words.proofs.queue.queue_is_sound.Tie as tie
 
 abbrev Inv-loop : tie.InvT-loop
-Inv-loop words store counts t₀ t = (t ≤ 4) × (length counts ≡ 4) × ((u : ℕ) → u < t → Slot counts store words u)
+Inv-loop words store counts t₀ t = (t ≤ 4) × (length counts ≡ 4) × ((u : ℕ) → u < t → Timeslot counts store words u)
 
 abbrev μ-loop : tie.MeasureT-loop
 μ-loop words store counts t₀ t = 4 - t
@@ -94,8 +94,8 @@ loop-again c =
     let k = c .before in
     let l = k .before .before .before .before .before in
     let a = l .before .before .before .args in
-    let slot : Slot (a .t1) (a .store .now) (a .words .now) (l .loop .t) = record { count = k .before .before .loop2 .inv .1; places = λ j h. k .loop3 .inv .3 j (omega arith) } in
-    (omega (arith, k .loop3 .inv .2), l .loop .inv .1, below-more (λ (u : ℕ). Slot (a .t1) (a .store .now) (a .words .now) u) (l .loop .t) (l .loop .inv .2) slot)
+    let here : Timeslot (a .t1) (a .store .now) (a .words .now) (l .loop .t) = record { count = k .before .before .loop2 .inv .1; places = λ j h. k .loop3 .inv .3 j (omega arith) } in
+    (omega (arith, k .loop3 .inv .2), l .loop .inv .1, below-more (λ (u : ℕ). Timeslot (a .t1) (a .store .now) (a .words .now) u) (l .loop .t) (l .loop .inv .2) here)
 
 returns-4 : tie.Need-returns-4 Inv-loop2 μ-loop2 Inv-loop3 μ-loop3 Inv-loop μ-loop
 returns-4 c =
