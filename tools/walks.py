@@ -17,10 +17,10 @@ STANDS = {
 }
 
 # The functions that read and write whole elements (`q[i]`, `q[i] = r`). In their twin the array stands wherever the struct's name does.
-LEAVES = ['put_record', 'load_64']
+LEAVES = ['put_record', 'load_64', 'queue_is_sound']
 
 # What the leaves call, of this crate: its body in their twin, any value of its type.
-LEAF_CALLS = {'empty_record': '[0u16; 22]'}
+LEAF_CALLS = {'empty_record': '[0u16; 22]', 'place_is_sound': 'filled'}
 
 # Their callers, by level: each calls covered functions and derived ones of lower levels, and of a reference to such structs it takes
 # nothing else but the length.
@@ -34,6 +34,7 @@ STUBS = {
     'put_record': '',
     'load_64': '[Record::EMPTY; 64]',
     'save_64': '',
+    'queue_is_sound': 'true',
     'ul_process_cap_req': 'request_refused(Refusal::Unsound, s)',
     'dl_enqueue_random_access_ack': 'refused(Refusal::Unsound, s)',
     'dl_enqueue_tma': 'refused(Refusal::Unsound, s)',

@@ -4,11 +4,12 @@ use mathlib.Core.Bool.{Bool, true, false, cond}
 use mathlib.Core.List.{List, []}
 use Prim.Native.Nat.{ℕ, _*_}
 use native.Mathlib.Omega.{arith}
-use lib.ListN.{length}
+use lib.ListN.{length, set}
 use lib.Seq.{length-paste}
-use borrow.Author.Tests.{ne-eqb}
+use borrow.Author.Tests.{ne-eqb, eq-eqb}
 use Rattle.dl_record.specs.declared.Record.{Record}
 use Rattle.dl_queue.specs.Queue.{Item, recordsOf}
+use Rattle.dl_queue.specs.Questions.{soundQueue}
 use Rattle.dl_queue.proofs.SetLaws.{length-records}
 use Rattle.sched_core.specs.declared.Station.{Station}
 use Rattle.sched_core.specs.declared.Refusal.{Refusal}
@@ -16,8 +17,9 @@ use Rattle.sched_core.specs.declared.BuildReply.{BuildReply}
 use Rattle.sched_core.specs.declared.BuildCoreAnswer.{BuildCoreAnswer}
 use Rattle.sched_core.specs.Questions.{Memory, memory, soundStation, areLengthsRight, buildQuestions}
 use Rattle.sched_core.specs.Calls.{Outcome, outcome, BuildOutcome, notBuilt, current, buildsNow, builtNow, blockBuilt, BuildAnswered, buildCall}
-use Rattle.sched_core.proofs.AskLaws.{first-no, ask-elim}
+use Rattle.sched_core.proofs.AskLaws.{first-no, every-yes, ask-elim}
 use Rattle.sched_core.proofs.QuestionLaws.{right-lengths}
+use Rattle.enqueue_core.specs.Plan.{SoundQueue, Planned}
 use Rattle.bs_sched.specs.declared.BuildAnswer.{BuildAnswer}
 use Rattle.bs_sched.specs.Queue.{first64, copied}
 use Rattle.bs_sched.specs.Entries.{BuildLeft, buildAnswerOf, buildLeft, leftBy}
@@ -30,10 +32,10 @@ module _ (q l z rs : List Record) (places : length q ≡ 64) (loaded : l ≡ fir
   saved-whole : length rs ≡ length l → z ≡ rs
   saved-whole e = saved ∙ copied-whole rs q 64 (e ∙ ap length loaded-whole ∙ places) places
 
-  pub queueing-saved : {R : Type 0} (call : List Record → Outcome R) → ((x : List Record) → length (call x .memory .records) ≡ length x) → (r : R) (s : Station) (st : List ℕ)
-      → outcome r (memory s rs st) ≡ call l → outcome r (memory s z st) ≡ call q
-  queueing-saved {R} call keeps r s st done =
-      ap (λ (x : List Record). outcome r (memory s x st)) (saved-whole (ap (λ (o : Outcome R). length (o .memory .records)) done ∙ keeps l)) ∙ done ∙ ap call loaded-whole
+-- a plan whose record is stored in the queue is the call on the queue itself
+pub plan-stored : {R : Type 0} {number : R → ℕ} (call : Memory → Outcome R) (s : Station) (before after : List ℕ) {reply : R} {next : Station} {place : ℕ} {r : Record} (q z : List Record)
+    → z ≡ set q place r → Planned number call s before after reply next place r → SoundQueue s q before → outcome reply (memory next z after) ≡ call (memory s q before)
+plan-stored call s before after {reply} {next} q z stored planned sound = ap (λ (x : List Record). outcome reply (memory next x after)) stored ∙ planned .whole q sound
 
 -- a build keeps the 64 places
 build-places : (m : Memory) (block : List ℕ) → length (m .records) ≡ 64 → length (buildCall m block .memory .records) ≡ 64
@@ -79,3 +81,17 @@ module _ (m : Memory) (block : List ℕ) where
       → refusal Refusal.Lengths ≡ leftBy (buildCall m block)
   unfolding buildCall
   build-not-34 s places cells other = ap leftBy (first-no _ _ 2 (buildQuestions m block) ((tt, s), right-lengths m places cells) (ne-eqb _ _ other))
+
+  pub build-queue-unsound : soundStation (m .station) ≡ true → length (m .records) ≡ 64 → length (m .store) ≡ 16384 → length block ≡ 34 → soundQueue (m .station .queued) (m .records) (m .store) ≡ false
+      → refusal Refusal.Unsound ≡ leftBy (buildCall m block)
+  unfolding buildCall
+  build-queue-unsound s places cells width e = ap leftBy (first-no _ _ 3 (buildQuestions m block) (((tt, s), right-lengths m places cells), eq-eqb _ _ width) e)
+
+  -- every question is answered yes, and there is nothing to build
+  pub build-nothing : soundStation (m .station) ≡ true → length (m .records) ≡ 64 → length (m .store) ≡ 16384 → length block ≡ 34 → soundQueue (m .station .queued) (m .records) (m .store) ≡ true
+      → buildsNow (m .station) ≡ false → buildLeft (buildAnswerOf BuildReply.NoBlock [] (m .station)) (m .records) (m .store) block ≡ leftBy (buildCall m block)
+  unfolding buildCall
+  build-nothing s places cells width q e =
+      ap leftBy
+      (ap (λ (b : Bool). cond b (blockBuilt m (current (m .station)) (builtNow m)) (notBuilt BuildReply.NoBlock m block)) (sym e)
+      ∙ every-yes _ _ (buildQuestions m block) ((((tt, s), right-lengths m places cells), eq-eqb _ _ width), q))

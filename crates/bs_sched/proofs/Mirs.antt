@@ -57,6 +57,8 @@ use Rattle.sched_core.proofs.RequestAnswer.Laws as sched_core-RequestAnswer-law
 use Rattle.sched_core.proofs.CoreAnswer.Laws as sched_core-CoreAnswer-laws
 use Rattle.sched_core.proofs.RequestCoreAnswer.Laws as sched_core-RequestCoreAnswer-laws
 use Rattle.sched_core.proofs.BuildCoreAnswer.Laws as sched_core-BuildCoreAnswer-laws
+use Rattle.request_core.proofs.RequestPlan.Laws as request_core-RequestPlan-laws
+use Rattle.enqueue_core.proofs.QueuePlan.Laws as enqueue_core-QueuePlan-laws
 
 abbrev pub slice : Ty → Ty
 slice = sliceTy
@@ -225,3 +227,9 @@ sched_core-RequestCoreAnswer = sched_core-RequestCoreAnswer-laws.mir
 
 abbrev pub sched_core-BuildCoreAnswer : Ty
 sched_core-BuildCoreAnswer = sched_core-BuildCoreAnswer-laws.mir
+
+abbrev pub request_core-RequestPlan : Ty
+request_core-RequestPlan = request_core-RequestPlan-laws.mir
+
+abbrev pub enqueue_core-QueuePlan : Ty
+enqueue_core-QueuePlan = enqueue_core-QueuePlan-laws.mir

@@ -15,8 +15,9 @@ use tdma_time::TdmaTime;
 use uplink::PhyBlockNum;
 ghost use mathlib.Core.Path.{_≡_};
 ghost use mathlib.Core.List.{[]};
-ghost use lib.ListN.{set};
+ghost use lib.ListN.{set, length};
 ghost use Rattle.dl_record.specs.Record.{emptyRecord};
+ghost use Rattle.dl_queue.specs.Questions.{soundPlace, soundQueue};
 ghost use Rattle.sched_core.specs.declared.Reply.{Reply};
 ghost use Rattle.sched_core.specs.declared.RequestReply.{RequestReply};
 ghost use Rattle.sched_core.specs.declared.BuildReply.{BuildReply};
@@ -47,6 +48,44 @@ pub fn put_record(queue: &mut [Record], i: usize, r: Record)
     if i < queue.len() {
         queue[i] = r;
     }
+}
+
+fn place_is_sound(filled: bool, r: Record, cell: &[u8]) -> bool
+    ensures { λ b. ⌜ b ≡ soundPlace filled r (now (cell .entry)) ⌝ }
+{
+    dl_queue::place_is_sound(filled, r, cell)
+}
+
+// Question 1 for the records and the cells. A timeslot's filled places come first, so each kind of place has a loop of its own.
+pub fn queue_is_sound(counts: [u8; 4], queue: &[Record], store: &[u8]) -> bool
+    requires { ⌜ (length (now queue) ≡ 64) × (length (now store) ≡ 16384) ⌝ }
+    ensures { λ b. ⌜ b ≡ soundQueue counts (now (queue .entry)) (now (store .entry)) ⌝ }
+{
+    for t in 0..4 {
+        let n = counts[t] as usize;
+        if 16 < n {
+            return false;
+        }
+        for i in 0..n {
+            let p = 16 * t + i;
+            let r = queue[p];
+            let from = 256 * p;
+            let to = from + 256;
+            if !place_is_sound(true, r, &store[from..to]) {
+                return false;
+            }
+        }
+        for j in n..16 {
+            let p = 16 * t + j;
+            let r = queue[p];
+            let from = 256 * p;
+            let to = from + 256;
+            if !place_is_sound(false, r, &store[from..to]) {
+                return false;
+            }
+        }
+    }
+    true
 }
 
 // The first 64 records, with empty ones past the end.
@@ -106,6 +145,18 @@ fn build_refused(refusal: Refusal, station: Station) -> BuildAnswer
     }
 }
 
+// A build that has nothing to build.
+fn no_block(station: Station) -> BuildAnswer
+    ensures { λ r. ⌜ r ≡ buildAnswerOf BuildReply.NoBlock [] station ⌝ }
+{
+    BuildAnswer {
+        reply: BuildReply::NoBlock,
+        tags: [0u16; 16],
+        tag_count: 0,
+        station: station,
+    }
+}
+
 // A new station at a time: an empty table and queues, and markers at 4.
 pub fn new(time: TdmaTime) -> Answer
     ensures { λ r. ⌜ r ≡ newCall time ⌝ }
@@ -155,10 +206,14 @@ pub fn ul_process_cap_req(
     if store.len() != 16384 {
         return request_refused(Refusal::Lengths, s);
     }
-    let records = load_64(queue);
-    let done = request_core::request_core(s, records, store, timeslot, code, kind, number);
-    let after = done.records;
-    save_64(queue, after);
+    let queued = s.queued;
+    if !queue_is_sound(queued, queue, store) {
+        return request_refused(Refusal::Unsound, s);
+    }
+    let done = request_core::request_plan(s, timeslot, code, kind, number);
+    let place = done.place;
+    let r = done.record;
+    put_record(queue, place, r);
     let reply = done.reply;
     let station = done.station;
     RequestAnswer {
@@ -187,10 +242,14 @@ pub fn dl_enqueue_random_access_ack(
     if store.len() != 16384 {
         return refused(Refusal::Lengths, s);
     }
-    let records = load_64(queue);
-    let done = enqueue_core::ack_core(s, records, store, timeslot, kind, number);
-    let after = done.records;
-    save_64(queue, after);
+    let queued = s.queued;
+    if !queue_is_sound(queued, queue, store) {
+        return refused(Refusal::Unsound, s);
+    }
+    let done = enqueue_core::ack_plan(s, timeslot, kind, number);
+    let place = done.place;
+    let r = done.record;
+    put_record(queue, place, r);
     let reply = done.reply;
     let station = done.station;
     Answer {
@@ -223,21 +282,14 @@ pub fn dl_enqueue_tma(
     if store.len() != 16384 {
         return refused(Refusal::Lengths, s);
     }
-    let records = load_64(queue);
-    let done = enqueue_core::tma_core(
-        s,
-        records,
-        store,
-        timeslot,
-        kind,
-        number,
-        tag,
-        header,
-        bits,
-        sdu,
-    );
-    let after = done.records;
-    save_64(queue, after);
+    let queued = s.queued;
+    if !queue_is_sound(queued, queue, store) {
+        return refused(Refusal::Unsound, s);
+    }
+    let done = enqueue_core::tma_plan(s, store, timeslot, kind, number, tag, header, bits, sdu);
+    let place = done.place;
+    let r = done.record;
+    put_record(queue, place, r);
     let reply = done.reply;
     let station = done.station;
     Answer {
@@ -267,8 +319,15 @@ pub fn dl_build_block(
     if block.len() != 34 {
         return build_refused(Refusal::Lengths, s);
     }
+    let queued = s.queued;
+    if !queue_is_sound(queued, queue, store) {
+        return build_refused(Refusal::Unsound, s);
+    }
+    if !build_core::builds_now(s) {
+        return no_block(s);
+    }
     let records = load_64(queue);
-    let done = build_core::build_core(s, records, store, block);
+    let done = build_core::build_sound(s, records, store, block);
     let after = done.records;
     save_64(queue, after);
     let reply = done.reply;

@@ -15,7 +15,8 @@ pub struct Queue {
     pub records: [Record; 64],
 }
 
-fn place_is_sound(filled: bool, r: Record, cell: &[u8]) -> bool
+// Question 1 for a place and its cell.
+pub fn place_is_sound(filled: bool, r: Record, cell: &[u8]) -> bool
     ensures { λ b. ⌜ b ≡ soundPlace filled r (now (cell .entry)) ⌝ }
 {
     if filled {

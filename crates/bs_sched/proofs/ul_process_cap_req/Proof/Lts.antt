@@ -5,12 +5,12 @@ use Rattle.bs_sched.proofs.Mirs as mirs
 use Rattle.bs_sched.proofs.Rows_Record as in-Record
 use Rattle.dl_record.proofs.Record
 use Rattle.dl_record.proofs.Record.Laws
+use Rattle.request_core.proofs.RequestPlan
+use Rattle.request_core.proofs.RequestPlan.Laws as Laws'
 use Rattle.sched_core.proofs.Refusal
-use Rattle.sched_core.proofs.Refusal.Laws as Laws'
+use Rattle.sched_core.proofs.Refusal.Laws as Laws''
 use Rattle.sched_core.proofs.RequestAnswer
-use Rattle.sched_core.proofs.RequestAnswer.Laws as Laws''
-use Rattle.sched_core.proofs.RequestCoreAnswer
-use Rattle.sched_core.proofs.RequestCoreAnswer.Laws as Laws'3
+use Rattle.sched_core.proofs.RequestAnswer.Laws as Laws'3
 use Rattle.sched_core.proofs.RequestReply
 use Rattle.sched_core.proofs.RequestReply.Laws as Laws'4
 use Rattle.sched_core.proofs.Station
@@ -100,7 +100,7 @@ abbrev τ2 : Syntax.Ty
 τ2 = Syntax.tyInt Syntax.w32
 
 abbrev τ3 : Syntax.Ty
-τ3 = Syntax.tyArray mirs.dl_record-Record 64
+τ3 = Syntax.tyArray τ0 4
 
 abbrev τ4 : Syntax.Ty
 τ4 = Syntax.tyRef Syntax.erased Syntax.imm in-Record.at
@@ -130,19 +130,22 @@ abbrev ρ2 : Row.Row
 ρ2 = Rows'.sc-here (Row.sInt Syntax.w64)
 
 abbrev ρ3 : Row.Row
-ρ3 = Rows'.whole (Declared.row Refusal.the-type)
+ρ3 = Rows'.whole (Declared'.row Record.the-type)
 
 abbrev ρ4 : Row.Row
-ρ4 = Rows'.whole (Declared'.row Station.the-type)
+ρ4 = Rows'.whole (Declared.row Refusal.the-type)
 
 abbrev ρ5 : Row.Row
-ρ5 = Rows.arrF (Declared'.row Record.the-type) 64 0
+ρ5 = Rows'.whole (Declared'.row Station.the-type)
 
 abbrev ρ6 : Row.Row
-ρ6 = Rows'.whole (Declared'.row RequestAnswer.the-type)
+ρ6 = Rows'.whole (Declared'.row RequestPlan.the-type)
 
 abbrev ρ7 : Row.Row
-ρ7 = Rows'.whole (Declared'.row RequestCoreAnswer.the-type)
+ρ7 = Rows'.whole (Declared'.row RequestAnswer.the-type)
+
+abbrev ρ8 : Row.Row
+ρ8 = Rows.arrF (Referent.rtF (Referent.fInt Syntax.w8)) 4 0
 
 abbrev ε0 : Row.Entry
 ε0 = (8, Rows'.any-gone τ3)
@@ -160,43 +163,43 @@ abbrev ε4 : Row.Entry
 ε4 = (7, Rows'.any-gone τ2)
 
 abbrev ε5 : Row.Entry
-ε5 = (10, Rows'.any-gone τ3)
+ε5 = (10, Rows'.any-gone τ1)
 
 abbrev ε6 : Row.Entry
-ε6 = (16, Rows'.any-gone τ1)
+ε6 = (17, Rows'.any-gone τ1)
 
 abbrev ε7 : Row.Entry
-ε7 = (19, Rows'.any-gone τ4)
+ε7 = (20, Rows'.any-gone τ4)
 
 abbrev ε8 : Row.Entry
-ε8 = (20, Rows'.any-gone τ7)
+ε8 = (21, Rows'.any-gone τ7)
 
 abbrev ε9 : Row.Entry
-ε9 = (22, Rows'.any-gone τ5)
+ε9 = (24, Rows'.any-gone τ5)
 
 abbrev ε10 : Row.Entry
-ε10 = (23, Rows'.any-gone τ8)
+ε10 = (25, Rows'.any-gone τ8)
 
 abbrev ε11 : Row.Entry
-ε11 = (13, Rows'.sc-here Row.sBool)
+ε11 = (14, Rows'.sc-here Row.sBool)
 
 abbrev ε12 : Row.Entry
-ε12 = (14, Rows'.sc-here Row.sBool)
+ε12 = (15, Rows'.sc-here Row.sBool)
 
 abbrev ε13 : Row.Entry
-ε13 = (23, Mut.msleft in-Record.row τ5)
+ε13 = (25, Mut.msleft in-Record.row τ5)
 
 abbrev ε14 : Row.Entry
 ε14 = (2, Mut.mslice in-Record.row τ6 0)
 
 abbrev ε15 : Row.Entry
-ε15 = (13, Rows'.any-gone Syntax.tyBool)
+ε15 = (14, Rows'.any-gone Syntax.tyBool)
 
 abbrev ε16 : Row.Entry
-ε16 = (14, Rows'.any-gone Syntax.tyBool)
+ε16 = (15, Rows'.any-gone Syntax.tyBool)
 
 abbrev ε17 : Row.Entry
-ε17 = (21, Rows'.any-gone Syntax.tyUnit)
+ε17 = (23, Rows'.any-gone Syntax.tyUnit)
 
 abbrev ε18 : Row.Entry
 ε18 = (4, Rows'.sc-here (Row.sInt Syntax.w8))
@@ -211,64 +214,70 @@ abbrev ε21 : Row.Entry
 ε21 = (7, Rows'.sc-here (Row.sInt Syntax.w32))
 
 abbrev ε22 : Row.Entry
-ε22 = (1, Rows'.any-gone mirs.sched_core-Station)
+ε22 = (10, Rows'.sc-here (Row.sInt Syntax.w64))
 
 abbrev ε23 : Row.Entry
-ε23 = (12, Rows'.any-gone mirs.sched_core-Station)
+ε23 = (11, Rows'.any-gone mirs.dl_record-Record)
 
 abbrev ε24 : Row.Entry
-ε24 = (15, Rows'.any-gone mirs.sched_core-Refusal)
+ε24 = (1, Rows'.any-gone mirs.sched_core-Station)
 
 abbrev ε25 : Row.Entry
-ε25 = (17, Rows'.any-gone mirs.sched_core-Refusal)
+ε25 = (13, Rows'.any-gone mirs.sched_core-Station)
 
 abbrev ε26 : Row.Entry
-ε26 = (18, Rows'.any-gone mirs.sched_core-Refusal)
+ε26 = (16, Rows'.any-gone mirs.sched_core-Refusal)
 
 abbrev ε27 : Row.Entry
-ε27 = (0, Rows'.any-gone mirs.sched_core-RequestAnswer)
+ε27 = (18, Rows'.any-gone mirs.sched_core-Refusal)
 
 abbrev ε28 : Row.Entry
-ε28 = (1, Rows'.whole (Declared'.row Station.the-type))
+ε28 = (19, Rows'.any-gone mirs.sched_core-Refusal)
 
 abbrev ε29 : Row.Entry
-ε29 = (11, Rows'.any-gone mirs.sched_core-RequestReply)
+ε29 = (22, Rows'.any-gone mirs.sched_core-Refusal)
 
 abbrev ε30 : Row.Entry
-ε30 = (15, Rows'.whole (Declared.row Refusal.the-type))
+ε30 = (0, Rows'.any-gone mirs.sched_core-RequestAnswer)
 
 abbrev ε31 : Row.Entry
-ε31 = (12, Rows'.whole (Declared'.row Station.the-type))
+ε31 = (1, Rows'.whole (Declared'.row Station.the-type))
 
 abbrev ε32 : Row.Entry
-ε32 = (8, Rows.arrF (Declared'.row Record.the-type) 64 0)
+ε32 = (9, Rows'.any-gone mirs.request_core-RequestPlan)
 
 abbrev ε33 : Row.Entry
-ε33 = (10, Rows.arrF (Declared'.row Record.the-type) 64 0)
+ε33 = (12, Rows'.any-gone mirs.sched_core-RequestReply)
 
 abbrev ε34 : Row.Entry
-ε34 = (2, Relend.mslice-owed in-Record.row τ6 0 3 Row.off)
+ε34 = (11, Rows'.whole (Declared'.row Record.the-type))
 
 abbrev ε35 : Row.Entry
-ε35 = (9, Rows'.any-gone mirs.sched_core-RequestCoreAnswer)
+ε35 = (13, Rows'.whole (Declared'.row Station.the-type))
 
 abbrev ε36 : Row.Entry
-ε36 = (2, Reshare.mslice-owedS in-Record.row τ6 0 2 Row.off)
+ε36 = (2, Relend.mslice-owed in-Record.row τ6 0 3 Row.off)
 
 abbrev ε37 : Row.Entry
-ε37 = (11, Rows'.whole (Declared.row RequestReply.the-type))
+ε37 = (9, Rows'.whole (Declared'.row RequestPlan.the-type))
 
 abbrev ε38 : Row.Entry
-ε38 = (0, Rows'.whole (Declared'.row RequestAnswer.the-type))
+ε38 = (2, Reshare.mslice-owedS in-Record.row τ6 0 2 Row.off)
 
 abbrev ε39 : Row.Entry
-ε39 = (9, Rows'.whole (Declared'.row RequestCoreAnswer.the-type))
+ε39 = (12, Rows'.whole (Declared.row RequestReply.the-type))
 
 abbrev ε40 : Row.Entry
-ε40 = (3, Rows'.sslice (Referent.rtF (Referent.fInt Syntax.w8)) τ9 1)
+ε40 = (0, Rows'.whole (Declared'.row RequestAnswer.the-type))
 
 abbrev ε41 : Row.Entry
-ε41 = (0, Rows'.whole (Declared'.row (Apart.apartT RequestAnswer.the-type)))
+ε41 = (8, Rows.arrF (Referent.rtF (Referent.fInt Syntax.w8)) 4 0)
+
+abbrev ε42 : Row.Entry
+ε42 = (3, Rows'.sslice (Referent.rtF (Referent.fInt Syntax.w8)) τ9 1)
+
+abbrev ε43 : Row.Entry
+ε43 = (0, Rows'.whole (Declared'.row (Apart.apartT RequestAnswer.the-type)))
 
 abbrev pub ps : List.List (Kinds.PK 2)
 ps = (Value.pVal record {
@@ -298,28 +307,29 @@ abbrev pub r : Kinds.RK 2
 r = Value.rVal record {
   ty = Declared'.row RequestAnswer.the-type;
   one = Path'.refl;
-  val = Laws'8.val RequestAnswer.the-type Laws''.the-laws;
+  val = Laws'8.val RequestAnswer.the-type Laws'3.the-laws;
   tells =
-      Laws'8.tells RequestAnswer.the-type Laws''.the-laws;
-  still = Laws'8.still RequestAnswer.the-type Laws''.the-copy Exit.yes;
+      Laws'8.tells RequestAnswer.the-type Laws'3.the-laws;
+  still = Laws'8.still RequestAnswer.the-type Laws'3.the-copy Exit.yes;
   row = Rows'.whole
       (Declared'.row RequestAnswer.the-type);
   rd = λ x. x;
   mk = λ x. x;
 } λ M 𝓤 H A W. record {
   copies = Laws'8.copy RequestAnswer.the-type
-      Laws''.the-copy 𝓤 H A W;
-  lawful = Laws'8.lawful RequestAnswer.the-type Laws''.the-laws 𝓤 H A W;
+      Laws'3.the-copy 𝓤 H A W;
+  lawful = Laws'8.lawful RequestAnswer.the-type Laws'3.the-laws 𝓤 H A W;
   makes = Laws'8.makes RequestAnswer.the-type
-      Laws''.the-plain 𝓤 H A;
+      Laws'3.the-plain 𝓤 H A;
   in-mem = Local.mem-whole 𝓤 H A W (Declared'.row RequestAnswer.the-type);
   of-mem = Local.whole-mem 𝓤 H A W (Declared'.row
       RequestAnswer.the-type);
 }
 
 abbrev pub xs : List.List Syntax.Ty
-xs = τ3 ∷ mirs.sched_core-RequestCoreAnswer ∷ τ3 ∷ mirs.sched_core-RequestReply ∷ mirs.sched_core-Station ∷ Syntax.tyBool ∷ Syntax.tyBool ∷
-    mirs.sched_core-Refusal ∷ τ1 ∷ mirs.sched_core-Refusal ∷ mirs.sched_core-Refusal ∷ τ4 ∷ τ7 ∷ Syntax.tyUnit ∷ τ5 ∷ τ8 ∷ []
+xs = τ3 ∷ mirs.request_core-RequestPlan ∷ τ1 ∷ mirs.dl_record-Record ∷ mirs.sched_core-RequestReply ∷ mirs.sched_core-Station ∷ Syntax.tyBool ∷
+    Syntax.tyBool ∷ mirs.sched_core-Refusal ∷ τ1 ∷ mirs.sched_core-Refusal ∷ mirs.sched_core-Refusal ∷ τ4 ∷ τ7 ∷ mirs.sched_core-Refusal ∷
+    Syntax.tyUnit ∷ τ5 ∷ τ8 ∷ []
 
 abbrev pub m : Nat.ℕ
 m = 2
@@ -353,21 +363,21 @@ abbrev pub ps·1 : List.List (Kinds.PK 0)
 ps·1 = (Value.pVal record {
   ty = Declared.row Refusal.the-type;
   one = Path'.refl;
-  val = Laws'6.val Refusal.the-type Laws'.the-laws;
+  val = Laws'6.val Refusal.the-type Laws''.the-laws;
   tells =
-      Laws'6.tells Refusal.the-type Laws'.the-laws;
-  still = Laws'6.still Refusal.the-type Laws'.the-copy Exit.yes;
+      Laws'6.tells Refusal.the-type Laws''.the-laws;
+  still = Laws'6.still Refusal.the-type Laws''.the-copy Exit.yes;
   row = Rows'.whole (Declared.row
       Refusal.the-type);
   rd = λ x. x;
   mk = λ x. x;
 } λ M 𝓤 H A W. record {
-  copies = Laws'6.copy Refusal.the-type Laws'.the-copy 𝓤 H A W;
+  copies = Laws'6.copy Refusal.the-type Laws''.the-copy 𝓤 H A W;
   lawful =
-      Laws'6.lawful Refusal.the-type Laws'.the-laws 𝓤 H A W tt;
-  makes = Laws'6.makes Refusal.the-type Laws'.the-plain 𝓤 H A;
-  in-mem = Local.mem-whole 𝓤
-      H A W (Declared.row Refusal.the-type);
+      Laws'6.lawful Refusal.the-type Laws''.the-laws 𝓤 H A W tt;
+  makes = Laws'6.makes Refusal.the-type Laws''.the-plain 𝓤 H A;
+  in-mem = Local.mem-whole
+      𝓤 H A W (Declared.row Refusal.the-type);
   of-mem = Local.whole-mem 𝓤 H A W (Declared.row Refusal.the-type);
 }) ∷ (Value.pVal record {
   ty =
@@ -394,33 +404,33 @@ abbrev pub r·1 : Kinds.RK 0
 r·1 = Value.rVal record {
   ty = Declared'.row RequestAnswer.the-type;
   one = Path'.refl;
-  val = Laws'8.val RequestAnswer.the-type Laws''.the-laws;
+  val = Laws'8.val RequestAnswer.the-type Laws'3.the-laws;
   tells
-      = Laws'8.tells RequestAnswer.the-type Laws''.the-laws;
-  still = Laws'8.still RequestAnswer.the-type Laws''.the-copy Exit.yes;
+      = Laws'8.tells RequestAnswer.the-type Laws'3.the-laws;
+  still = Laws'8.still RequestAnswer.the-type Laws'3.the-copy Exit.yes;
   row = Rows'.whole
       (Declared'.row RequestAnswer.the-type);
   rd = λ x. x;
   mk = λ x. x;
 } λ M 𝓤 H A W. record {
   copies = Laws'8.copy RequestAnswer.the-type
-      Laws''.the-copy 𝓤 H A W;
-  lawful = Laws'8.lawful RequestAnswer.the-type Laws''.the-laws 𝓤 H A W;
+      Laws'3.the-copy 𝓤 H A W;
+  lawful = Laws'8.lawful RequestAnswer.the-type Laws'3.the-laws 𝓤 H A W;
   makes = Laws'8.makes RequestAnswer.the-type
-      Laws''.the-plain 𝓤 H A;
+      Laws'3.the-plain 𝓤 H A;
   in-mem = Local.mem-whole 𝓤 H A W (Declared'.row RequestAnswer.the-type);
   of-mem = Local.whole-mem 𝓤 H A W (Declared'.row
       RequestAnswer.the-type);
 }
 
-abbrev pub ps·2 : List.List (Kinds.PK 1)
-ps·2 = (ShrSlice.pShrS in-Record.row 0 tt) ∷ []
+abbrev pub ps·2 : List.List (Kinds.PK 2)
+ps·2 = (Array.pArr (Array.eInt Syntax.w8) (Array.eInt-laws Syntax.w8) 4) ∷ (ShrSlice.pShrS in-Record.row 0 tt) ∷ (ShrSlice.pShrS (Referent.rtF
+    (Referent.fInt Syntax.w8)) 1 tt) ∷ []
 
-abbrev pub r·2 : Kinds.RK 1
-r·2 = Array.rArr (Array.eStruct Record.the-type Laws.the-laws Laws.the-copy) (Array.eStruct-laws Record.the-type Laws.the-laws Laws.the-copy
-    Laws.the-plain) 64
+abbrev pub r·2 : Kinds.RK 2
+r·2 = Bool.rBool
 
-abbrev pub ps·3 : List.List (Kinds.PK 1)
+abbrev pub ps·3 : List.List (Kinds.PK 0)
 ps·3 = (Value.pVal record {
   ty = Declared'.row Station.the-type;
   one = Path'.refl;
@@ -440,35 +450,51 @@ ps·3 = (Value.pVal record {
   in-mem = Local.mem-whole 𝓤 H
       A W (Declared'.row Station.the-type);
   of-mem = Local.whole-mem 𝓤 H A W (Declared'.row Station.the-type);
-}) ∷ (Array.pArr (Array.eStruct
-    Record.the-type Laws.the-laws Laws.the-copy) (Array.eStruct-laws Record.the-type Laws.the-laws Laws.the-copy Laws.the-plain) 64) ∷ (ShrSlice.pShrS
-    (Referent.rtF (Referent.fInt Syntax.w8)) 0 tt) ∷ (Num.pNum Syntax.w8) ∷ (Num.pNum Syntax.w8) ∷ (Num.pNum Syntax.w8) ∷ (Num.pNum Syntax.w32) ∷ []
+}) ∷ (Num.pNum Syntax.w8) ∷ (Num.pNum
+    Syntax.w8) ∷ (Num.pNum Syntax.w8) ∷ (Num.pNum Syntax.w32) ∷ []
 
-abbrev pub r·3 : Kinds.RK 1
+abbrev pub r·3 : Kinds.RK 0
 r·3 = Value.rVal record {
-  ty = Declared'.row RequestCoreAnswer.the-type;
+  ty = Declared'.row RequestPlan.the-type;
   one = Path'.refl;
-  val = Laws'8.val RequestCoreAnswer.the-type
-      Laws'3.the-laws;
-  tells = Laws'8.tells RequestCoreAnswer.the-type Laws'3.the-laws;
-  still = Laws'8.still RequestCoreAnswer.the-type Laws'3.the-copy
-      Exit.yes;
-  row = Rows'.whole (Declared'.row RequestCoreAnswer.the-type);
+  val = Laws'8.val RequestPlan.the-type Laws'.the-laws;
+  tells =
+      Laws'8.tells RequestPlan.the-type Laws'.the-laws;
+  still = Laws'8.still RequestPlan.the-type Laws'.the-copy Exit.yes;
+  row = Rows'.whole
+      (Declared'.row RequestPlan.the-type);
   rd = λ x. x;
   mk = λ x. x;
 } λ M 𝓤 H A W. record {
-  copies = Laws'8.copy
-      RequestCoreAnswer.the-type Laws'3.the-copy 𝓤 H A W;
-  lawful = Laws'8.lawful RequestCoreAnswer.the-type Laws'3.the-laws 𝓤 H A W;
-  makes =
-      Laws'8.makes RequestCoreAnswer.the-type Laws'3.the-plain 𝓤 H A;
-  in-mem = Local.mem-whole 𝓤 H A W (Declared'.row RequestCoreAnswer.the-type);
-  of-mem = Local.whole-mem 𝓤 H A W (Declared'.row RequestCoreAnswer.the-type);
+  copies = Laws'8.copy RequestPlan.the-type Laws'.the-copy 𝓤
+      H A W;
+  lawful = Laws'8.lawful RequestPlan.the-type Laws'.the-laws 𝓤 H A W;
+  makes = Laws'8.makes RequestPlan.the-type Laws'.the-plain 𝓤 H A;
+  in-mem
+      = Local.mem-whole 𝓤 H A W (Declared'.row RequestPlan.the-type);
+  of-mem = Local.whole-mem 𝓤 H A W (Declared'.row RequestPlan.the-type);
 }
 
 abbrev pub ps·4 : List.List (Kinds.PK 1)
-ps·4 = (MutSlice.pMutS in-Record.row 0 tt) ∷ (Array.pArr (Array.eStruct Record.the-type Laws.the-laws Laws.the-copy) (Array.eStruct-laws
-    Record.the-type Laws.the-laws Laws.the-copy Laws.the-plain) 64) ∷ []
+ps·4 = (MutSlice.pMutS in-Record.row 0 tt) ∷ (Num.pNum Syntax.w64) ∷ (Value.pVal record {
+  ty = Declared'.row Record.the-type;
+  one = Path'.refl;
+  val =
+      Laws'8.val Record.the-type Laws.the-laws;
+  tells = Laws'8.tells Record.the-type Laws.the-laws;
+  still = Laws'8.still Record.the-type Laws.the-copy
+      Exit.yes;
+  row = Rows'.whole (Declared'.row Record.the-type);
+  rd = λ x. x;
+  mk = λ x. x;
+} λ M 𝓤 H A W. record {
+  copies = Laws'8.copy Record.the-type
+      Laws.the-copy 𝓤 H A W;
+  lawful = Laws'8.lawful Record.the-type Laws.the-laws 𝓤 H A W;
+  makes = Laws'8.makes Record.the-type Laws.the-plain 𝓤 H A;
+  in-mem = Local.mem-whole 𝓤 H A W (Declared'.row Record.the-type);
+  of-mem = Local.whole-mem 𝓤 H A W (Declared'.row Record.the-type);
+}) ∷ []
 
 abbrev pub r·4 : Kinds.RK 1
 r·4 = Unit'.rUnit
@@ -477,19 +503,19 @@ abbrev pub hs : List.List Syntax.Home
 hs = Syntax.valueLocal ∷ Syntax.valueLocal ∷ Syntax.valueLocal ∷ Syntax.valueLocal ∷ Syntax.valueLocal ∷ Syntax.valueLocal ∷ Syntax.valueLocal ∷
     Syntax.valueLocal ∷ Syntax.valueLocal ∷ Syntax.valueLocal ∷ Syntax.valueLocal ∷ Syntax.valueLocal ∷ Syntax.valueLocal ∷ Syntax.valueLocal ∷
     Syntax.valueLocal ∷ Syntax.valueLocal ∷ Syntax.valueLocal ∷ Syntax.valueLocal ∷ Syntax.valueLocal ∷ Syntax.valueLocal ∷ Syntax.valueLocal ∷
-    Syntax.valueLocal ∷ Syntax.valueLocal ∷ Syntax.valueLocal ∷ []
+    Syntax.valueLocal ∷ Syntax.valueLocal ∷ Syntax.valueLocal ∷ Syntax.valueLocal ∷ Syntax.valueLocal ∷ []
 
 abbrev b0 : Syntax.Body
-b0 = Syntax.call "sched_core::station_is_sound" ((Syntax.copy (Syntax.place 1 [])) ∷ []) (Syntax.place 13 [])
+b0 = Syntax.call "sched_core::station_is_sound" ((Syntax.copy (Syntax.place 1 [])) ∷ []) (Syntax.place 14 [])
 
 abbrev b1 : Syntax.Body
-b1 = Syntax.assign (Syntax.place 14 []) (Syntax.op1 Syntax.bitNot (Syntax.copy (Syntax.place 13 [])))
+b1 = Syntax.assign (Syntax.place 15 []) (Syntax.op1 Syntax.bitNot (Syntax.copy (Syntax.place 14 [])))
 
 abbrev b2 : Syntax.Body
-b2 = Syntax.assign (Syntax.place 15 []) (Syntax.aggregate ((Syntax.int Syntax.w8 0) ∷ []))
+b2 = Syntax.assign (Syntax.place 16 []) (Syntax.aggregate ((Syntax.int Syntax.w8 0) ∷ []))
 
 abbrev b3 : Syntax.Body
-b3 = Syntax.call "bs_sched::request_refused" ((Syntax.copy (Syntax.place 15 [])) ∷ (Syntax.copy (Syntax.place 1 [])) ∷ []) (Syntax.place 0 [])
+b3 = Syntax.call "bs_sched::request_refused" ((Syntax.copy (Syntax.place 16 [])) ∷ (Syntax.copy (Syntax.place 1 [])) ∷ []) (Syntax.place 0 [])
 
 abbrev b4 : Syntax.Body
 b4 = Syntax.return
@@ -504,19 +530,19 @@ abbrev b7 : Syntax.Body
 b7 = Syntax.skip
 
 abbrev b8 : Syntax.Body
-b8 = Syntax.cond (Syntax.copy (Syntax.place 14 [])) b6 b7
+b8 = Syntax.cond (Syntax.copy (Syntax.place 15 [])) b6 b7
 
 abbrev b9 : Syntax.Body
-b9 = Syntax.assign (Syntax.place 16 []) (Syntax.rvOpd (Syntax.copy (Syntax.place 2 ((Syntax.field 1) ∷ []))))
+b9 = Syntax.assign (Syntax.place 17 []) (Syntax.rvOpd (Syntax.copy (Syntax.place 2 ((Syntax.field 1) ∷ []))))
 
 abbrev b10 : Syntax.Body
-b10 = Syntax.assign (Syntax.place 13 []) (Syntax.op2 Syntax.ne (Syntax.copy (Syntax.place 16 [])) (Syntax.int Syntax.w64 64))
+b10 = Syntax.assign (Syntax.place 14 []) (Syntax.op2 Syntax.ne (Syntax.copy (Syntax.place 17 [])) (Syntax.int Syntax.w64 64))
 
 abbrev b11 : Syntax.Body
-b11 = Syntax.assign (Syntax.place 17 []) (Syntax.aggregate ((Syntax.int Syntax.w8 1) ∷ []))
+b11 = Syntax.assign (Syntax.place 18 []) (Syntax.aggregate ((Syntax.int Syntax.w8 1) ∷ []))
 
 abbrev b12 : Syntax.Body
-b12 = Syntax.call "bs_sched::request_refused" ((Syntax.copy (Syntax.place 17 [])) ∷ (Syntax.copy (Syntax.place 1 [])) ∷ []) (Syntax.place 0 [])
+b12 = Syntax.call "bs_sched::request_refused" ((Syntax.copy (Syntax.place 18 [])) ∷ (Syntax.copy (Syntax.place 1 [])) ∷ []) (Syntax.place 0 [])
 
 abbrev b13 : Syntax.Body
 b13 = Syntax.return
@@ -531,19 +557,19 @@ abbrev b16 : Syntax.Body
 b16 = Syntax.skip
 
 abbrev b17 : Syntax.Body
-b17 = Syntax.cond (Syntax.copy (Syntax.place 13 [])) b15 b16
+b17 = Syntax.cond (Syntax.copy (Syntax.place 14 [])) b15 b16
 
 abbrev b18 : Syntax.Body
-b18 = Syntax.assign (Syntax.place 16 []) (Syntax.rvOpd (Syntax.copy (Syntax.place 3 ((Syntax.field 1) ∷ []))))
+b18 = Syntax.assign (Syntax.place 17 []) (Syntax.rvOpd (Syntax.copy (Syntax.place 3 ((Syntax.field 1) ∷ []))))
 
 abbrev b19 : Syntax.Body
-b19 = Syntax.assign (Syntax.place 14 []) (Syntax.op2 Syntax.ne (Syntax.copy (Syntax.place 16 [])) (Syntax.intBig Syntax.w64 16384))
+b19 = Syntax.assign (Syntax.place 15 []) (Syntax.op2 Syntax.ne (Syntax.copy (Syntax.place 17 [])) (Syntax.intBig Syntax.w64 16384))
 
 abbrev b20 : Syntax.Body
-b20 = Syntax.assign (Syntax.place 18 []) (Syntax.aggregate ((Syntax.int Syntax.w8 1) ∷ []))
+b20 = Syntax.assign (Syntax.place 19 []) (Syntax.aggregate ((Syntax.int Syntax.w8 1) ∷ []))
 
 abbrev b21 : Syntax.Body
-b21 = Syntax.call "bs_sched::request_refused" ((Syntax.copy (Syntax.place 18 [])) ∷ (Syntax.copy (Syntax.place 1 [])) ∷ []) (Syntax.place 0 [])
+b21 = Syntax.call "bs_sched::request_refused" ((Syntax.copy (Syntax.place 19 [])) ∷ (Syntax.copy (Syntax.place 1 [])) ∷ []) (Syntax.place 0 [])
 
 abbrev b22 : Syntax.Body
 b22 = Syntax.return
@@ -558,240 +584,286 @@ abbrev b25 : Syntax.Body
 b25 = Syntax.skip
 
 abbrev b26 : Syntax.Body
-b26 = Syntax.cond (Syntax.copy (Syntax.place 14 [])) b24 b25
+b26 = Syntax.cond (Syntax.copy (Syntax.place 15 [])) b24 b25
 
 abbrev b27 : Syntax.Body
-b27 = Syntax.assign (Syntax.place 19 []) (Syntax.addrOf (Syntax.place 2 ((Syntax.field 0) ∷ (Syntax.deref mirs.dl_record-Record) ∷ [])))
+b27 = Syntax.assign (Syntax.place 8 []) (Syntax.rvOpd (Syntax.copy (Syntax.place 1 ((Syntax.field 6) ∷ []))))
 
 abbrev b28 : Syntax.Body
-b28 = Syntax.assign (Syntax.place 20 []) (Syntax.aggregate ((Syntax.copy (Syntax.place 19 [])) ∷ (Syntax.copy (Syntax.place 2 ((Syntax.field 1) ∷
-    []))) ∷ []))
+b28 = Syntax.assign (Syntax.place 20 []) (Syntax.addrOf (Syntax.place 2 ((Syntax.field 0) ∷ (Syntax.deref mirs.dl_record-Record) ∷ [])))
 
 abbrev b29 : Syntax.Body
-b29 = Syntax.call "bs_sched::load_64" ((Syntax.copy (Syntax.place 20 [])) ∷ []) (Syntax.place 8 [])
-
-abbrev b30 : Syntax.Body
-b30 = Syntax.call "request_core::request_core" ((Syntax.copy (Syntax.place 1 [])) ∷ (Syntax.copy (Syntax.place 8 [])) ∷ (Syntax.copy (Syntax.place 3
-    [])) ∷ (Syntax.copy (Syntax.place 4 [])) ∷ (Syntax.copy (Syntax.place 5 [])) ∷ (Syntax.copy (Syntax.place 6 [])) ∷ (Syntax.copy (Syntax.place 7
-    [])) ∷ []) (Syntax.place 9 [])
-
-abbrev b31 : Syntax.Body
-b31 = Syntax.assign (Syntax.place 10 []) (Syntax.rvOpd (Syntax.copy (Syntax.place 9 ((Syntax.field 2) ∷ []))))
-
-abbrev b32 : Syntax.Body
-b32 = Syntax.assign (Syntax.place 22 []) (Syntax.addrOf (Syntax.place 2 ((Syntax.field 0) ∷ (Syntax.deref mirs.dl_record-Record) ∷ [])))
-
-abbrev b33 : Syntax.Body
-b33 = Syntax.assign (Syntax.place 23 []) (Syntax.aggregate ((Syntax.copy (Syntax.place 22 [])) ∷ (Syntax.copy (Syntax.place 2 ((Syntax.field 1) ∷
+b29 = Syntax.assign (Syntax.place 21 []) (Syntax.aggregate ((Syntax.copy (Syntax.place 20 [])) ∷ (Syntax.copy (Syntax.place 2 ((Syntax.field 1) ∷
     []))) ∷ []))
 
+abbrev b30 : Syntax.Body
+b30 = Syntax.call "bs_sched::queue_is_sound" ((Syntax.copy (Syntax.place 8 [])) ∷ (Syntax.copy (Syntax.place 21 [])) ∷ (Syntax.copy (Syntax.place 3
+    [])) ∷ []) (Syntax.place 14 [])
+
+abbrev b31 : Syntax.Body
+b31 = Syntax.assign (Syntax.place 15 []) (Syntax.op1 Syntax.bitNot (Syntax.copy (Syntax.place 14 [])))
+
+abbrev b32 : Syntax.Body
+b32 = Syntax.assign (Syntax.place 22 []) (Syntax.aggregate ((Syntax.int Syntax.w8 0) ∷ []))
+
+abbrev b33 : Syntax.Body
+b33 = Syntax.call "bs_sched::request_refused" ((Syntax.copy (Syntax.place 22 [])) ∷ (Syntax.copy (Syntax.place 1 [])) ∷ []) (Syntax.place 0 [])
+
 abbrev b34 : Syntax.Body
-b34 = Syntax.call "bs_sched::save_64" ((Syntax.copy (Syntax.place 23 [])) ∷ (Syntax.copy (Syntax.place 10 [])) ∷ []) (Syntax.place 21 [])
+b34 = Syntax.return
 
 abbrev b35 : Syntax.Body
-b35 = Syntax.assign (Syntax.place 11 []) (Syntax.rvOpd (Syntax.copy (Syntax.place 9 ((Syntax.field 0) ∷ []))))
+b35 = Syntax.seq b33 b34
 
 abbrev b36 : Syntax.Body
-b36 = Syntax.assign (Syntax.place 12 []) (Syntax.rvOpd (Syntax.copy (Syntax.place 9 ((Syntax.field 1) ∷ []))))
+b36 = Syntax.seq b32 b35
 
 abbrev b37 : Syntax.Body
-b37 = Syntax.assign (Syntax.place 0 []) (Syntax.aggregate ((Syntax.copy (Syntax.place 11 [])) ∷ (Syntax.copy (Syntax.place 12 [])) ∷ []))
+b37 = Syntax.skip
 
 abbrev b38 : Syntax.Body
-b38 = Syntax.return
+b38 = Syntax.cond (Syntax.copy (Syntax.place 15 [])) b36 b37
 
 abbrev b39 : Syntax.Body
-b39 = Syntax.seq b37 b38
+b39 = Syntax.call "request_core::request_plan" ((Syntax.copy (Syntax.place 1 [])) ∷ (Syntax.copy (Syntax.place 4 [])) ∷ (Syntax.copy (Syntax.place 5
+    [])) ∷ (Syntax.copy (Syntax.place 6 [])) ∷ (Syntax.copy (Syntax.place 7 [])) ∷ []) (Syntax.place 9 [])
 
 abbrev b40 : Syntax.Body
-b40 = Syntax.seq b36 b39
+b40 = Syntax.assign (Syntax.place 10 []) (Syntax.rvOpd (Syntax.copy (Syntax.place 9 ((Syntax.field 2) ∷ []))))
 
 abbrev b41 : Syntax.Body
-b41 = Syntax.seq b35 b40
+b41 = Syntax.assign (Syntax.place 11 []) (Syntax.rvOpd (Syntax.copy (Syntax.place 9 ((Syntax.field 3) ∷ []))))
 
 abbrev b42 : Syntax.Body
-b42 = Syntax.seq b34 b41
+b42 = Syntax.assign (Syntax.place 24 []) (Syntax.addrOf (Syntax.place 2 ((Syntax.field 0) ∷ (Syntax.deref mirs.dl_record-Record) ∷ [])))
 
 abbrev b43 : Syntax.Body
-b43 = Syntax.seq b33 b42
+b43 = Syntax.assign (Syntax.place 25 []) (Syntax.aggregate ((Syntax.copy (Syntax.place 24 [])) ∷ (Syntax.copy (Syntax.place 2 ((Syntax.field 1) ∷
+    []))) ∷ []))
 
 abbrev b44 : Syntax.Body
-b44 = Syntax.seq b32 b43
+b44 = Syntax.call "bs_sched::put_record" ((Syntax.copy (Syntax.place 25 [])) ∷ (Syntax.copy (Syntax.place 10 [])) ∷ (Syntax.copy (Syntax.place 11 []))
+    ∷ []) (Syntax.place 23 [])
 
 abbrev b45 : Syntax.Body
-b45 = Syntax.seq b31 b44
+b45 = Syntax.assign (Syntax.place 12 []) (Syntax.rvOpd (Syntax.copy (Syntax.place 9 ((Syntax.field 0) ∷ []))))
 
 abbrev b46 : Syntax.Body
-b46 = Syntax.seq b30 b45
+b46 = Syntax.assign (Syntax.place 13 []) (Syntax.rvOpd (Syntax.copy (Syntax.place 9 ((Syntax.field 1) ∷ []))))
 
 abbrev b47 : Syntax.Body
-b47 = Syntax.seq b29 b46
+b47 = Syntax.assign (Syntax.place 0 []) (Syntax.aggregate ((Syntax.copy (Syntax.place 12 [])) ∷ (Syntax.copy (Syntax.place 13 [])) ∷ []))
 
 abbrev b48 : Syntax.Body
-b48 = Syntax.seq b28 b47
+b48 = Syntax.return
 
 abbrev b49 : Syntax.Body
-b49 = Syntax.seq b27 b48
+b49 = Syntax.seq b47 b48
 
 abbrev b50 : Syntax.Body
-b50 = Syntax.seq b26 b49
+b50 = Syntax.seq b46 b49
 
 abbrev b51 : Syntax.Body
-b51 = Syntax.seq b19 b50
+b51 = Syntax.seq b45 b50
 
 abbrev b52 : Syntax.Body
-b52 = Syntax.seq b18 b51
+b52 = Syntax.seq b44 b51
 
 abbrev b53 : Syntax.Body
-b53 = Syntax.seq b17 b52
+b53 = Syntax.seq b43 b52
 
 abbrev b54 : Syntax.Body
-b54 = Syntax.seq b10 b53
+b54 = Syntax.seq b42 b53
 
 abbrev b55 : Syntax.Body
-b55 = Syntax.seq b9 b54
+b55 = Syntax.seq b41 b54
 
 abbrev b56 : Syntax.Body
-b56 = Syntax.seq b8 b55
+b56 = Syntax.seq b40 b55
 
 abbrev b57 : Syntax.Body
-b57 = Syntax.seq b1 b56
+b57 = Syntax.seq b39 b56
 
 abbrev b58 : Syntax.Body
-b58 = Syntax.seq b0 b57
+b58 = Syntax.seq b38 b57
+
+abbrev b59 : Syntax.Body
+b59 = Syntax.seq b31 b58
+
+abbrev b60 : Syntax.Body
+b60 = Syntax.seq b30 b59
+
+abbrev b61 : Syntax.Body
+b61 = Syntax.seq b29 b60
+
+abbrev b62 : Syntax.Body
+b62 = Syntax.seq b28 b61
+
+abbrev b63 : Syntax.Body
+b63 = Syntax.seq b27 b62
+
+abbrev b64 : Syntax.Body
+b64 = Syntax.seq b26 b63
+
+abbrev b65 : Syntax.Body
+b65 = Syntax.seq b19 b64
+
+abbrev b66 : Syntax.Body
+b66 = Syntax.seq b18 b65
+
+abbrev b67 : Syntax.Body
+b67 = Syntax.seq b17 b66
+
+abbrev b68 : Syntax.Body
+b68 = Syntax.seq b10 b67
+
+abbrev b69 : Syntax.Body
+b69 = Syntax.seq b9 b68
+
+abbrev b70 : Syntax.Body
+b70 = Syntax.seq b8 b69
+
+abbrev b71 : Syntax.Body
+b71 = Syntax.seq b1 b70
+
+abbrev b72 : Syntax.Body
+b72 = Syntax.seq b0 b71
 
 abbrev pub body : Syntax.Body
-body = b58
+body = b72
 
 abbrev pub Claims : Type 1
-Claims = Kinds.In 0 ps·0 × Kinds.Out 0 ps·0 r·0 × Kinds.In 0 ps·1 × Kinds.Out 0 ps·1 r·1 × Kinds.In 1 ps·2 × Kinds.Out 1 ps·2 r·2 × Kinds.In 1 ps·3 ×
-    Kinds.Out 1 ps·3 r·3 × Kinds.In 1 ps·4 × Kinds.Out 1 ps·4 r·4
+Claims = Kinds.In 0 ps·0 × Kinds.Out 0 ps·0 r·0 × Kinds.In 0 ps·1 × Kinds.Out 0 ps·1 r·1 × Kinds.In 2 ps·2 × Kinds.Out 2 ps·2 r·2 × Kinds.In 0 ps·3 ×
+    Kinds.Out 0 ps·3 r·3 × Kinds.In 1 ps·4 × Kinds.Out 1 ps·4 r·4
 
 abbrev pub t0 : List.List Row.Entry
-t0 = ε27 ∷ ε28 ∷ ε14 ∷ ε40 ∷ ε18 ∷ ε19 ∷ ε20 ∷ ε21 ∷ ε0 ∷ ε35 ∷ ε5 ∷ ε29 ∷ ε23 ∷ ε15 ∷ ε16 ∷ ε24 ∷ []
+t0 = ε30 ∷ ε31 ∷ ε14 ∷ ε42 ∷ ε18 ∷ ε19 ∷ ε20 ∷ ε21 ∷ ε0 ∷ ε32 ∷ ε5 ∷ ε23 ∷ ε33 ∷ ε25 ∷ ε15 ∷ ε16 ∷ []
 
 abbrev pub t1 : List.List Row.Entry
-t1 = ε6 ∷ ε25 ∷ ε26 ∷ ε7 ∷ ε8 ∷ ε17 ∷ ε9 ∷ ε10 ∷ []
+t1 = ε26 ∷ ε6 ∷ ε27 ∷ ε28 ∷ ε7 ∷ ε8 ∷ ε29 ∷ ε17 ∷ ε9 ∷ ε10 ∷ []
 
 abbrev pub t2 : List.List Row.Entry
-t2 = ε38 ∷ ε22 ∷ ε14 ∷ ε40 ∷ ε1 ∷ ε2 ∷ ε3 ∷ ε4 ∷ ε0 ∷ ε35 ∷ ε5 ∷ ε29 ∷ ε23 ∷ ε15 ∷ ε16 ∷ ε24 ∷ []
+t2 = ε40 ∷ ε24 ∷ ε14 ∷ ε42 ∷ ε1 ∷ ε2 ∷ ε3 ∷ ε4 ∷ ε0 ∷ ε32 ∷ ε5 ∷ ε23 ∷ ε33 ∷ ε25 ∷ ε15 ∷ ε16 ∷ []
 
 abbrev pub t3 : List.List Row.Entry
-t3 = ε27 ∷ ε28 ∷ ε14 ∷ ε40 ∷ ε18 ∷ ε19 ∷ ε20 ∷ ε21 ∷ ε0 ∷ ε35 ∷ ε5 ∷ ε29 ∷ ε23 ∷ ε11 ∷ ε16 ∷ ε24 ∷ []
+t3 = ε30 ∷ ε31 ∷ ε14 ∷ ε42 ∷ ε18 ∷ ε19 ∷ ε20 ∷ ε21 ∷ ε0 ∷ ε32 ∷ ε5 ∷ ε23 ∷ ε33 ∷ ε25 ∷ ε11 ∷ ε16 ∷ []
 
 abbrev pub t4 : List.List Row.Entry
-t4 = ε27 ∷ ε28 ∷ ε14 ∷ ε40 ∷ ε18 ∷ ε19 ∷ ε20 ∷ ε21 ∷ ε0 ∷ ε35 ∷ ε5 ∷ ε29 ∷ ε23 ∷ ε11 ∷ ε12 ∷ ε24 ∷ []
+t4 = ε30 ∷ ε31 ∷ ε14 ∷ ε42 ∷ ε18 ∷ ε19 ∷ ε20 ∷ ε21 ∷ ε0 ∷ ε32 ∷ ε5 ∷ ε23 ∷ ε33 ∷ ε25 ∷ ε11 ∷ ε12 ∷ []
 
 abbrev pub t5 : List.List Row.Entry
-t5 = ε27 ∷ ε28 ∷ ε14 ∷ ε40 ∷ ε18 ∷ ε19 ∷ ε20 ∷ ε21 ∷ ε0 ∷ ε35 ∷ ε5 ∷ ε29 ∷ ε23 ∷ ε15 ∷ ε12 ∷ ε24 ∷ []
+t5 = ε30 ∷ ε31 ∷ ε14 ∷ ε42 ∷ ε18 ∷ ε19 ∷ ε20 ∷ ε21 ∷ ε0 ∷ ε32 ∷ ε5 ∷ ε23 ∷ ε33 ∷ ε25 ∷ ε15 ∷ ε12 ∷ []
 
 abbrev pub t6 : List.List Row.Entry
-t6 = ε27 ∷ ε28 ∷ ε14 ∷ ε40 ∷ ε18 ∷ ε19 ∷ ε20 ∷ ε21 ∷ ε0 ∷ ε35 ∷ ε5 ∷ ε29 ∷ ε23 ∷ ε15 ∷ ε16 ∷ ε30 ∷ []
+t6 = (16, Rows'.whole (Declared.row Refusal.the-type)) ∷ ε6 ∷ ε27 ∷ ε28 ∷ ε7 ∷ ε8 ∷ ε29 ∷ ε17 ∷ ε9 ∷ ε10 ∷ []
 
 abbrev pub t7 : List.List Row.Entry
-t7 = ε38 ∷ ε28 ∷ ε14 ∷ ε40 ∷ ε18 ∷ ε19 ∷ ε20 ∷ ε21 ∷ ε0 ∷ ε35 ∷ ε5 ∷ ε29 ∷ ε23 ∷ ε15 ∷ ε16 ∷ ε30 ∷ []
+t7 = ε40 ∷ ε31 ∷ ε14 ∷ ε42 ∷ ε18 ∷ ε19 ∷ ε20 ∷ ε21 ∷ ε0 ∷ ε32 ∷ ε5 ∷ ε23 ∷ ε33 ∷ ε25 ∷ ε15 ∷ ε16 ∷ []
 
 abbrev pub t8 : List.List Row.Entry
-t8 = ε38 ∷ ε22 ∷ ε14 ∷ ε40 ∷ ε18 ∷ ε19 ∷ ε20 ∷ ε21 ∷ ε0 ∷ ε35 ∷ ε5 ∷ ε29 ∷ ε23 ∷ ε15 ∷ ε16 ∷ ε30 ∷ []
+t8 = ε40 ∷ ε24 ∷ ε14 ∷ ε42 ∷ ε18 ∷ ε19 ∷ ε20 ∷ ε21 ∷ ε0 ∷ ε32 ∷ ε5 ∷ ε23 ∷ ε33 ∷ ε25 ∷ ε15 ∷ ε16 ∷ []
 
 abbrev pub t9 : List.List Row.Entry
-t9 = ε38 ∷ ε22 ∷ ε14 ∷ ε40 ∷ ε18 ∷ ε19 ∷ ε20 ∷ ε21 ∷ ε0 ∷ ε35 ∷ ε5 ∷ ε29 ∷ ε23 ∷ ε15 ∷ ε16 ∷ ε24 ∷ []
+t9 = ε40 ∷ ε24 ∷ ε14 ∷ ε42 ∷ ε1 ∷ ε19 ∷ ε20 ∷ ε21 ∷ ε0 ∷ ε32 ∷ ε5 ∷ ε23 ∷ ε33 ∷ ε25 ∷ ε15 ∷ ε16 ∷ []
 
 abbrev pub t10 : List.List Row.Entry
-t10 = ε38 ∷ ε22 ∷ ε14 ∷ ε40 ∷ ε1 ∷ ε19 ∷ ε20 ∷ ε21 ∷ ε0 ∷ ε35 ∷ ε5 ∷ ε29 ∷ ε23 ∷ ε15 ∷ ε16 ∷ ε24 ∷ []
+t10 = ε40 ∷ ε24 ∷ ε14 ∷ ε42 ∷ ε1 ∷ ε2 ∷ ε20 ∷ ε21 ∷ ε0 ∷ ε32 ∷ ε5 ∷ ε23 ∷ ε33 ∷ ε25 ∷ ε15 ∷ ε16 ∷ []
 
 abbrev pub t11 : List.List Row.Entry
-t11 = ε38 ∷ ε22 ∷ ε14 ∷ ε40 ∷ ε1 ∷ ε2 ∷ ε20 ∷ ε21 ∷ ε0 ∷ ε35 ∷ ε5 ∷ ε29 ∷ ε23 ∷ ε15 ∷ ε16 ∷ ε24 ∷ []
+t11 = ε40 ∷ ε24 ∷ ε14 ∷ ε42 ∷ ε1 ∷ ε2 ∷ ε3 ∷ ε21 ∷ ε0 ∷ ε32 ∷ ε5 ∷ ε23 ∷ ε33 ∷ ε25 ∷ ε15 ∷ ε16 ∷ []
 
 abbrev pub t12 : List.List Row.Entry
-t12 = ε38 ∷ ε22 ∷ ε14 ∷ ε40 ∷ ε1 ∷ ε2 ∷ ε3 ∷ ε21 ∷ ε0 ∷ ε35 ∷ ε5 ∷ ε29 ∷ ε23 ∷ ε15 ∷ ε16 ∷ ε24 ∷ []
+t12 = ε26 ∷ (17, Rows'.sc-here (Row.sInt Syntax.w64)) ∷ ε27 ∷ ε28 ∷ ε7 ∷ ε8 ∷ ε29 ∷ ε17 ∷ ε9 ∷ ε10 ∷ []
 
 abbrev pub t13 : List.List Row.Entry
-t13 = (16, Rows'.sc-here (Row.sInt Syntax.w64)) ∷ ε25 ∷ ε26 ∷ ε7 ∷ ε8 ∷ ε17 ∷ ε9 ∷ ε10 ∷ []
+t13 = ε26 ∷ ε6 ∷ (18, Rows'.whole (Declared.row Refusal.the-type)) ∷ ε28 ∷ ε7 ∷ ε8 ∷ ε29 ∷ ε17 ∷ ε9 ∷ ε10 ∷ []
 
 abbrev pub t14 : List.List Row.Entry
-t14 = ε6 ∷ (17, Rows'.whole (Declared.row Refusal.the-type)) ∷ ε26 ∷ ε7 ∷ ε8 ∷ ε17 ∷ ε9 ∷ ε10 ∷ []
+t14 = ε26 ∷ ε6 ∷ ε27 ∷ (19, Rows'.whole (Declared.row Refusal.the-type)) ∷ ε7 ∷ ε8 ∷ ε29 ∷ ε17 ∷ ε9 ∷ ε10 ∷ []
 
 abbrev pub t15 : List.List Row.Entry
-t15 = ε38 ∷ ε28 ∷ ε14 ∷ ε40 ∷ ε18 ∷ ε19 ∷ ε20 ∷ ε21 ∷ ε0 ∷ ε35 ∷ ε5 ∷ ε29 ∷ ε23 ∷ ε15 ∷ ε16 ∷ ε24 ∷ []
+t15 = ε30 ∷ ε31 ∷ ε14 ∷ ε42 ∷ ε18 ∷ ε19 ∷ ε20 ∷ ε21 ∷ ε41 ∷ ε32 ∷ ε5 ∷ ε23 ∷ ε33 ∷ ε25 ∷ ε15 ∷ ε16 ∷ []
 
 abbrev pub t16 : List.List Row.Entry
-t16 = ε6 ∷ ε25 ∷ (18, Rows'.whole (Declared.row Refusal.the-type)) ∷ ε7 ∷ ε8 ∷ ε17 ∷ ε9 ∷ ε10 ∷ []
+t16 = ε30 ∷ ε31 ∷ ε38 ∷ ε42 ∷ ε18 ∷ ε19 ∷ ε20 ∷ ε21 ∷ ε41 ∷ ε32 ∷ ε5 ∷ ε23 ∷ ε33 ∷ ε25 ∷ ε15 ∷ ε16 ∷ []
 
 abbrev pub t17 : List.List Row.Entry
-t17 = ε27 ∷ ε28 ∷ ε36 ∷ ε40 ∷ ε18 ∷ ε19 ∷ ε20 ∷ ε21 ∷ ε0 ∷ ε35 ∷ ε5 ∷ ε29 ∷ ε23 ∷ ε15 ∷ ε16 ∷ ε24 ∷ []
+t17 = ε26 ∷ ε6 ∷ ε27 ∷ ε28 ∷ (20, Relend.ssptr in-Record.row τ4 2) ∷ ε8 ∷ ε29 ∷ ε17 ∷ ε9 ∷ ε10 ∷ []
 
 abbrev pub t18 : List.List Row.Entry
-t18 = ε6 ∷ ε25 ∷ ε26 ∷ (19, Relend.ssptr in-Record.row τ4 2) ∷ ε8 ∷ ε17 ∷ ε9 ∷ ε10 ∷ []
+t18 = ε26 ∷ ε6 ∷ ε27 ∷ ε28 ∷ ε7 ∷ (21, Rows'.sslice in-Record.row τ4 2) ∷ ε29 ∷ ε17 ∷ ε9 ∷ ε10 ∷ []
 
 abbrev pub t19 : List.List Row.Entry
-t19 = ε6 ∷ ε25 ∷ ε26 ∷ ε7 ∷ (20, Rows'.sslice in-Record.row τ4 2) ∷ ε17 ∷ ε9 ∷ ε10 ∷ []
+t19 = ε30 ∷ ε31 ∷ ε38 ∷ ε42 ∷ ε18 ∷ ε19 ∷ ε20 ∷ ε21 ∷ ε41 ∷ ε32 ∷ ε5 ∷ ε23 ∷ ε33 ∷ ε25 ∷ ε11 ∷ ε16 ∷ []
 
 abbrev pub t20 : List.List Row.Entry
-t20 = ε27 ∷ ε28 ∷ ε36 ∷ ε40 ∷ ε18 ∷ ε19 ∷ ε20 ∷ ε21 ∷ ε32 ∷ ε35 ∷ ε5 ∷ ε29 ∷ ε23 ∷ ε15 ∷ ε16 ∷ ε24 ∷ []
+t20 = ε30 ∷ ε31 ∷ ε38 ∷ ε42 ∷ ε18 ∷ ε19 ∷ ε20 ∷ ε21 ∷ ε0 ∷ ε32 ∷ ε5 ∷ ε23 ∷ ε33 ∷ ε25 ∷ ε11 ∷ ε16 ∷ []
 
 abbrev pub t21 : List.List Row.Entry
-t21 = ε27 ∷ ε28 ∷ ε14 ∷ ε40 ∷ ε18 ∷ ε19 ∷ ε20 ∷ ε21 ∷ ε32 ∷ ε35 ∷ ε5 ∷ ε29 ∷ ε23 ∷ ε15 ∷ ε16 ∷ ε24 ∷ []
+t21 = ε26 ∷ ε6 ∷ ε27 ∷ ε28 ∷ ε7 ∷ ε8 ∷ (22, Rows'.whole (Declared.row Refusal.the-type)) ∷ ε17 ∷ ε9 ∷ ε10 ∷ []
 
 abbrev pub t22 : List.List Row.Entry
-t22 = ε27 ∷ ε28 ∷ ε14 ∷ ε40 ∷ ε18 ∷ ε19 ∷ ε20 ∷ ε21 ∷ ε32 ∷ ε39 ∷ ε5 ∷ ε29 ∷ ε23 ∷ ε15 ∷ ε16 ∷ ε24 ∷ []
+t22 = ε30 ∷ ε31 ∷ ε14 ∷ ε42 ∷ ε18 ∷ ε19 ∷ ε20 ∷ ε21 ∷ ε0 ∷ ε37 ∷ ε5 ∷ ε23 ∷ ε33 ∷ ε25 ∷ ε15 ∷ ε16 ∷ []
 
 abbrev pub t23 : List.List Row.Entry
-t23 = ε27 ∷ ε22 ∷ ε14 ∷ ε40 ∷ ε18 ∷ ε19 ∷ ε20 ∷ ε21 ∷ ε32 ∷ ε39 ∷ ε5 ∷ ε29 ∷ ε23 ∷ ε15 ∷ ε16 ∷ ε24 ∷ []
+t23 = ε30 ∷ ε24 ∷ ε14 ∷ ε42 ∷ ε18 ∷ ε19 ∷ ε20 ∷ ε21 ∷ ε0 ∷ ε37 ∷ ε5 ∷ ε23 ∷ ε33 ∷ ε25 ∷ ε15 ∷ ε16 ∷ []
 
 abbrev pub t24 : List.List Row.Entry
-t24 = ε27 ∷ ε22 ∷ ε14 ∷ ε40 ∷ ε18 ∷ ε19 ∷ ε20 ∷ ε21 ∷ ε0 ∷ ε39 ∷ ε5 ∷ ε29 ∷ ε23 ∷ ε15 ∷ ε16 ∷ ε24 ∷ []
+t24 = ε30 ∷ ε24 ∷ ε14 ∷ ε42 ∷ ε18 ∷ ε19 ∷ ε20 ∷ ε21 ∷ ε0 ∷ ε37 ∷ ε22 ∷ ε23 ∷ ε33 ∷ ε25 ∷ ε15 ∷ ε16 ∷ []
 
 abbrev pub t25 : List.List Row.Entry
-t25 = ε27 ∷ ε22 ∷ ε14 ∷ ε40 ∷ ε18 ∷ ε19 ∷ ε20 ∷ ε21 ∷ ε0 ∷ ε39 ∷ ε33 ∷ ε29 ∷ ε23 ∷ ε15 ∷ ε16 ∷ ε24 ∷ []
+t25 = ε30 ∷ ε24 ∷ ε14 ∷ ε42 ∷ ε18 ∷ ε19 ∷ ε20 ∷ ε21 ∷ ε0 ∷ ε37 ∷ ε22 ∷ ε34 ∷ ε33 ∷ ε25 ∷ ε15 ∷ ε16 ∷ []
 
 abbrev pub t26 : List.List Row.Entry
-t26 = ε27 ∷ ε22 ∷ ε34 ∷ ε40 ∷ ε18 ∷ ε19 ∷ ε20 ∷ ε21 ∷ ε0 ∷ ε39 ∷ ε33 ∷ ε29 ∷ ε23 ∷ ε15 ∷ ε16 ∷ ε24 ∷ []
+t26 = ε30 ∷ ε24 ∷ ε36 ∷ ε42 ∷ ε18 ∷ ε19 ∷ ε20 ∷ ε21 ∷ ε0 ∷ ε37 ∷ ε22 ∷ ε34 ∷ ε33 ∷ ε25 ∷ ε15 ∷ ε16 ∷ []
 
 abbrev pub t27 : List.List Row.Entry
-t27 = ε6 ∷ ε25 ∷ ε26 ∷ ε7 ∷ ε8 ∷ ε17 ∷ (22, Relend.msptr in-Record.row τ5 3) ∷ ε10 ∷ []
+t27 = ε26 ∷ ε6 ∷ ε27 ∷ ε28 ∷ ε7 ∷ ε8 ∷ ε29 ∷ ε17 ∷ (24, Relend.msptr in-Record.row τ5 3) ∷ ε10 ∷ []
 
 abbrev pub t28 : List.List Row.Entry
-t28 = ε6 ∷ ε25 ∷ ε26 ∷ ε7 ∷ ε8 ∷ ε17 ∷ ε9 ∷ (23, Mut.mslice in-Record.row τ5 3) ∷ []
+t28 = ε26 ∷ ε6 ∷ ε27 ∷ ε28 ∷ ε7 ∷ ε8 ∷ ε29 ∷ ε17 ∷ ε9 ∷ (25, Mut.mslice in-Record.row τ5 3) ∷ []
 
 abbrev pub t29 : List.List Row.Entry
-t29 = ε6 ∷ ε25 ∷ ε26 ∷ ε7 ∷ ε8 ∷ (21, Rows'.sc-here Row.sUnit) ∷ ε9 ∷ ε13 ∷ []
+t29 = ε26 ∷ ε6 ∷ ε27 ∷ ε28 ∷ ε7 ∷ ε8 ∷ ε29 ∷ (23, Rows'.sc-here Row.sUnit) ∷ ε9 ∷ ε13 ∷ []
 
 abbrev pub t30 : List.List Row.Entry
-t30 = ε27 ∷ ε22 ∷ ε34 ∷ ε40 ∷ ε18 ∷ ε19 ∷ ε20 ∷ ε21 ∷ ε0 ∷ ε39 ∷ ε5 ∷ ε29 ∷ ε23 ∷ ε15 ∷ ε16 ∷ ε24 ∷ []
+t30 = ε30 ∷ ε24 ∷ ε36 ∷ ε42 ∷ ε18 ∷ ε19 ∷ ε20 ∷ ε21 ∷ ε0 ∷ ε37 ∷ ε22 ∷ ε23 ∷ ε33 ∷ ε25 ∷ ε15 ∷ ε16 ∷ []
 
 abbrev pub t31 : List.List Row.Entry
-t31 = ε6 ∷ ε25 ∷ ε26 ∷ ε7 ∷ ε8 ∷ ε17 ∷ ε9 ∷ ε13 ∷ []
+t31 = ε26 ∷ ε6 ∷ ε27 ∷ ε28 ∷ ε7 ∷ ε8 ∷ ε29 ∷ ε17 ∷ ε9 ∷ ε13 ∷ []
 
 abbrev pub t32 : List.List Row.Entry
-t32 = ε27 ∷ ε22 ∷ ε14 ∷ ε40 ∷ ε18 ∷ ε19 ∷ ε20 ∷ ε21 ∷ ε0 ∷ ε39 ∷ ε5 ∷ ε37 ∷ ε23 ∷ ε15 ∷ ε16 ∷ ε24 ∷ []
+t32 = ε30 ∷ ε24 ∷ ε14 ∷ ε42 ∷ ε18 ∷ ε19 ∷ ε20 ∷ ε21 ∷ ε0 ∷ ε37 ∷ ε22 ∷ ε23 ∷ ε39 ∷ ε25 ∷ ε15 ∷ ε16 ∷ []
 
 abbrev pub t33 : List.List Row.Entry
-t33 = ε27 ∷ ε22 ∷ ε14 ∷ ε40 ∷ ε18 ∷ ε19 ∷ ε20 ∷ ε21 ∷ ε0 ∷ ε39 ∷ ε5 ∷ ε37 ∷ ε31 ∷ ε15 ∷ ε16 ∷ ε24 ∷ []
+t33 = ε30 ∷ ε24 ∷ ε14 ∷ ε42 ∷ ε18 ∷ ε19 ∷ ε20 ∷ ε21 ∷ ε0 ∷ ε37 ∷ ε22 ∷ ε23 ∷ ε39 ∷ ε35 ∷ ε15 ∷ ε16 ∷ []
 
 abbrev pub t34 : List.List Row.Entry
-t34 = ε27 ∷ ε22 ∷ ε14 ∷ ε40 ∷ ε18 ∷ ε19 ∷ ε20 ∷ ε21 ∷ ε0 ∷ ε35 ∷ ε5 ∷ ε37 ∷ ε31 ∷ ε15 ∷ ε16 ∷ ε24 ∷ []
+t34 = ε30 ∷ ε24 ∷ ε14 ∷ ε42 ∷ ε18 ∷ ε19 ∷ ε20 ∷ ε21 ∷ ε0 ∷ ε32 ∷ ε22 ∷ ε23 ∷ ε39 ∷ ε35 ∷ ε15 ∷ ε16 ∷ []
 
 abbrev pub t35 : List.List Row.Entry
-t35 = ε41 ∷ ε22 ∷ ε14 ∷ ε40 ∷ ε18 ∷ ε19 ∷ ε20 ∷ ε21 ∷ ε0 ∷ ε35 ∷ ε5 ∷ ε37 ∷ ε31 ∷ ε15 ∷ ε16 ∷ ε24 ∷ []
+t35 = ε43 ∷ ε24 ∷ ε14 ∷ ε42 ∷ ε18 ∷ ε19 ∷ ε20 ∷ ε21 ∷ ε0 ∷ ε32 ∷ ε22 ∷ ε23 ∷ ε39 ∷ ε35 ∷ ε15 ∷ ε16 ∷ []
 
 abbrev pub t36 : List.List Row.Entry
-t36 = ε41 ∷ ε22 ∷ ε14 ∷ ε40 ∷ ε18 ∷ ε19 ∷ ε20 ∷ ε21 ∷ ε0 ∷ ε35 ∷ ε5 ∷ ε29 ∷ ε31 ∷ ε15 ∷ ε16 ∷ ε24 ∷ []
+t36 = ε43 ∷ ε24 ∷ ε14 ∷ ε42 ∷ ε18 ∷ ε19 ∷ ε20 ∷ ε21 ∷ ε0 ∷ ε32 ∷ ε5 ∷ ε23 ∷ ε39 ∷ ε35 ∷ ε15 ∷ ε16 ∷ []
 
 abbrev pub t37 : List.List Row.Entry
-t37 = ε41 ∷ ε22 ∷ ε14 ∷ ε40 ∷ ε18 ∷ ε19 ∷ ε20 ∷ ε21 ∷ ε0 ∷ ε35 ∷ ε5 ∷ ε29 ∷ ε23 ∷ ε15 ∷ ε16 ∷ ε24 ∷ []
+t37 = ε43 ∷ ε24 ∷ ε14 ∷ ε42 ∷ ε18 ∷ ε19 ∷ ε20 ∷ ε21 ∷ ε0 ∷ ε32 ∷ ε5 ∷ ε23 ∷ ε33 ∷ ε35 ∷ ε15 ∷ ε16 ∷ []
 
 abbrev pub t38 : List.List Row.Entry
-t38 = ε41 ∷ ε22 ∷ ε14 ∷ ε40 ∷ ε1 ∷ ε19 ∷ ε20 ∷ ε21 ∷ ε0 ∷ ε35 ∷ ε5 ∷ ε29 ∷ ε23 ∷ ε15 ∷ ε16 ∷ ε24 ∷ []
+t38 = ε43 ∷ ε24 ∷ ε14 ∷ ε42 ∷ ε18 ∷ ε19 ∷ ε20 ∷ ε21 ∷ ε0 ∷ ε32 ∷ ε5 ∷ ε23 ∷ ε33 ∷ ε25 ∷ ε15 ∷ ε16 ∷ []
 
 abbrev pub t39 : List.List Row.Entry
-t39 = ε41 ∷ ε22 ∷ ε14 ∷ ε40 ∷ ε1 ∷ ε2 ∷ ε20 ∷ ε21 ∷ ε0 ∷ ε35 ∷ ε5 ∷ ε29 ∷ ε23 ∷ ε15 ∷ ε16 ∷ ε24 ∷ []
+t39 = ε43 ∷ ε24 ∷ ε14 ∷ ε42 ∷ ε1 ∷ ε19 ∷ ε20 ∷ ε21 ∷ ε0 ∷ ε32 ∷ ε5 ∷ ε23 ∷ ε33 ∷ ε25 ∷ ε15 ∷ ε16 ∷ []
 
 abbrev pub t40 : List.List Row.Entry
-t40 = ε41 ∷ ε22 ∷ ε14 ∷ ε40 ∷ ε1 ∷ ε2 ∷ ε3 ∷ ε21 ∷ ε0 ∷ ε35 ∷ ε5 ∷ ε29 ∷ ε23 ∷ ε15 ∷ ε16 ∷ ε24 ∷ []
+t40 = ε43 ∷ ε24 ∷ ε14 ∷ ε42 ∷ ε1 ∷ ε2 ∷ ε20 ∷ ε21 ∷ ε0 ∷ ε32 ∷ ε5 ∷ ε23 ∷ ε33 ∷ ε25 ∷ ε15 ∷ ε16 ∷ []
 
 abbrev pub t41 : List.List Row.Entry
-t41 = ε41 ∷ ε22 ∷ ε14 ∷ ε40 ∷ ε1 ∷ ε2 ∷ ε3 ∷ ε4 ∷ ε0 ∷ ε35 ∷ ε5 ∷ ε29 ∷ ε23 ∷ ε15 ∷ ε16 ∷ ε24 ∷ []
+t41 = ε43 ∷ ε24 ∷ ε14 ∷ ε42 ∷ ε1 ∷ ε2 ∷ ε3 ∷ ε21 ∷ ε0 ∷ ε32 ∷ ε5 ∷ ε23 ∷ ε33 ∷ ε25 ∷ ε15 ∷ ε16 ∷ []
+
+abbrev pub t42 : List.List Row.Entry
+t42 = ε43 ∷ ε24 ∷ ε14 ∷ ε42 ∷ ε1 ∷ ε2 ∷ ε3 ∷ ε4 ∷ ε0 ∷ ε32 ∷ ε5 ∷ ε23 ∷ ε33 ∷ ε25 ∷ ε15 ∷ ε16 ∷ []
 
 abbrev pub T0 : Row.Cx
 T0 = record { locals = List._++_ t0 t1; slots = [] }
@@ -818,25 +890,25 @@ abbrev pub T7 : Row.Cx
 T7 = record { locals = List._++_ t0 t1; slots = [] }
 
 abbrev pub T8 : Row.Cx
-T8 = record { locals = List._++_ t6 t1; slots = [] }
+T8 = record { locals = List._++_ t0 t6; slots = [] }
 
 abbrev pub T9 : Row.Cx
-T9 = record { locals = List._++_ t7 t1; slots = [] }
+T9 = record { locals = List._++_ t7 t6; slots = [] }
 
 abbrev pub T10 : Row.Cx
-T10 = record { locals = List._++_ t8 t1; slots = [] }
+T10 = record { locals = List._++_ t8 t6; slots = [] }
 
 abbrev pub T11 : Row.Cx
-T11 = record { locals = List._++_ t9 t1; slots = [] }
+T11 = record { locals = List._++_ t8 t1; slots = [] }
 
 abbrev pub T12 : Row.Cx
-T12 = record { locals = List._++_ t10 t1; slots = [] }
+T12 = record { locals = List._++_ t9 t1; slots = [] }
 
 abbrev pub T13 : Row.Cx
-T13 = record { locals = List._++_ t11 t1; slots = [] }
+T13 = record { locals = List._++_ t10 t1; slots = [] }
 
 abbrev pub T14 : Row.Cx
-T14 = record { locals = List._++_ t12 t1; slots = [] }
+T14 = record { locals = List._++_ t11 t1; slots = [] }
 
 abbrev pub T15 : Row.Cx
 T15 = record { locals = List._++_ t2 t1; slots = [] }
@@ -845,10 +917,10 @@ abbrev pub T16 : Row.Cx
 T16 = record { locals = List._++_ t0 t1; slots = [] }
 
 abbrev pub T17 : Row.Cx
-T17 = record { locals = List._++_ t0 t13; slots = [] }
+T17 = record { locals = List._++_ t0 t12; slots = [] }
 
 abbrev pub T18 : Row.Cx
-T18 = record { locals = List._++_ t3 t13; slots = [] }
+T18 = record { locals = List._++_ t3 t12; slots = [] }
 
 abbrev pub T19 : Row.Cx
 T19 = record { locals = List._++_ t0 t1; slots = [] }
@@ -860,25 +932,25 @@ abbrev pub T21 : Row.Cx
 T21 = record { locals = List._++_ t0 t1; slots = [] }
 
 abbrev pub T22 : Row.Cx
-T22 = record { locals = List._++_ t0 t14; slots = [] }
+T22 = record { locals = List._++_ t0 t13; slots = [] }
 
 abbrev pub T23 : Row.Cx
-T23 = record { locals = List._++_ t15 t14; slots = [] }
+T23 = record { locals = List._++_ t7 t13; slots = [] }
 
 abbrev pub T24 : Row.Cx
-T24 = record { locals = List._++_ t9 t14; slots = [] }
+T24 = record { locals = List._++_ t8 t13; slots = [] }
 
 abbrev pub T25 : Row.Cx
-T25 = record { locals = List._++_ t9 t1; slots = [] }
+T25 = record { locals = List._++_ t8 t1; slots = [] }
 
 abbrev pub T26 : Row.Cx
-T26 = record { locals = List._++_ t10 t1; slots = [] }
+T26 = record { locals = List._++_ t9 t1; slots = [] }
 
 abbrev pub T27 : Row.Cx
-T27 = record { locals = List._++_ t11 t1; slots = [] }
+T27 = record { locals = List._++_ t10 t1; slots = [] }
 
 abbrev pub T28 : Row.Cx
-T28 = record { locals = List._++_ t12 t1; slots = [] }
+T28 = record { locals = List._++_ t11 t1; slots = [] }
 
 abbrev pub T29 : Row.Cx
 T29 = record { locals = List._++_ t2 t1; slots = [] }
@@ -887,10 +959,10 @@ abbrev pub T30 : Row.Cx
 T30 = record { locals = List._++_ t0 t1; slots = [] }
 
 abbrev pub T31 : Row.Cx
-T31 = record { locals = List._++_ t0 t13; slots = [] }
+T31 = record { locals = List._++_ t0 t12; slots = [] }
 
 abbrev pub T32 : Row.Cx
-T32 = record { locals = List._++_ t5 t13; slots = [] }
+T32 = record { locals = List._++_ t5 t12; slots = [] }
 
 abbrev pub T33 : Row.Cx
 T33 = record { locals = List._++_ t0 t1; slots = [] }
@@ -902,25 +974,25 @@ abbrev pub T35 : Row.Cx
 T35 = record { locals = List._++_ t0 t1; slots = [] }
 
 abbrev pub T36 : Row.Cx
-T36 = record { locals = List._++_ t0 t16; slots = [] }
+T36 = record { locals = List._++_ t0 t14; slots = [] }
 
 abbrev pub T37 : Row.Cx
-T37 = record { locals = List._++_ t15 t16; slots = [] }
+T37 = record { locals = List._++_ t7 t14; slots = [] }
 
 abbrev pub T38 : Row.Cx
-T38 = record { locals = List._++_ t9 t16; slots = [] }
+T38 = record { locals = List._++_ t8 t14; slots = [] }
 
 abbrev pub T39 : Row.Cx
-T39 = record { locals = List._++_ t9 t1; slots = [] }
+T39 = record { locals = List._++_ t8 t1; slots = [] }
 
 abbrev pub T40 : Row.Cx
-T40 = record { locals = List._++_ t10 t1; slots = [] }
+T40 = record { locals = List._++_ t9 t1; slots = [] }
 
 abbrev pub T41 : Row.Cx
-T41 = record { locals = List._++_ t11 t1; slots = [] }
+T41 = record { locals = List._++_ t10 t1; slots = [] }
 
 abbrev pub T42 : Row.Cx
-T42 = record { locals = List._++_ t12 t1; slots = [] }
+T42 = record { locals = List._++_ t11 t1; slots = [] }
 
 abbrev pub T43 : Row.Cx
 T43 = record { locals = List._++_ t2 t1; slots = [] }
@@ -928,83 +1000,131 @@ T43 = record { locals = List._++_ t2 t1; slots = [] }
 abbrev pub T44 : Row.Cx
 T44 = record { locals = List._++_ t0 t1; slots = [] }
 
-abbrev pub T46 : Row.Cx
-T46 = record { locals = List._++_ t17 t18; slots = [] }
+abbrev pub T45 : Row.Cx
+T45 = record { locals = List._++_ t15 t1; slots = [] }
 
 abbrev pub T47 : Row.Cx
-T47 = record { locals = List._++_ t17 t19; slots = [] }
+T47 = record { locals = List._++_ t16 t17; slots = [] }
 
 abbrev pub T48 : Row.Cx
-T48 = record { locals = List._++_ t20 t19; slots = [] }
+T48 = record { locals = List._++_ t16 t18; slots = [] }
 
 abbrev pub T49 : Row.Cx
-T49 = record { locals = List._++_ t20 t1; slots = [] }
+T49 = record { locals = List._++_ t19 t18; slots = [] }
+
+abbrev pub T50 : Row.Cx
+T50 = record { locals = List._++_ t19 t1; slots = [] }
 
 abbrev pub T51 : Row.Cx
-T51 = record { locals = List._++_ t21 t1; slots = [] }
+T51 = record { locals = List._++_ t20 t1; slots = [] }
 
 abbrev pub T53 : Row.Cx
-T53 = record { locals = List._++_ t22 t1; slots = [] }
-
-abbrev pub T54 : Row.Cx
-T54 = record { locals = List._++_ t23 t1; slots = [] }
+T53 = record { locals = List._++_ t3 t1; slots = [] }
 
 abbrev pub T55 : Row.Cx
-T55 = record { locals = List._++_ t24 t1; slots = [] }
+T55 = record { locals = List._++_ t4 t1; slots = [] }
 
 abbrev pub T56 : Row.Cx
-T56 = record { locals = List._++_ t25 t1; slots = [] }
+T56 = record { locals = List._++_ t0 t1; slots = [] }
+
+abbrev pub T57 : Row.Cx
+T57 = record { locals = List._++_ t5 t1; slots = [] }
 
 abbrev pub T58 : Row.Cx
-T58 = record { locals = List._++_ t26 t27; slots = [] }
+T58 = record { locals = List._++_ t0 t1; slots = [] }
 
 abbrev pub T59 : Row.Cx
-T59 = record { locals = List._++_ t26 t28; slots = [] }
+T59 = record { locals = List._++_ t0 t21; slots = [] }
 
 abbrev pub T60 : Row.Cx
-T60 = record { locals = List._++_ t26 t29; slots = [] }
+T60 = record { locals = List._++_ t7 t21; slots = [] }
 
 abbrev pub T61 : Row.Cx
-T61 = record { locals = List._++_ t30 t29; slots = [] }
+T61 = record { locals = List._++_ t8 t21; slots = [] }
 
 abbrev pub T62 : Row.Cx
-T62 = record { locals = List._++_ t30 t31; slots = [] }
+T62 = record { locals = List._++_ t8 t1; slots = [] }
+
+abbrev pub T63 : Row.Cx
+T63 = record { locals = List._++_ t9 t1; slots = [] }
 
 abbrev pub T64 : Row.Cx
-T64 = record { locals = List._++_ t24 t1; slots = [] }
+T64 = record { locals = List._++_ t10 t1; slots = [] }
+
+abbrev pub T65 : Row.Cx
+T65 = record { locals = List._++_ t11 t1; slots = [] }
 
 abbrev pub T66 : Row.Cx
-T66 = record { locals = List._++_ t32 t1; slots = [] }
+T66 = record { locals = List._++_ t2 t1; slots = [] }
 
 abbrev pub T67 : Row.Cx
-T67 = record { locals = List._++_ t33 t1; slots = [] }
+T67 = record { locals = List._++_ t0 t1; slots = [] }
 
 abbrev pub T68 : Row.Cx
-T68 = record { locals = List._++_ t34 t1; slots = [] }
+T68 = record { locals = List._++_ t22 t1; slots = [] }
 
 abbrev pub T69 : Row.Cx
-T69 = record { locals = List._++_ t35 t1; slots = [] }
+T69 = record { locals = List._++_ t23 t1; slots = [] }
 
 abbrev pub T70 : Row.Cx
-T70 = record { locals = List._++_ t36 t1; slots = [] }
+T70 = record { locals = List._++_ t24 t1; slots = [] }
 
 abbrev pub T71 : Row.Cx
-T71 = record { locals = List._++_ t37 t1; slots = [] }
-
-abbrev pub T72 : Row.Cx
-T72 = record { locals = List._++_ t38 t1; slots = [] }
+T71 = record { locals = List._++_ t25 t1; slots = [] }
 
 abbrev pub T73 : Row.Cx
-T73 = record { locals = List._++_ t39 t1; slots = [] }
+T73 = record { locals = List._++_ t26 t27; slots = [] }
 
 abbrev pub T74 : Row.Cx
-T74 = record { locals = List._++_ t40 t1; slots = [] }
+T74 = record { locals = List._++_ t26 t28; slots = [] }
 
 abbrev pub T75 : Row.Cx
-T75 = record { locals = List._++_ t41 t1; slots = [] }
+T75 = record { locals = List._++_ t26 t29; slots = [] }
 
 abbrev pub T76 : Row.Cx
-T76 = record { locals = List._++_ t2 t1; slots = [] }
+T76 = record { locals = List._++_ t30 t29; slots = [] }
+
+abbrev pub T77 : Row.Cx
+T77 = record { locals = List._++_ t30 t31; slots = [] }
+
+abbrev pub T79 : Row.Cx
+T79 = record { locals = List._++_ t24 t1; slots = [] }
+
+abbrev pub T81 : Row.Cx
+T81 = record { locals = List._++_ t32 t1; slots = [] }
+
+abbrev pub T82 : Row.Cx
+T82 = record { locals = List._++_ t33 t1; slots = [] }
+
+abbrev pub T83 : Row.Cx
+T83 = record { locals = List._++_ t34 t1; slots = [] }
+
+abbrev pub T84 : Row.Cx
+T84 = record { locals = List._++_ t35 t1; slots = [] }
+
+abbrev pub T85 : Row.Cx
+T85 = record { locals = List._++_ t36 t1; slots = [] }
+
+abbrev pub T86 : Row.Cx
+T86 = record { locals = List._++_ t37 t1; slots = [] }
+
+abbrev pub T87 : Row.Cx
+T87 = record { locals = List._++_ t38 t1; slots = [] }
+
+abbrev pub T88 : Row.Cx
+T88 = record { locals = List._++_ t39 t1; slots = [] }
+
+abbrev pub T89 : Row.Cx
+T89 = record { locals = List._++_ t40 t1; slots = [] }
+
+abbrev pub T90 : Row.Cx
+T90 = record { locals = List._++_ t41 t1; slots = [] }
+
+abbrev pub T91 : Row.Cx
+T91 = record { locals = List._++_ t42 t1; slots = [] }
+
+abbrev pub T92 : Row.Cx
+T92 = record { locals = List._++_ t2 t1; slots = [] }
 
 abbrev pub O0 : Typed.Outs
 O0 = record { next = Option.none; exits = []; returns = Option.some T1 }
@@ -1018,28 +1138,31 @@ O2 = Typed.withNext (Option.some T19) O0
 abbrev pub O3 : Typed.Outs
 O3 = Typed.withNext (Option.some T33) O0
 
+abbrev pub O4 : Typed.Outs
+O4 = Typed.withNext (Option.some T56) O0
+
 module _ (claims· : Claims) where
   abbrev s0 : (bs : List.List Nat.ℕ) → Typed.Gives T0 T2
   s0 = λ bs. Know.k-shs-known (Referent.fInt Syntax.w8) T0 3 1 τ9 Row.off 0 λ x. x
 
   abbrev s1 : (bs : List.List Nat.ℕ) → Typed.Both T2 T3
-  s1 = λ bs. Call.callB ps·0 r·0 (claims· .0) (claims· .1) T2 (record { pos = 1; st = []; d = 0; at = λ x. x }, tt) 13 [] Syntax.tyBool
+  s1 = λ bs. Call.callB ps·0 r·0 (claims· .0) (claims· .1) T2 (record { pos = 1; st = []; d = 0; at = λ x. x }, tt) 14 [] Syntax.tyBool
 
   abbrev s2 : (bs : List.List Nat.ℕ) → Typed.Asks T3 T4
-  s2 = λ bs. Scalar.k-op1 T3 Syntax.bitNot (Scalar.oAt 13 Syntax.tyBool (Row.valS Row.sBool)) 14 ρ0 (Row.sBool .of)
+  s2 = λ bs. Scalar.k-op1 T3 Syntax.bitNot (Scalar.oAt 14 Syntax.tyBool (Row.valS Row.sBool)) 15 ρ0 (Row.sBool .of)
 
   abbrev s3 : (bs : List.List Nat.ℕ) → Typed.Mo T4 → Typed.Mo T6
-  s3 = λ bs. Scalar.n-room T4 13 Syntax.tyBool
+  s3 = λ bs. Scalar.n-room T4 14 Syntax.tyBool
 
   abbrev s4 : (bs : List.List Nat.ℕ) → Typed.Mo T6 → Typed.Mo T7
-  s4 = λ bs. Scalar.n-room T6 14 Syntax.tyBool
+  s4 = λ bs. Scalar.n-room T6 15 Syntax.tyBool
 
   abbrev s5 : (bs : List.List Nat.ℕ) → Typed.Mo T7 → Typed.Mo T8
-  s5 = λ bs. Make.n-enum-make Refusal.the-type T7 15 λ m. Refusal.enum .make (Logic.inl tt)
+  s5 = λ bs. Make.n-enum-make Refusal.the-type T7 16 λ m. Refusal.enum .make (Logic.inl tt)
 
   abbrev s6 : (bs : List.List Nat.ℕ) → Typed.Both T8 T9
   s6 = λ bs. Call.callB ps·1 r·1 (claims· .2) (claims· .3) T8 (
-    record { pos = 15; st = []; d = 0; at = λ x. x },
+    record { pos = 16; st = []; d = 0; at = λ x. x },
     (
       record {
         pos = 1;
@@ -1056,7 +1179,7 @@ module _ (claims· : Claims) where
   s7 = λ bs. Scalar.n-room T9 1 mirs.sched_core-Station
 
   abbrev s8 : (bs : List.List Nat.ℕ) → Typed.Mo T10 → Typed.Mo T11
-  s8 = λ bs. Scalar.n-room T10 15 mirs.sched_core-Refusal
+  s8 = λ bs. Scalar.n-room T10 16 mirs.sched_core-Refusal
 
   abbrev s9 : (bs : List.List Nat.ℕ) → Typed.Mo T11 → Typed.Mo T12
   s9 = λ bs. Scalar.n-room T11 4 τ0
@@ -1071,26 +1194,26 @@ module _ (claims· : Claims) where
   s12 = λ bs. Scalar.n-room T14 7 τ2
 
   abbrev s13 : (bs : List.List Nat.ℕ) → Typed.Mo T6 → Typed.Mo T16
-  s13 = λ bs. Scalar.n-room T6 14 Syntax.tyBool
+  s13 = λ bs. Scalar.n-room T6 15 Syntax.tyBool
 
   abbrev s14 : (bs : List.List Nat.ℕ) → Typed.Mo T5 → Typed.Mo T17
-  s14 = λ bs. Scalar.n-use T5 (Scalar.oFld 2 ((Syntax.field 1) ∷ []) τ1 8 Shared.lenV) 16 ρ2 (Row.sInt Syntax.w64 .of)
+  s14 = λ bs. Scalar.n-use T5 (Scalar.oFld 2 ((Syntax.field 1) ∷ []) τ1 8 Shared.lenV) 17 ρ2 (Row.sInt Syntax.w64 .of)
 
   abbrev s15 : (bs : List.List Nat.ℕ) → Typed.Asks T17 T18
-  s15 = λ bs. Scalar.k-op2 T17 Syntax.ne (Scalar.oAt 16 τ1 (Row.valS (Row.sInt Syntax.w64))) (Scalar.oInt Syntax.w64 64) 13 ρ0 (Row.sBool .of)
+  s15 = λ bs. Scalar.k-op2 T17 Syntax.ne (Scalar.oAt 17 τ1 (Row.valS (Row.sInt Syntax.w64))) (Scalar.oInt Syntax.w64 64) 14 ρ0 (Row.sBool .of)
 
   abbrev s16 : (bs : List.List Nat.ℕ) → Typed.Mo T18 → Typed.Mo T20
-  s16 = λ bs. Scalar.n-room T18 16 τ1
+  s16 = λ bs. Scalar.n-room T18 17 τ1
 
   abbrev s17 : (bs : List.List Nat.ℕ) → Typed.Mo T20 → Typed.Mo T21
-  s17 = λ bs. Scalar.n-room T20 13 Syntax.tyBool
+  s17 = λ bs. Scalar.n-room T20 14 Syntax.tyBool
 
   abbrev s18 : (bs : List.List Nat.ℕ) → Typed.Mo T21 → Typed.Mo T22
-  s18 = λ bs. Make.n-enum-make Refusal.the-type T21 17 λ m. Refusal.enum .make (Logic.inr (Logic.inl tt))
+  s18 = λ bs. Make.n-enum-make Refusal.the-type T21 18 λ m. Refusal.enum .make (Logic.inr (Logic.inl tt))
 
   abbrev s19 : (bs : List.List Nat.ℕ) → Typed.Both T22 T23
   s19 = λ bs. Call.callB ps·1 r·1 (claims· .2) (claims· .3) T22 (
-    record { pos = 17; st = []; d = 0; at = λ x. x },
+    record { pos = 18; st = []; d = 0; at = λ x. x },
     (
       record {
         pos = 1;
@@ -1106,7 +1229,7 @@ module _ (claims· : Claims) where
   s20 = λ bs. Scalar.n-room T23 1 mirs.sched_core-Station
 
   abbrev s21 : (bs : List.List Nat.ℕ) → Typed.Mo T24 → Typed.Mo T25
-  s21 = λ bs. Scalar.n-room T24 17 mirs.sched_core-Refusal
+  s21 = λ bs. Scalar.n-room T24 18 mirs.sched_core-Refusal
 
   abbrev s22 : (bs : List.List Nat.ℕ) → Typed.Mo T25 → Typed.Mo T26
   s22 = λ bs. Scalar.n-room T25 4 τ0
@@ -1121,26 +1244,26 @@ module _ (claims· : Claims) where
   s25 = λ bs. Scalar.n-room T28 7 τ2
 
   abbrev s26 : (bs : List.List Nat.ℕ) → Typed.Mo T20 → Typed.Mo T30
-  s26 = λ bs. Scalar.n-room T20 13 Syntax.tyBool
+  s26 = λ bs. Scalar.n-room T20 14 Syntax.tyBool
 
   abbrev s27 : (bs : List.List Nat.ℕ) → Typed.Mo T19 → Typed.Mo T31
-  s27 = λ bs. Scalar.n-use T19 (Scalar.oFld 3 ((Syntax.field 1) ∷ []) τ1 8 Shared.lenV) 16 ρ2 (Row.sInt Syntax.w64 .of)
+  s27 = λ bs. Scalar.n-use T19 (Scalar.oFld 3 ((Syntax.field 1) ∷ []) τ1 8 Shared.lenV) 17 ρ2 (Row.sInt Syntax.w64 .of)
 
   abbrev s28 : (bs : List.List Nat.ℕ) → Typed.Asks T31 T32
-  s28 = λ bs. Scalar.k-op2 T31 Syntax.ne (Scalar.oAt 16 τ1 (Row.valS (Row.sInt Syntax.w64))) (Scalar.oBig Syntax.w64 16384) 14 ρ0 (Row.sBool .of)
+  s28 = λ bs. Scalar.k-op2 T31 Syntax.ne (Scalar.oAt 17 τ1 (Row.valS (Row.sInt Syntax.w64))) (Scalar.oBig Syntax.w64 16384) 15 ρ0 (Row.sBool .of)
 
   abbrev s29 : (bs : List.List Nat.ℕ) → Typed.Mo T32 → Typed.Mo T34
-  s29 = λ bs. Scalar.n-room T32 16 τ1
+  s29 = λ bs. Scalar.n-room T32 17 τ1
 
   abbrev s30 : (bs : List.List Nat.ℕ) → Typed.Mo T34 → Typed.Mo T35
-  s30 = λ bs. Scalar.n-room T34 14 Syntax.tyBool
+  s30 = λ bs. Scalar.n-room T34 15 Syntax.tyBool
 
   abbrev s31 : (bs : List.List Nat.ℕ) → Typed.Mo T35 → Typed.Mo T36
-  s31 = λ bs. Make.n-enum-make Refusal.the-type T35 18 λ m. Refusal.enum .make (Logic.inr (Logic.inl tt))
+  s31 = λ bs. Make.n-enum-make Refusal.the-type T35 19 λ m. Refusal.enum .make (Logic.inr (Logic.inl tt))
 
   abbrev s32 : (bs : List.List Nat.ℕ) → Typed.Both T36 T37
   s32 = λ bs. Call.callB ps·1 r·1 (claims· .2) (claims· .3) T36 (
-    record { pos = 18; st = []; d = 0; at = λ x. x },
+    record { pos = 19; st = []; d = 0; at = λ x. x },
     (
       record {
         pos = 1;
@@ -1156,7 +1279,7 @@ module _ (claims· : Claims) where
   s33 = λ bs. Scalar.n-room T37 1 mirs.sched_core-Station
 
   abbrev s34 : (bs : List.List Nat.ℕ) → Typed.Mo T38 → Typed.Mo T39
-  s34 = λ bs. Scalar.n-room T38 18 mirs.sched_core-Refusal
+  s34 = λ bs. Scalar.n-room T38 19 mirs.sched_core-Refusal
 
   abbrev s35 : (bs : List.List Nat.ℕ) → Typed.Mo T39 → Typed.Mo T40
   s35 = λ bs. Scalar.n-room T39 4 τ0
@@ -1171,134 +1294,194 @@ module _ (claims· : Claims) where
   s38 = λ bs. Scalar.n-room T42 7 τ2
 
   abbrev s39 : (bs : List.List Nat.ℕ) → Typed.Mo T34 → Typed.Mo T44
-  s39 = λ bs. Scalar.n-room T34 14 Syntax.tyBool
+  s39 = λ bs. Scalar.n-room T34 15 Syntax.tyBool
 
-  abbrev s41 : (bs : List.List Nat.ℕ) → Typed.Gives T33 T46
-  s41 = λ bs. Reshare.k-sl-reshare in-Record.row T33 2 19 0 2 τ6 τ4 Row.off λ x. x
+  abbrev s40 : (bs : List.List Nat.ℕ) → Typed.Both T33 T45
+  s40 = λ bs. WayStmt.k-way-copy-out T33 (Row.out 1 (T33 .locals)) (λ u. Row.drop 1 (T33 .locals) u) 8 ρ8 (λ u. At.getAt (Station.the-type .parts) 6
+      (Station.struct .as-values (u .1 .0))) (λ T′. record { locals = Row.setRow 1 ε31 T′; slots = [] }) (λ u T′ m′. Row.set 1 ε31 (u .1 .0) T′ m′) (λ
+      u. Unit) λ u. Unit
 
-  abbrev s42 : (bs : List.List Nat.ℕ) → Typed.Asks T46 T47
-  s42 = λ bs. Relend.k-sl-aggregate in-Record.row (Relend.asShr in-Record.row) T46 19 20 2 τ4 τ4 (λ x. x) (Scalar.oFld 2 ((Syntax.field 1) ∷ []) τ1 8
+  abbrev s42 : (bs : List.List Nat.ℕ) → Typed.Gives T45 T47
+  s42 = λ bs. Reshare.k-sl-reshare in-Record.row T45 2 20 0 2 τ6 τ4 Row.off λ x. x
+
+  abbrev s43 : (bs : List.List Nat.ℕ) → Typed.Asks T47 T48
+  s43 = λ bs. Relend.k-sl-aggregate in-Record.row (Relend.asShr in-Record.row) T47 20 21 2 τ4 τ4 (λ x. x) (Scalar.oFld 2 ((Syntax.field 1) ∷ []) τ1 8
       λ v. Shared.lenV (v .0))
 
-  abbrev s43 : (bs : List.List Nat.ℕ) → Typed.Both T47 T48
-  s43 = λ bs. Call.callB ps·2 r·2 (claims· .4) (claims· .5) T47 (
-    record {
-      pos = 20;
-      ty = Syntax.tyRef Syntax.erased Syntax.imm in-Record.at;
-      ref = λ
-          x. x;
-    },
-    tt,
-  ) 8 (2 ∷ []) τ3
-
-  abbrev s44 : (bs : List.List Nat.ℕ) → Typed.Mo T48 → Typed.Mo T49
-  s44 = λ bs. Scalar.n-room T48 20 τ7
-
-  abbrev s46 : (bs : List.List Nat.ℕ) → Typed.Mo T49 → Typed.Mo T51
-  s46 = λ bs. Reshare.n-back-sl-shr in-Record.row T49 2 0 2 τ6 Row.off λ x. x
-
-  abbrev s48 : (bs : List.List Nat.ℕ) → Typed.Both T51 T53
-  s48 = λ bs. Call.callB ps·3 r·3 (claims· .6) (claims· .7) T51 (
-    record { pos = 1; st = []; d = 0; at = λ x. x },
+  abbrev s44 : (bs : List.List Nat.ℕ) → Typed.Both T48 T49
+  s44 = λ bs. Call.callB ps·2 r·2 (claims· .4) (claims· .5) T48 (
+    record { pos = 8; st = []; d = 0; at = λ x. x },
     (
       record {
-        pos = 8;
+        pos = 21;
+        ty =
+            Syntax.tyRef Syntax.erased Syntax.imm in-Record.at;
+        ref = λ x. x;
+      },
+      (
+        record {
+          pos = 3;
+          ty = Syntax.tyRef (Syntax.named 1) Syntax.imm τ0;
+          ref = λ
+              x. x;
+        },
+        tt,
+      ),
+    ),
+  ) 14 (2 ∷ 1 ∷ []) Syntax.tyBool
+
+  abbrev s45 : (bs : List.List Nat.ℕ) → Typed.Mo T49 → Typed.Mo T50
+  s45 = λ bs. Scalar.n-room T49 21 τ7
+
+  abbrev s46 : (bs : List.List Nat.ℕ) → Typed.Mo T50 → Typed.Mo T51
+  s46 = λ bs. Scalar.n-room T50 8 τ3
+
+  abbrev s48 : (bs : List.List Nat.ℕ) → Typed.Mo T51 → Typed.Mo T53
+  s48 = λ bs. Reshare.n-back-sl-shr in-Record.row T51 2 0 2 τ6 Row.off λ x. x
+
+  abbrev s50 : (bs : List.List Nat.ℕ) → Typed.Asks T53 T55
+  s50 = λ bs. Scalar.k-op1 T53 Syntax.bitNot (Scalar.oAt 14 Syntax.tyBool (Row.valS Row.sBool)) 15 ρ0 (Row.sBool .of)
+
+  abbrev s51 : (bs : List.List Nat.ℕ) → Typed.Mo T55 → Typed.Mo T57
+  s51 = λ bs. Scalar.n-room T55 14 Syntax.tyBool
+
+  abbrev s52 : (bs : List.List Nat.ℕ) → Typed.Mo T57 → Typed.Mo T58
+  s52 = λ bs. Scalar.n-room T57 15 Syntax.tyBool
+
+  abbrev s53 : (bs : List.List Nat.ℕ) → Typed.Mo T58 → Typed.Mo T59
+  s53 = λ bs. Make.n-enum-make Refusal.the-type T58 22 λ m. Refusal.enum .make (Logic.inl tt)
+
+  abbrev s54 : (bs : List.List Nat.ℕ) → Typed.Both T59 T60
+  s54 = λ bs. Call.callB ps·1 r·1 (claims· .2) (claims· .3) T59 (
+    record { pos = 22; st = []; d = 0; at = λ x. x },
+    (
+      record {
+        pos = 1;
         st = [];
         d = 0;
         at = λ x. x;
       },
+      tt,
+    ),
+  ) 0 [] mirs.sched_core-RequestAnswer
+
+  abbrev s55 : (bs : List.List Nat.ℕ) → Typed.Mo T60 → Typed.Mo T61
+  s55 = λ bs. Scalar.n-room T60 1 mirs.sched_core-Station
+
+  abbrev s56 : (bs : List.List Nat.ℕ) → Typed.Mo T61 → Typed.Mo T62
+  s56 = λ bs. Scalar.n-room T61 22 mirs.sched_core-Refusal
+
+  abbrev s57 : (bs : List.List Nat.ℕ) → Typed.Mo T62 → Typed.Mo T63
+  s57 = λ bs. Scalar.n-room T62 4 τ0
+
+  abbrev s58 : (bs : List.List Nat.ℕ) → Typed.Mo T63 → Typed.Mo T64
+  s58 = λ bs. Scalar.n-room T63 5 τ0
+
+  abbrev s59 : (bs : List.List Nat.ℕ) → Typed.Mo T64 → Typed.Mo T65
+  s59 = λ bs. Scalar.n-room T64 6 τ0
+
+  abbrev s60 : (bs : List.List Nat.ℕ) → Typed.Mo T65 → Typed.Mo T66
+  s60 = λ bs. Scalar.n-room T65 7 τ2
+
+  abbrev s61 : (bs : List.List Nat.ℕ) → Typed.Mo T57 → Typed.Mo T67
+  s61 = λ bs. Scalar.n-room T57 15 Syntax.tyBool
+
+  abbrev s62 : (bs : List.List Nat.ℕ) → Typed.Both T56 T68
+  s62 = λ bs. Call.callB ps·3 r·3 (claims· .6) (claims· .7) T56 (
+    record { pos = 1; st = []; d = 0; at = λ x. x },
+    (
+      Num.vAt 4 λ x. x,
       (
-        record { pos = 3; ty = Syntax.tyRef (Syntax.named 1) Syntax.imm τ0; ref = λ x. x },
-        (
-          Num.vAt 4 λ x. x,
-          (
-            Num.vAt 5 λ x. x,
-            (Num.vAt 6 λ x. x, (Num.vAt 7 λ x. x, tt)),
-          ),
-        ),
+        Num.vAt 5 λ x.
+            x,
+        (Num.vAt 6 λ x. x, (Num.vAt 7 λ x. x, tt)),
       ),
     ),
-  ) 9 (1 ∷ []) mirs.sched_core-RequestCoreAnswer
+  ) 9 [] mirs.request_core-RequestPlan
 
-  abbrev s49 : (bs : List.List Nat.ℕ) → Typed.Mo T53 → Typed.Mo T54
-  s49 = λ bs. Scalar.n-room T53 1 mirs.sched_core-Station
+  abbrev s63 : (bs : List.List Nat.ℕ) → Typed.Mo T68 → Typed.Mo T69
+  s63 = λ bs. Scalar.n-room T68 1 mirs.sched_core-Station
 
-  abbrev s50 : (bs : List.List Nat.ℕ) → Typed.Mo T54 → Typed.Mo T55
-  s50 = λ bs. Scalar.n-room T54 8 τ3
+  abbrev s64 : (bs : List.List Nat.ℕ) → Typed.Mo T69 → Typed.Mo T70
+  s64 = λ bs. Scalar.n-use T69 (Scalar.oFld 9 ((Syntax.field 2) ∷ []) τ1 1464 (Reads.fieldV RequestPlan.the-type Laws'.the-laws 2)) 10 ρ2 (Row.sInt
+      Syntax.w64 .of)
 
-  abbrev s51 : (bs : List.List Nat.ℕ) → Typed.Both T55 T56
-  s51 = λ bs. WayStmt.k-way-copy-out T55 (Row.out 9 (T55 .locals)) (λ u. Row.drop 9 (T55 .locals) u) 10 ρ5 (λ u. At.getAt (RequestCoreAnswer.the-type
-      .parts) 2 (RequestCoreAnswer.struct .as-values (u .1 .1 .1 .1 .1 .1 .1 .1 .1 .0))) (λ T′. record { locals = Row.setRow 9 ε39 T′; slots = [] })
-      (λ u T′ m′. Row.set 9 ε39 (u .1 .1 .1 .1 .1 .1 .1 .1 .1 .0) T′ m′) (λ u. Unit) λ u. Unit
+  abbrev s65 : (bs : List.List Nat.ℕ) → Typed.Both T70 T71
+  s65 = λ bs. WayStmt.k-way-copy-out T70 (Row.out 9 (T70 .locals)) (λ u. Row.drop 9 (T70 .locals) u) 11 ρ3 (λ u. At.getAt (RequestPlan.the-type
+      .parts) 3 (RequestPlan.struct .as-values (u .1 .1 .1 .1 .1 .1 .1 .1 .1 .0))) (λ T′. record { locals = Row.setRow 9 ε37 T′; slots = [] }) (λ u T′
+      m′. Row.set 9 ε37 (u .1 .1 .1 .1 .1 .1 .1 .1 .1 .0) T′ m′) (λ u. Unit) λ u. Unit
 
-  abbrev s53 : (bs : List.List Nat.ℕ) → Typed.Gives T56 T58
-  s53 = λ bs. Relend.k-sl-relend in-Record.row T56 2 22 0 3 τ6 τ5 Row.off λ x. x
+  abbrev s67 : (bs : List.List Nat.ℕ) → Typed.Gives T71 T73
+  s67 = λ bs. Relend.k-sl-relend in-Record.row T71 2 24 0 3 τ6 τ5 Row.off λ x. x
 
-  abbrev s54 : (bs : List.List Nat.ℕ) → Typed.Asks T58 T59
-  s54 = λ bs. Relend.k-sl-aggregate in-Record.row (Relend.asMut in-Record.row) T58 22 23 3 τ5 τ5 (λ x. x) (Scalar.oFld 2 ((Syntax.field 1) ∷ []) τ1 8
+  abbrev s68 : (bs : List.List Nat.ℕ) → Typed.Asks T73 T74
+  s68 = λ bs. Relend.k-sl-aggregate in-Record.row (Relend.asMut in-Record.row) T73 24 25 3 τ5 τ5 (λ x. x) (Scalar.oFld 2 ((Syntax.field 1) ∷ []) τ1 8
       λ v. Shared.lenV (v .0))
 
-  abbrev s55 : (bs : List.List Nat.ℕ) → Typed.Both T59 T60
-  s55 = λ bs. Call.callB ps·4 r·4 (claims· .8) (claims· .9) T59 (
+  abbrev s69 : (bs : List.List Nat.ℕ) → Typed.Both T74 T75
+  s69 = λ bs. Call.callB ps·4 r·4 (claims· .8) (claims· .9) T74 (
     record {
-      pos = 23;
+      pos = 25;
       ty = Syntax.tyRef Syntax.erased Syntax.mut in-Record.at;
       ref = λ
           x. x;
     },
-    (record { pos = 10; st = []; d = 0; at = λ x. x }, tt),
-  ) 21 (3 ∷ []) Syntax.tyUnit
+    (Num.vAt 10 λ x. x, (record { pos = 11; st = []; d = 0; at = λ x. x }, tt)),
+  ) 23 (3 ∷ []) Syntax.tyUnit
 
-  abbrev s56 : (bs : List.List Nat.ℕ) → Typed.Mo T60 → Typed.Mo T61
-  s56 = λ bs. Scalar.n-room T60 10 τ3
+  abbrev s70 : (bs : List.List Nat.ℕ) → Typed.Mo T75 → Typed.Mo T76
+  s70 = λ bs. Scalar.n-room T75 11 mirs.dl_record-Record
 
-  abbrev s57 : (bs : List.List Nat.ℕ) → Typed.Mo T61 → Typed.Mo T62
-  s57 = λ bs. Scalar.n-room T61 21 Syntax.tyUnit
+  abbrev s71 : (bs : List.List Nat.ℕ) → Typed.Mo T76 → Typed.Mo T77
+  s71 = λ bs. Scalar.n-room T76 23 Syntax.tyUnit
 
-  abbrev s59 : (bs : List.List Nat.ℕ) → Typed.Both T62 T64
-  s59 = λ bs. Relend.k-back-sl in-Record.row T62 23 2 0 3 τ6 τ5 Row.off (λ x. x) λ x. x
+  abbrev s73 : (bs : List.List Nat.ℕ) → Typed.Both T77 T79
+  s73 = λ bs. Relend.k-back-sl in-Record.row T77 25 2 0 3 τ6 τ5 Row.off (λ x. x) λ x. x
 
-  abbrev s61 : (bs : List.List Nat.ℕ) → Typed.Mo T64 → Typed.Mo T66
-  s61 = λ bs. Make'.n-make (Declared.row RequestReply.the-type) T64 11 λ m. RequestCoreAnswer.struct .as-values (m .1 .1 .1 .1 .1 .1 .1 .1 .1 .0) .0
+  abbrev s75 : (bs : List.List Nat.ℕ) → Typed.Mo T79 → Typed.Mo T81
+  s75 = λ bs. Make'.n-make (Declared.row RequestReply.the-type) T79 12 λ m. RequestPlan.struct .as-values (m .1 .1 .1 .1 .1 .1 .1 .1 .1 .0) .0
 
-  abbrev s62 : (bs : List.List Nat.ℕ) → Typed.Both T66 T67
-  s62 = λ bs. WayStmt.k-way-copy-out T66 (Row.out 9 (T66 .locals)) (λ u. Row.drop 9 (T66 .locals) u) 12 ρ4 (λ u. At.getAt (RequestCoreAnswer.the-type
-      .parts) 1 (RequestCoreAnswer.struct .as-values (u .1 .1 .1 .1 .1 .1 .1 .1 .1 .0))) (λ T′. record { locals = Row.setRow 9 ε39 T′; slots = [] })
-      (λ u T′ m′. Row.set 9 ε39 (u .1 .1 .1 .1 .1 .1 .1 .1 .1 .0) T′ m′) (λ u. Unit) λ u. Unit
+  abbrev s76 : (bs : List.List Nat.ℕ) → Typed.Both T81 T82
+  s76 = λ bs. WayStmt.k-way-copy-out T81 (Row.out 9 (T81 .locals)) (λ u. Row.drop 9 (T81 .locals) u) 13 ρ5 (λ u. At.getAt (RequestPlan.the-type
+      .parts) 1 (RequestPlan.struct .as-values (u .1 .1 .1 .1 .1 .1 .1 .1 .1 .0))) (λ T′. record { locals = Row.setRow 9 ε37 T′; slots = [] }) (λ u T′
+      m′. Row.set 9 ε37 (u .1 .1 .1 .1 .1 .1 .1 .1 .1 .0) T′ m′) (λ u. Unit) λ u. Unit
 
-  abbrev s63 : (bs : List.List Nat.ℕ) → Typed.Mo T67 → Typed.Mo T68
-  s63 = λ bs. Scalar.n-room T67 9 mirs.sched_core-RequestCoreAnswer
+  abbrev s77 : (bs : List.List Nat.ℕ) → Typed.Mo T82 → Typed.Mo T83
+  s77 = λ bs. Scalar.n-room T82 9 mirs.request_core-RequestPlan
 
-  abbrev s64 : (bs : List.List Nat.ℕ) → Typed.Mo T68 → Typed.Mo T69
-  s64 = λ bs. Make'.n-make (Declared'.row (Apart.apartT RequestAnswer.the-type)) T68 0 λ m. (
-    m .1 .1 .1 .1 .1 .1 .1 .1 .1 .1 .1 .0,
+  abbrev s78 : (bs : List.List Nat.ℕ) → Typed.Mo T83 → Typed.Mo T84
+  s78 = λ bs. Make'.n-make (Declared'.row (Apart.apartT RequestAnswer.the-type)) T83 0 λ m. (
+    m .1 .1 .1 .1 .1 .1 .1 .1 .1 .1 .1 .1 .0,
     (
-      m .1 .1 .1 .1 .1
-          .1 .1 .1 .1 .1 .1 .1 .0,
+      m .1 .1 .1 .1
+          .1 .1 .1 .1 .1 .1 .1 .1 .1 .0,
       tt,
     ),
   )
 
-  abbrev s65 : (bs : List.List Nat.ℕ) → Typed.Mo T69 → Typed.Mo T70
-  s65 = λ bs. Scalar.n-room T69 11 mirs.sched_core-RequestReply
+  abbrev s79 : (bs : List.List Nat.ℕ) → Typed.Mo T84 → Typed.Mo T85
+  s79 = λ bs. Scalar.n-room T84 10 τ1
 
-  abbrev s66 : (bs : List.List Nat.ℕ) → Typed.Mo T70 → Typed.Mo T71
-  s66 = λ bs. Scalar.n-room T70 12 mirs.sched_core-Station
+  abbrev s80 : (bs : List.List Nat.ℕ) → Typed.Mo T85 → Typed.Mo T86
+  s80 = λ bs. Scalar.n-room T85 12 mirs.sched_core-RequestReply
 
-  abbrev s67 : (bs : List.List Nat.ℕ) → Typed.Mo T71 → Typed.Mo T72
-  s67 = λ bs. Scalar.n-room T71 4 τ0
+  abbrev s81 : (bs : List.List Nat.ℕ) → Typed.Mo T86 → Typed.Mo T87
+  s81 = λ bs. Scalar.n-room T86 13 mirs.sched_core-Station
 
-  abbrev s68 : (bs : List.List Nat.ℕ) → Typed.Mo T72 → Typed.Mo T73
-  s68 = λ bs. Scalar.n-room T72 5 τ0
+  abbrev s82 : (bs : List.List Nat.ℕ) → Typed.Mo T87 → Typed.Mo T88
+  s82 = λ bs. Scalar.n-room T87 4 τ0
 
-  abbrev s69 : (bs : List.List Nat.ℕ) → Typed.Mo T73 → Typed.Mo T74
-  s69 = λ bs. Scalar.n-room T73 6 τ0
+  abbrev s83 : (bs : List.List Nat.ℕ) → Typed.Mo T88 → Typed.Mo T89
+  s83 = λ bs. Scalar.n-room T88 5 τ0
 
-  abbrev s70 : (bs : List.List Nat.ℕ) → Typed.Mo T74 → Typed.Mo T75
-  s70 = λ bs. Scalar.n-room T74 7 τ2
+  abbrev s84 : (bs : List.List Nat.ℕ) → Typed.Mo T89 → Typed.Mo T90
+  s84 = λ bs. Scalar.n-room T89 6 τ0
 
-  abbrev s71 : (bs : List.List Nat.ℕ) → Typed.Mo T75 → Typed.Mo T76
-  s71 = λ bs. AtSlots.n-as-by T75 0 ρ6 λ v. RequestAnswer.struct .make v tt
+  abbrev s85 : (bs : List.List Nat.ℕ) → Typed.Mo T90 → Typed.Mo T91
+  s85 = λ bs. Scalar.n-room T90 7 τ2
+
+  abbrev s86 : (bs : List.List Nat.ℕ) → Typed.Mo T91 → Typed.Mo T92
+  s86 = λ bs. AtSlots.n-as-by T91 0 ρ7 λ v. RequestAnswer.struct .make v tt
 
   module _ (Pre· : (κs : Lifetimes.Lfts 2) → Kinds.Dens κs ps → Type 0) (Post· : (κs : Lifetimes.Lfts 2) → (a : Kinds.Dens κs ps) → Kinds.Plain 2 ps r
       κs) where
@@ -1306,10 +1489,10 @@ module _ (claims· : Claims) where
       abbrev pub Closed : Type 2
       Closed = (𝓤 : URA.URA M) (H : Wp.Heap 𝓤) (A : Atoms.Atoms 𝓤) (W : Kit.Given 𝓤 H A) (𝓣 : Wp.Tables 𝓤 H) (known0 : Plain.Known 𝓤 H A W 𝓣 0 ps·0
           r·0 (claims· .0) (claims· .1) "sched_core::station_is_sound") (known1 : Plain.Known 𝓤 H A W 𝓣 0 ps·1 r·1 (claims· .2) (claims· .3)
-          "bs_sched::request_refused") (known2 : Plain.Known 𝓤 H A W 𝓣 1 ps·2 r·2 (claims· .4) (claims· .5) "bs_sched::load_64") (known3 : Plain.Known
-          𝓤 H A W 𝓣 1 ps·3 r·3 (claims· .6) (claims· .7) "request_core::request_core") (known4 : Plain.Known 𝓤 H A W 𝓣 1 ps·4 r·4 (claims· .8)
-          (claims· .9) "bs_sched::save_64") → Statement.Triple 𝓤 (Wp.WpFn 𝓤 H (𝓣 .C) (𝓣 .Λ) (Function.fnOf 2 ps r xs m hs body)) (Function.plainOf 𝓤 H
-          A 2 ps r Pre· Post·)
+          "bs_sched::request_refused") (known2 : Plain.Known 𝓤 H A W 𝓣 2 ps·2 r·2 (claims· .4) (claims· .5) "bs_sched::queue_is_sound") (known3 :
+          Plain.Known 𝓤 H A W 𝓣 0 ps·3 r·3 (claims· .6) (claims· .7) "request_core::request_plan") (known4 : Plain.Known 𝓤 H A W 𝓣 1 ps·4 r·4 (claims·
+          .8) (claims· .9) "bs_sched::put_record") → Statement.Triple 𝓤 (Wp.WpFn 𝓤 H (𝓣 .C) (𝓣 .Λ) (Function.fnOf 2 ps r xs m hs body))
+          (Function.plainOf 𝓤 H A 2 ps r Pre· Post·)
 
     module _ where
       abbrev at0 : (bs : List.List Nat.ℕ) → Typed.TF T15 O1
@@ -1349,7 +1532,7 @@ module _ (claims· : Claims) where
       at11 = λ bs. λ Ψ. Typed.pass T6 T16 (s13 bs) (at10 bs Ψ)
 
       abbrev at12 : (bs : List.List Nat.ℕ) → Typed.TF T6 O1
-      at12 = λ bs. Scalar.Φcond T6 O1 14 (λ x. x) (at9 bs) (at11 bs)
+      at12 = λ bs. Scalar.Φcond T6 O1 15 (λ x. x) (at9 bs) (at11 bs)
 
       abbrev at13 : (bs : List.List Nat.ℕ) → Typed.TF T4 O1
       at13 = λ bs. λ Ψ. Typed.pass T4 T6 (s3 bs) (at12 bs Ψ)
@@ -1391,7 +1574,7 @@ module _ (claims· : Claims) where
       at25 = λ bs. λ Ψ. Typed.pass T20 T30 (s26 bs) (at24 bs Ψ)
 
       abbrev at26 : (bs : List.List Nat.ℕ) → Typed.TF T20 O2
-      at26 = λ bs. Scalar.Φcond T20 O2 13 (λ x. x) (at23 bs) (at25 bs)
+      at26 = λ bs. Scalar.Φcond T20 O2 14 (λ x. x) (at23 bs) (at25 bs)
 
       abbrev at27 : (bs : List.List Nat.ℕ) → Typed.TF T18 O2
       at27 = λ bs. λ Ψ. Typed.pass T18 T20 (s16 bs) (at26 bs Ψ)
@@ -1433,166 +1616,227 @@ module _ (claims· : Claims) where
       at39 = λ bs. λ Ψ. Typed.pass T34 T44 (s39 bs) (at38 bs Ψ)
 
       abbrev at40 : (bs : List.List Nat.ℕ) → Typed.TF T34 O3
-      at40 = λ bs. Scalar.Φcond T34 O3 14 (λ x. x) (at37 bs) (at39 bs)
+      at40 = λ bs. Scalar.Φcond T34 O3 15 (λ x. x) (at37 bs) (at39 bs)
 
       abbrev at41 : (bs : List.List Nat.ℕ) → Typed.TF T32 O3
       at41 = λ bs. λ Ψ. Typed.pass T32 T34 (s29 bs) (at40 bs Ψ)
 
-      abbrev at42 : (bs : List.List Nat.ℕ) → Typed.TF T76 O0
-      at42 = λ bs. Typed.atRet O0
+      abbrev at42 : (bs : List.List Nat.ℕ) → Typed.TF T66 O4
+      at42 = λ bs. Typed.atRet O4
 
-      abbrev at43 : (bs : List.List Nat.ℕ) → Typed.TF T75 O0
-      at43 = λ bs. λ Ψ. Typed.pass T75 T76 (s71 bs) (at42 bs Ψ)
+      abbrev at43 : (bs : List.List Nat.ℕ) → Typed.TF T65 O4
+      at43 = λ bs. λ Ψ. Typed.pass T65 T66 (s60 bs) (at42 bs Ψ)
 
-      abbrev at44 : (bs : List.List Nat.ℕ) → Typed.TF T74 O0
-      at44 = λ bs. λ Ψ. Typed.pass T74 T75 (s70 bs) (at43 bs Ψ)
+      abbrev at44 : (bs : List.List Nat.ℕ) → Typed.TF T64 O4
+      at44 = λ bs. λ Ψ. Typed.pass T64 T65 (s59 bs) (at43 bs Ψ)
 
-      abbrev at45 : (bs : List.List Nat.ℕ) → Typed.TF T73 O0
-      at45 = λ bs. λ Ψ. Typed.pass T73 T74 (s69 bs) (at44 bs Ψ)
+      abbrev at45 : (bs : List.List Nat.ℕ) → Typed.TF T63 O4
+      at45 = λ bs. λ Ψ. Typed.pass T63 T64 (s58 bs) (at44 bs Ψ)
 
-      abbrev at46 : (bs : List.List Nat.ℕ) → Typed.TF T72 O0
-      at46 = λ bs. λ Ψ. Typed.pass T72 T73 (s68 bs) (at45 bs Ψ)
+      abbrev at46 : (bs : List.List Nat.ℕ) → Typed.TF T62 O4
+      at46 = λ bs. λ Ψ. Typed.pass T62 T63 (s57 bs) (at45 bs Ψ)
 
-      abbrev at47 : (bs : List.List Nat.ℕ) → Typed.TF T71 O0
-      at47 = λ bs. λ Ψ. Typed.pass T71 T72 (s67 bs) (at46 bs Ψ)
+      abbrev at47 : (bs : List.List Nat.ℕ) → Typed.TF T61 O4
+      at47 = λ bs. λ Ψ. Typed.pass T61 T62 (s56 bs) (at46 bs Ψ)
 
-      abbrev at48 : (bs : List.List Nat.ℕ) → Typed.TF T70 O0
-      at48 = λ bs. λ Ψ. Typed.pass T70 T71 (s66 bs) (at47 bs Ψ)
+      abbrev at48 : (bs : List.List Nat.ℕ) → Typed.TF T60 O4
+      at48 = λ bs. λ Ψ. Typed.pass T60 T61 (s55 bs) (at47 bs Ψ)
 
-      abbrev at49 : (bs : List.List Nat.ℕ) → Typed.TF T69 O0
-      at49 = λ bs. λ Ψ. Typed.pass T69 T70 (s65 bs) (at48 bs Ψ)
+      abbrev at49 : (bs : List.List Nat.ℕ) → Typed.TF T59 O4
+      at49 = λ bs. λ Ψ. Typed.both (s54 bs) (at48 bs Ψ)
 
-      abbrev at50 : (bs : List.List Nat.ℕ) → Typed.TF T68 O0
-      at50 = λ bs. λ Ψ. Typed.pass T68 T69 (s64 bs) (at49 bs Ψ)
+      abbrev at50 : (bs : List.List Nat.ℕ) → Typed.TF T58 O4
+      at50 = λ bs. λ Ψ. Typed.pass T58 T59 (s53 bs) (at49 bs Ψ)
 
-      abbrev at51 : (bs : List.List Nat.ℕ) → Typed.TF T67 O0
-      at51 = λ bs. λ Ψ. Typed.pass T67 T68 (s63 bs) (at50 bs Ψ)
+      abbrev at51 : (bs : List.List Nat.ℕ) → Typed.TF T57 O4
+      at51 = λ bs. λ Ψ. Typed.pass T57 T58 (s52 bs) (at50 bs Ψ)
 
-      abbrev at52 : (bs : List.List Nat.ℕ) → Typed.TF T66 O0
-      at52 = λ bs. λ Ψ. Typed.both (s62 bs) (at51 bs Ψ)
+      abbrev at52 : (bs : List.List Nat.ℕ) → Typed.TF T67 O4
+      at52 = λ bs. Typed.atNext O4
 
-      abbrev at53 : (bs : List.List Nat.ℕ) → Typed.TF T64 O0
-      at53 = λ bs. λ Ψ. Typed.pass T64 T66 (s61 bs) (at52 bs Ψ)
+      abbrev at53 : (bs : List.List Nat.ℕ) → Typed.TF T57 O4
+      at53 = λ bs. λ Ψ. Typed.pass T57 T67 (s61 bs) (at52 bs Ψ)
 
-      abbrev at54 : (bs : List.List Nat.ℕ) → Typed.TF T64 O0
-      at54 = λ bs. λ Ψ. at53 bs Ψ
+      abbrev at54 : (bs : List.List Nat.ℕ) → Typed.TF T57 O4
+      at54 = λ bs. Scalar.Φcond T57 O4 15 (λ x. x) (at51 bs) (at53 bs)
 
-      abbrev at55 : (bs : List.List Nat.ℕ) → Typed.TF T62 O0
-      at55 = λ bs. λ Ψ. Typed.both (s59 bs) (at54 bs Ψ)
+      abbrev at55 : (bs : List.List Nat.ℕ) → Typed.TF T55 O4
+      at55 = λ bs. λ Ψ. Typed.pass T55 T57 (s51 bs) (at54 bs Ψ)
 
-      abbrev at56 : (bs : List.List Nat.ℕ) → Typed.TF T62 O0
-      at56 = λ bs. λ Ψ. at55 bs Ψ
+      abbrev at56 : (bs : List.List Nat.ℕ) → Typed.TF T92 O0
+      at56 = λ bs. Typed.atRet O0
 
-      abbrev at57 : (bs : List.List Nat.ℕ) → Typed.TF T61 O0
-      at57 = λ bs. λ Ψ. Typed.pass T61 T62 (s57 bs) (at56 bs Ψ)
+      abbrev at57 : (bs : List.List Nat.ℕ) → Typed.TF T91 O0
+      at57 = λ bs. λ Ψ. Typed.pass T91 T92 (s86 bs) (at56 bs Ψ)
 
-      abbrev at58 : (bs : List.List Nat.ℕ) → Typed.TF T60 O0
-      at58 = λ bs. λ Ψ. Typed.pass T60 T61 (s56 bs) (at57 bs Ψ)
+      abbrev at58 : (bs : List.List Nat.ℕ) → Typed.TF T90 O0
+      at58 = λ bs. λ Ψ. Typed.pass T90 T91 (s85 bs) (at57 bs Ψ)
 
-      abbrev at59 : (bs : List.List Nat.ℕ) → Typed.TF T59 O0
-      at59 = λ bs. λ Ψ. Typed.both (s55 bs) (at58 bs Ψ)
+      abbrev at59 : (bs : List.List Nat.ℕ) → Typed.TF T89 O0
+      at59 = λ bs. λ Ψ. Typed.pass T89 T90 (s84 bs) (at58 bs Ψ)
 
-      abbrev at60 : (bs : List.List Nat.ℕ) → Typed.TF T58 O0
-      at60 = λ bs. λ Ψ. Typed.ask (s54 bs) (at59 bs Ψ)
+      abbrev at60 : (bs : List.List Nat.ℕ) → Typed.TF T88 O0
+      at60 = λ bs. λ Ψ. Typed.pass T88 T89 (s83 bs) (at59 bs Ψ)
 
-      abbrev at61 : (bs : List.List Nat.ℕ) → Typed.TF T56 O0
-      at61 = λ bs. λ Ψ. Typed.give (s53 bs) (at60 bs Ψ)
+      abbrev at61 : (bs : List.List Nat.ℕ) → Typed.TF T87 O0
+      at61 = λ bs. λ Ψ. Typed.pass T87 T88 (s82 bs) (at60 bs Ψ)
 
-      abbrev at62 : (bs : List.List Nat.ℕ) → Typed.TF T56 O0
-      at62 = λ bs. λ Ψ. at61 bs Ψ
+      abbrev at62 : (bs : List.List Nat.ℕ) → Typed.TF T86 O0
+      at62 = λ bs. λ Ψ. Typed.pass T86 T87 (s81 bs) (at61 bs Ψ)
 
-      abbrev at63 : (bs : List.List Nat.ℕ) → Typed.TF T55 O0
-      at63 = λ bs. λ Ψ. Typed.both (s51 bs) (at62 bs Ψ)
+      abbrev at63 : (bs : List.List Nat.ℕ) → Typed.TF T85 O0
+      at63 = λ bs. λ Ψ. Typed.pass T85 T86 (s80 bs) (at62 bs Ψ)
 
-      abbrev at64 : (bs : List.List Nat.ℕ) → Typed.TF T54 O0
-      at64 = λ bs. λ Ψ. Typed.pass T54 T55 (s50 bs) (at63 bs Ψ)
+      abbrev at64 : (bs : List.List Nat.ℕ) → Typed.TF T84 O0
+      at64 = λ bs. λ Ψ. Typed.pass T84 T85 (s79 bs) (at63 bs Ψ)
 
-      abbrev at65 : (bs : List.List Nat.ℕ) → Typed.TF T53 O0
-      at65 = λ bs. λ Ψ. Typed.pass T53 T54 (s49 bs) (at64 bs Ψ)
+      abbrev at65 : (bs : List.List Nat.ℕ) → Typed.TF T83 O0
+      at65 = λ bs. λ Ψ. Typed.pass T83 T84 (s78 bs) (at64 bs Ψ)
 
-      abbrev at66 : (bs : List.List Nat.ℕ) → Typed.TF T51 O0
-      at66 = λ bs. λ Ψ. Typed.both (s48 bs) (at65 bs Ψ)
+      abbrev at66 : (bs : List.List Nat.ℕ) → Typed.TF T82 O0
+      at66 = λ bs. λ Ψ. Typed.pass T82 T83 (s77 bs) (at65 bs Ψ)
 
-      abbrev at67 : (bs : List.List Nat.ℕ) → Typed.TF T51 O0
-      at67 = λ bs. λ Ψ. at66 bs Ψ
+      abbrev at67 : (bs : List.List Nat.ℕ) → Typed.TF T81 O0
+      at67 = λ bs. λ Ψ. Typed.both (s76 bs) (at66 bs Ψ)
 
-      abbrev at68 : (bs : List.List Nat.ℕ) → Typed.TF T49 O0
-      at68 = λ bs. λ Ψ. Typed.pass T49 T51 (s46 bs) (at67 bs Ψ)
+      abbrev at68 : (bs : List.List Nat.ℕ) → Typed.TF T79 O0
+      at68 = λ bs. λ Ψ. Typed.pass T79 T81 (s75 bs) (at67 bs Ψ)
 
-      abbrev at69 : (bs : List.List Nat.ℕ) → Typed.TF T49 O0
+      abbrev at69 : (bs : List.List Nat.ℕ) → Typed.TF T79 O0
       at69 = λ bs. λ Ψ. at68 bs Ψ
 
-      abbrev at70 : (bs : List.List Nat.ℕ) → Typed.TF T48 O0
-      at70 = λ bs. λ Ψ. Typed.pass T48 T49 (s44 bs) (at69 bs Ψ)
+      abbrev at70 : (bs : List.List Nat.ℕ) → Typed.TF T77 O0
+      at70 = λ bs. λ Ψ. Typed.both (s73 bs) (at69 bs Ψ)
 
-      abbrev at71 : (bs : List.List Nat.ℕ) → Typed.TF T47 O0
-      at71 = λ bs. λ Ψ. Typed.both (s43 bs) (at70 bs Ψ)
+      abbrev at71 : (bs : List.List Nat.ℕ) → Typed.TF T77 O0
+      at71 = λ bs. λ Ψ. at70 bs Ψ
 
-      abbrev at72 : (bs : List.List Nat.ℕ) → Typed.TF T46 O0
-      at72 = λ bs. λ Ψ. Typed.ask (s42 bs) (at71 bs Ψ)
+      abbrev at72 : (bs : List.List Nat.ℕ) → Typed.TF T76 O0
+      at72 = λ bs. λ Ψ. Typed.pass T76 T77 (s71 bs) (at71 bs Ψ)
 
-      abbrev at73 : (bs : List.List Nat.ℕ) → Typed.TF T33 O0
-      at73 = λ bs. λ Ψ. Typed.give (s41 bs) (at72 bs Ψ)
+      abbrev at73 : (bs : List.List Nat.ℕ) → Typed.TF T75 O0
+      at73 = λ bs. λ Ψ. Typed.pass T75 T76 (s70 bs) (at72 bs Ψ)
 
-      abbrev at74 : (bs : List.List Nat.ℕ) → Typed.TF T33 O0
-      at74 = λ bs. λ Ψ. at73 bs Ψ
+      abbrev at74 : (bs : List.List Nat.ℕ) → Typed.TF T74 O0
+      at74 = λ bs. λ Ψ. Typed.both (s69 bs) (at73 bs Ψ)
 
-      abbrev at75 : (bs : List.List Nat.ℕ) → Typed.TF T32 O0
-      at75 = λ bs. λ Ψ. at41 bs (Typed.wantNext T33 O0 (at74 bs Ψ) Ψ)
+      abbrev at75 : (bs : List.List Nat.ℕ) → Typed.TF T73 O0
+      at75 = λ bs. λ Ψ. Typed.ask (s68 bs) (at74 bs Ψ)
 
-      abbrev at76 : (bs : List.List Nat.ℕ) → Typed.TF T31 O0
-      at76 = λ bs. λ Ψ. Typed.ask (s28 bs) (at75 bs Ψ)
+      abbrev at76 : (bs : List.List Nat.ℕ) → Typed.TF T71 O0
+      at76 = λ bs. λ Ψ. Typed.give (s67 bs) (at75 bs Ψ)
 
-      abbrev at77 : (bs : List.List Nat.ℕ) → Typed.TF T19 O0
-      at77 = λ bs. λ Ψ. Typed.pass T19 T31 (s27 bs) (at76 bs Ψ)
+      abbrev at77 : (bs : List.List Nat.ℕ) → Typed.TF T71 O0
+      at77 = λ bs. λ Ψ. at76 bs Ψ
 
-      abbrev at78 : (bs : List.List Nat.ℕ) → Typed.TF T18 O0
-      at78 = λ bs. λ Ψ. at27 bs (Typed.wantNext T19 O0 (at77 bs Ψ) Ψ)
+      abbrev at78 : (bs : List.List Nat.ℕ) → Typed.TF T70 O0
+      at78 = λ bs. λ Ψ. Typed.both (s65 bs) (at77 bs Ψ)
 
-      abbrev at79 : (bs : List.List Nat.ℕ) → Typed.TF T17 O0
-      at79 = λ bs. λ Ψ. Typed.ask (s15 bs) (at78 bs Ψ)
+      abbrev at79 : (bs : List.List Nat.ℕ) → Typed.TF T69 O0
+      at79 = λ bs. λ Ψ. Typed.pass T69 T70 (s64 bs) (at78 bs Ψ)
 
-      abbrev at80 : (bs : List.List Nat.ℕ) → Typed.TF T5 O0
-      at80 = λ bs. λ Ψ. Typed.pass T5 T17 (s14 bs) (at79 bs Ψ)
+      abbrev at80 : (bs : List.List Nat.ℕ) → Typed.TF T68 O0
+      at80 = λ bs. λ Ψ. Typed.pass T68 T69 (s63 bs) (at79 bs Ψ)
 
-      abbrev at81 : (bs : List.List Nat.ℕ) → Typed.TF T4 O0
-      at81 = λ bs. λ Ψ. at13 bs (Typed.wantNext T5 O0 (at80 bs Ψ) Ψ)
+      abbrev at81 : (bs : List.List Nat.ℕ) → Typed.TF T56 O0
+      at81 = λ bs. λ Ψ. Typed.both (s62 bs) (at80 bs Ψ)
 
-      abbrev at82 : (bs : List.List Nat.ℕ) → Typed.TF T3 O0
-      at82 = λ bs. λ Ψ. Typed.ask (s2 bs) (at81 bs Ψ)
+      abbrev at82 : (bs : List.List Nat.ℕ) → Typed.TF T55 O0
+      at82 = λ bs. λ Ψ. at55 bs (Typed.wantNext T56 O0 (at81 bs Ψ) Ψ)
 
-      abbrev at83 : (bs : List.List Nat.ℕ) → Typed.TF T2 O0
-      at83 = λ bs. λ Ψ. Typed.both (s1 bs) (at82 bs Ψ)
+      abbrev at83 : (bs : List.List Nat.ℕ) → Typed.TF T53 O0
+      at83 = λ bs. λ Ψ. Typed.ask (s50 bs) (at82 bs Ψ)
 
-      abbrev at84 : (bs : List.List Nat.ℕ) → Typed.TF T0 O0
-      at84 = λ bs. λ Ψ. Typed.give (s0 bs) (at83 bs Ψ)
+      abbrev at84 : (bs : List.List Nat.ℕ) → Typed.TF T53 O0
+      at84 = λ bs. λ Ψ. at83 bs Ψ
+
+      abbrev at85 : (bs : List.List Nat.ℕ) → Typed.TF T51 O0
+      at85 = λ bs. λ Ψ. Typed.pass T51 T53 (s48 bs) (at84 bs Ψ)
+
+      abbrev at86 : (bs : List.List Nat.ℕ) → Typed.TF T51 O0
+      at86 = λ bs. λ Ψ. at85 bs Ψ
+
+      abbrev at87 : (bs : List.List Nat.ℕ) → Typed.TF T50 O0
+      at87 = λ bs. λ Ψ. Typed.pass T50 T51 (s46 bs) (at86 bs Ψ)
+
+      abbrev at88 : (bs : List.List Nat.ℕ) → Typed.TF T49 O0
+      at88 = λ bs. λ Ψ. Typed.pass T49 T50 (s45 bs) (at87 bs Ψ)
+
+      abbrev at89 : (bs : List.List Nat.ℕ) → Typed.TF T48 O0
+      at89 = λ bs. λ Ψ. Typed.both (s44 bs) (at88 bs Ψ)
+
+      abbrev at90 : (bs : List.List Nat.ℕ) → Typed.TF T47 O0
+      at90 = λ bs. λ Ψ. Typed.ask (s43 bs) (at89 bs Ψ)
+
+      abbrev at91 : (bs : List.List Nat.ℕ) → Typed.TF T45 O0
+      at91 = λ bs. λ Ψ. Typed.give (s42 bs) (at90 bs Ψ)
+
+      abbrev at92 : (bs : List.List Nat.ℕ) → Typed.TF T45 O0
+      at92 = λ bs. λ Ψ. at91 bs Ψ
+
+      abbrev at93 : (bs : List.List Nat.ℕ) → Typed.TF T33 O0
+      at93 = λ bs. λ Ψ. Typed.both (s40 bs) (at92 bs Ψ)
+
+      abbrev at94 : (bs : List.List Nat.ℕ) → Typed.TF T32 O0
+      at94 = λ bs. λ Ψ. at41 bs (Typed.wantNext T33 O0 (at93 bs Ψ) Ψ)
+
+      abbrev at95 : (bs : List.List Nat.ℕ) → Typed.TF T31 O0
+      at95 = λ bs. λ Ψ. Typed.ask (s28 bs) (at94 bs Ψ)
+
+      abbrev at96 : (bs : List.List Nat.ℕ) → Typed.TF T19 O0
+      at96 = λ bs. λ Ψ. Typed.pass T19 T31 (s27 bs) (at95 bs Ψ)
+
+      abbrev at97 : (bs : List.List Nat.ℕ) → Typed.TF T18 O0
+      at97 = λ bs. λ Ψ. at27 bs (Typed.wantNext T19 O0 (at96 bs Ψ) Ψ)
+
+      abbrev at98 : (bs : List.List Nat.ℕ) → Typed.TF T17 O0
+      at98 = λ bs. λ Ψ. Typed.ask (s15 bs) (at97 bs Ψ)
+
+      abbrev at99 : (bs : List.List Nat.ℕ) → Typed.TF T5 O0
+      at99 = λ bs. λ Ψ. Typed.pass T5 T17 (s14 bs) (at98 bs Ψ)
+
+      abbrev at100 : (bs : List.List Nat.ℕ) → Typed.TF T4 O0
+      at100 = λ bs. λ Ψ. at13 bs (Typed.wantNext T5 O0 (at99 bs Ψ) Ψ)
+
+      abbrev at101 : (bs : List.List Nat.ℕ) → Typed.TF T3 O0
+      at101 = λ bs. λ Ψ. Typed.ask (s2 bs) (at100 bs Ψ)
+
+      abbrev at102 : (bs : List.List Nat.ℕ) → Typed.TF T2 O0
+      at102 = λ bs. λ Ψ. Typed.both (s1 bs) (at101 bs Ψ)
+
+      abbrev at103 : (bs : List.List Nat.ℕ) → Typed.TF T0 O0
+      at103 = λ bs. λ Ψ. Typed.give (s0 bs) (at102 bs Ψ)
 
       abbrev pub Φ : (bs : List.List Nat.ℕ) → Typed.TF T0 O0
-      Φ = λ bs. at84 bs
+      Φ = λ bs. at103 bs
 
       module _ {M : Type 1} (𝓤 : URA.URA M) (H : Wp.Heap 𝓤) (A : Atoms.Atoms 𝓤) (W : Kit.Given 𝓤 H A) (𝓣 : Wp.Tables 𝓤 H) where
         abbrev Knowns : Type 1
         Knowns = Plain.Known 𝓤 H A W 𝓣 0 ps·0 r·0 (claims· .0) (claims· .1) "sched_core::station_is_sound" × Plain.Known 𝓤 H A W 𝓣 0 ps·1 r·1 (claims·
-            .2) (claims· .3) "bs_sched::request_refused" × Plain.Known 𝓤 H A W 𝓣 1 ps·2 r·2 (claims· .4) (claims· .5) "bs_sched::load_64" ×
-            Plain.Known 𝓤 H A W 𝓣 1 ps·3 r·3 (claims· .6) (claims· .7) "request_core::request_core" × Plain.Known 𝓤 H A W 𝓣 1 ps·4 r·4 (claims· .8)
-            (claims· .9) "bs_sched::save_64"
+            .2) (claims· .3) "bs_sched::request_refused" × Plain.Known 𝓤 H A W 𝓣 2 ps·2 r·2 (claims· .4) (claims· .5) "bs_sched::queue_is_sound" ×
+            Plain.Known 𝓤 H A W 𝓣 0 ps·3 r·3 (claims· .6) (claims· .7) "request_core::request_plan" × Plain.Known 𝓤 H A W 𝓣 1 ps·4 r·4 (claims· .8)
+            (claims· .9) "bs_sched::put_record"
 
       module _ (κs : Lifetimes.Lfts 2) (qs : Lifetimes.Shares 2) where
-        abbrev g17 : List.List Row.Entry
-        g17 = ε27 ∷ ε28 ∷ (2, Reshare.mslice-owedS in-Record.row τ6 0 2 (Row.lease (κs .0) (qs .0))) ∷ ε40 ∷ ε18 ∷ ε19 ∷ ε20 ∷ ε21 ∷ ε0 ∷ ε35 ∷ ε5 ∷
-            ε29 ∷ ε23 ∷ ε15 ∷ ε16 ∷ ε24 ∷ []
+        abbrev g16 : List.List Row.Entry
+        g16 = ε30 ∷ ε31 ∷ (2, Reshare.mslice-owedS in-Record.row τ6 0 2 (Row.lease (κs .0) (qs .0))) ∷ ε42 ∷ ε18 ∷ ε19 ∷ ε20 ∷ ε21 ∷ ε41 ∷ ε32 ∷ ε5 ∷
+            ε23 ∷ ε33 ∷ ε25 ∷ ε15 ∷ ε16 ∷ []
+
+        abbrev g19 : List.List Row.Entry
+        g19 = ε30 ∷ ε31 ∷ (2, Reshare.mslice-owedS in-Record.row τ6 0 2 (Row.lease (κs .0) (qs .0))) ∷ ε42 ∷ ε18 ∷ ε19 ∷ ε20 ∷ ε21 ∷ ε41 ∷ ε32 ∷ ε5 ∷
+            ε23 ∷ ε33 ∷ ε25 ∷ ε11 ∷ ε16 ∷ []
 
         abbrev g20 : List.List Row.Entry
-        g20 = ε27 ∷ ε28 ∷ (2, Reshare.mslice-owedS in-Record.row τ6 0 2 (Row.lease (κs .0) (qs .0))) ∷ ε40 ∷ ε18 ∷ ε19 ∷ ε20 ∷ ε21 ∷ ε32 ∷ ε35 ∷ ε5 ∷
-            ε29 ∷ ε23 ∷ ε15 ∷ ε16 ∷ ε24 ∷ []
+        g20 = ε30 ∷ ε31 ∷ (2, Reshare.mslice-owedS in-Record.row τ6 0 2 (Row.lease (κs .0) (qs .0))) ∷ ε42 ∷ ε18 ∷ ε19 ∷ ε20 ∷ ε21 ∷ ε0 ∷ ε32 ∷ ε5 ∷
+            ε23 ∷ ε33 ∷ ε25 ∷ ε11 ∷ ε16 ∷ []
 
         abbrev g26 : List.List Row.Entry
-        g26 = ε27 ∷ ε22 ∷ (2, Relend.mslice-owed in-Record.row τ6 0 3 (Row.lease (κs .0) (qs .0))) ∷ ε40 ∷ ε18 ∷ ε19 ∷ ε20 ∷ ε21 ∷ ε0 ∷ ε39 ∷ ε33 ∷
-            ε29 ∷ ε23 ∷ ε15 ∷ ε16 ∷ ε24 ∷ []
+        g26 = ε30 ∷ ε24 ∷ (2, Relend.mslice-owed in-Record.row τ6 0 3 (Row.lease (κs .0) (qs .0))) ∷ ε42 ∷ ε18 ∷ ε19 ∷ ε20 ∷ ε21 ∷ ε0 ∷ ε37 ∷ ε22 ∷
+            ε34 ∷ ε33 ∷ ε25 ∷ ε15 ∷ ε16 ∷ []
 
         abbrev g30 : List.List Row.Entry
-        g30 = ε27 ∷ ε22 ∷ (2, Relend.mslice-owed in-Record.row τ6 0 3 (Row.lease (κs .0) (qs .0))) ∷ ε40 ∷ ε18 ∷ ε19 ∷ ε20 ∷ ε21 ∷ ε0 ∷ ε39 ∷ ε5 ∷ ε29
-            ∷ ε23 ∷ ε15 ∷ ε16 ∷ ε24 ∷ []
+        g30 = ε30 ∷ ε24 ∷ (2, Relend.mslice-owed in-Record.row τ6 0 3 (Row.lease (κs .0) (qs .0))) ∷ ε42 ∷ ε18 ∷ ε19 ∷ ε20 ∷ ε21 ∷ ε0 ∷ ε37 ∷ ε22 ∷
+            ε23 ∷ ε33 ∷ ε25 ∷ ε15 ∷ ε16 ∷ []
 
         abbrev G0 : Row.Cx
         G0 = record { locals = List._++_ t0 t1; slots = (Row.lease (κs .0) (qs .0)) ∷ (Row.lease (κs .1 .0) (qs .1 .0)) ∷ Row.off ∷ Row.off ∷ [] }
@@ -1619,25 +1863,25 @@ module _ (claims· : Claims) where
         G7 = record { locals = List._++_ t0 t1; slots = (Row.lease (κs .0) (qs .0)) ∷ (Row.lease (κs .1 .0) (qs .1 .0)) ∷ Row.off ∷ Row.off ∷ [] }
 
         abbrev G8 : Row.Cx
-        G8 = record { locals = List._++_ t6 t1; slots = (Row.lease (κs .0) (qs .0)) ∷ (Row.lease (κs .1 .0) (qs .1 .0)) ∷ Row.off ∷ Row.off ∷ [] }
+        G8 = record { locals = List._++_ t0 t6; slots = (Row.lease (κs .0) (qs .0)) ∷ (Row.lease (κs .1 .0) (qs .1 .0)) ∷ Row.off ∷ Row.off ∷ [] }
 
         abbrev G9 : Row.Cx
-        G9 = record { locals = List._++_ t7 t1; slots = (Row.lease (κs .0) (qs .0)) ∷ (Row.lease (κs .1 .0) (qs .1 .0)) ∷ Row.off ∷ Row.off ∷ [] }
+        G9 = record { locals = List._++_ t7 t6; slots = (Row.lease (κs .0) (qs .0)) ∷ (Row.lease (κs .1 .0) (qs .1 .0)) ∷ Row.off ∷ Row.off ∷ [] }
 
         abbrev G10 : Row.Cx
-        G10 = record { locals = List._++_ t8 t1; slots = (Row.lease (κs .0) (qs .0)) ∷ (Row.lease (κs .1 .0) (qs .1 .0)) ∷ Row.off ∷ Row.off ∷ [] }
+        G10 = record { locals = List._++_ t8 t6; slots = (Row.lease (κs .0) (qs .0)) ∷ (Row.lease (κs .1 .0) (qs .1 .0)) ∷ Row.off ∷ Row.off ∷ [] }
 
         abbrev G11 : Row.Cx
-        G11 = record { locals = List._++_ t9 t1; slots = (Row.lease (κs .0) (qs .0)) ∷ (Row.lease (κs .1 .0) (qs .1 .0)) ∷ Row.off ∷ Row.off ∷ [] }
+        G11 = record { locals = List._++_ t8 t1; slots = (Row.lease (κs .0) (qs .0)) ∷ (Row.lease (κs .1 .0) (qs .1 .0)) ∷ Row.off ∷ Row.off ∷ [] }
 
         abbrev G12 : Row.Cx
-        G12 = record { locals = List._++_ t10 t1; slots = (Row.lease (κs .0) (qs .0)) ∷ (Row.lease (κs .1 .0) (qs .1 .0)) ∷ Row.off ∷ Row.off ∷ [] }
+        G12 = record { locals = List._++_ t9 t1; slots = (Row.lease (κs .0) (qs .0)) ∷ (Row.lease (κs .1 .0) (qs .1 .0)) ∷ Row.off ∷ Row.off ∷ [] }
 
         abbrev G13 : Row.Cx
-        G13 = record { locals = List._++_ t11 t1; slots = (Row.lease (κs .0) (qs .0)) ∷ (Row.lease (κs .1 .0) (qs .1 .0)) ∷ Row.off ∷ Row.off ∷ [] }
+        G13 = record { locals = List._++_ t10 t1; slots = (Row.lease (κs .0) (qs .0)) ∷ (Row.lease (κs .1 .0) (qs .1 .0)) ∷ Row.off ∷ Row.off ∷ [] }
 
         abbrev G14 : Row.Cx
-        G14 = record { locals = List._++_ t12 t1; slots = (Row.lease (κs .0) (qs .0)) ∷ (Row.lease (κs .1 .0) (qs .1 .0)) ∷ Row.off ∷ Row.off ∷ [] }
+        G14 = record { locals = List._++_ t11 t1; slots = (Row.lease (κs .0) (qs .0)) ∷ (Row.lease (κs .1 .0) (qs .1 .0)) ∷ Row.off ∷ Row.off ∷ [] }
 
         abbrev G15 : Row.Cx
         G15 = record { locals = List._++_ t2 t1; slots = (Row.lease (κs .0) (qs .0)) ∷ (Row.lease (κs .1 .0) (qs .1 .0)) ∷ Row.off ∷ Row.off ∷ [] }
@@ -1646,10 +1890,10 @@ module _ (claims· : Claims) where
         G16 = record { locals = List._++_ t0 t1; slots = (Row.lease (κs .0) (qs .0)) ∷ (Row.lease (κs .1 .0) (qs .1 .0)) ∷ Row.off ∷ Row.off ∷ [] }
 
         abbrev G17 : Row.Cx
-        G17 = record { locals = List._++_ t0 t13; slots = (Row.lease (κs .0) (qs .0)) ∷ (Row.lease (κs .1 .0) (qs .1 .0)) ∷ Row.off ∷ Row.off ∷ [] }
+        G17 = record { locals = List._++_ t0 t12; slots = (Row.lease (κs .0) (qs .0)) ∷ (Row.lease (κs .1 .0) (qs .1 .0)) ∷ Row.off ∷ Row.off ∷ [] }
 
         abbrev G18 : Row.Cx
-        G18 = record { locals = List._++_ t3 t13; slots = (Row.lease (κs .0) (qs .0)) ∷ (Row.lease (κs .1 .0) (qs .1 .0)) ∷ Row.off ∷ Row.off ∷ [] }
+        G18 = record { locals = List._++_ t3 t12; slots = (Row.lease (κs .0) (qs .0)) ∷ (Row.lease (κs .1 .0) (qs .1 .0)) ∷ Row.off ∷ Row.off ∷ [] }
 
         abbrev G19 : Row.Cx
         G19 = record { locals = List._++_ t0 t1; slots = (Row.lease (κs .0) (qs .0)) ∷ (Row.lease (κs .1 .0) (qs .1 .0)) ∷ Row.off ∷ Row.off ∷ [] }
@@ -1661,25 +1905,25 @@ module _ (claims· : Claims) where
         G21 = record { locals = List._++_ t0 t1; slots = (Row.lease (κs .0) (qs .0)) ∷ (Row.lease (κs .1 .0) (qs .1 .0)) ∷ Row.off ∷ Row.off ∷ [] }
 
         abbrev G22 : Row.Cx
-        G22 = record { locals = List._++_ t0 t14; slots = (Row.lease (κs .0) (qs .0)) ∷ (Row.lease (κs .1 .0) (qs .1 .0)) ∷ Row.off ∷ Row.off ∷ [] }
+        G22 = record { locals = List._++_ t0 t13; slots = (Row.lease (κs .0) (qs .0)) ∷ (Row.lease (κs .1 .0) (qs .1 .0)) ∷ Row.off ∷ Row.off ∷ [] }
 
         abbrev G23 : Row.Cx
-        G23 = record { locals = List._++_ t15 t14; slots = (Row.lease (κs .0) (qs .0)) ∷ (Row.lease (κs .1 .0) (qs .1 .0)) ∷ Row.off ∷ Row.off ∷ [] }
+        G23 = record { locals = List._++_ t7 t13; slots = (Row.lease (κs .0) (qs .0)) ∷ (Row.lease (κs .1 .0) (qs .1 .0)) ∷ Row.off ∷ Row.off ∷ [] }
 
         abbrev G24 : Row.Cx
-        G24 = record { locals = List._++_ t9 t14; slots = (Row.lease (κs .0) (qs .0)) ∷ (Row.lease (κs .1 .0) (qs .1 .0)) ∷ Row.off ∷ Row.off ∷ [] }
+        G24 = record { locals = List._++_ t8 t13; slots = (Row.lease (κs .0) (qs .0)) ∷ (Row.lease (κs .1 .0) (qs .1 .0)) ∷ Row.off ∷ Row.off ∷ [] }
 
         abbrev G25 : Row.Cx
-        G25 = record { locals = List._++_ t9 t1; slots = (Row.lease (κs .0) (qs .0)) ∷ (Row.lease (κs .1 .0) (qs .1 .0)) ∷ Row.off ∷ Row.off ∷ [] }
+        G25 = record { locals = List._++_ t8 t1; slots = (Row.lease (κs .0) (qs .0)) ∷ (Row.lease (κs .1 .0) (qs .1 .0)) ∷ Row.off ∷ Row.off ∷ [] }
 
         abbrev G26 : Row.Cx
-        G26 = record { locals = List._++_ t10 t1; slots = (Row.lease (κs .0) (qs .0)) ∷ (Row.lease (κs .1 .0) (qs .1 .0)) ∷ Row.off ∷ Row.off ∷ [] }
+        G26 = record { locals = List._++_ t9 t1; slots = (Row.lease (κs .0) (qs .0)) ∷ (Row.lease (κs .1 .0) (qs .1 .0)) ∷ Row.off ∷ Row.off ∷ [] }
 
         abbrev G27 : Row.Cx
-        G27 = record { locals = List._++_ t11 t1; slots = (Row.lease (κs .0) (qs .0)) ∷ (Row.lease (κs .1 .0) (qs .1 .0)) ∷ Row.off ∷ Row.off ∷ [] }
+        G27 = record { locals = List._++_ t10 t1; slots = (Row.lease (κs .0) (qs .0)) ∷ (Row.lease (κs .1 .0) (qs .1 .0)) ∷ Row.off ∷ Row.off ∷ [] }
 
         abbrev G28 : Row.Cx
-        G28 = record { locals = List._++_ t12 t1; slots = (Row.lease (κs .0) (qs .0)) ∷ (Row.lease (κs .1 .0) (qs .1 .0)) ∷ Row.off ∷ Row.off ∷ [] }
+        G28 = record { locals = List._++_ t11 t1; slots = (Row.lease (κs .0) (qs .0)) ∷ (Row.lease (κs .1 .0) (qs .1 .0)) ∷ Row.off ∷ Row.off ∷ [] }
 
         abbrev G29 : Row.Cx
         G29 = record { locals = List._++_ t2 t1; slots = (Row.lease (κs .0) (qs .0)) ∷ (Row.lease (κs .1 .0) (qs .1 .0)) ∷ Row.off ∷ Row.off ∷ [] }
@@ -1688,10 +1932,10 @@ module _ (claims· : Claims) where
         G30 = record { locals = List._++_ t0 t1; slots = (Row.lease (κs .0) (qs .0)) ∷ (Row.lease (κs .1 .0) (qs .1 .0)) ∷ Row.off ∷ Row.off ∷ [] }
 
         abbrev G31 : Row.Cx
-        G31 = record { locals = List._++_ t0 t13; slots = (Row.lease (κs .0) (qs .0)) ∷ (Row.lease (κs .1 .0) (qs .1 .0)) ∷ Row.off ∷ Row.off ∷ [] }
+        G31 = record { locals = List._++_ t0 t12; slots = (Row.lease (κs .0) (qs .0)) ∷ (Row.lease (κs .1 .0) (qs .1 .0)) ∷ Row.off ∷ Row.off ∷ [] }
 
         abbrev G32 : Row.Cx
-        G32 = record { locals = List._++_ t5 t13; slots = (Row.lease (κs .0) (qs .0)) ∷ (Row.lease (κs .1 .0) (qs .1 .0)) ∷ Row.off ∷ Row.off ∷ [] }
+        G32 = record { locals = List._++_ t5 t12; slots = (Row.lease (κs .0) (qs .0)) ∷ (Row.lease (κs .1 .0) (qs .1 .0)) ∷ Row.off ∷ Row.off ∷ [] }
 
         abbrev G33 : Row.Cx
         G33 = record { locals = List._++_ t0 t1; slots = (Row.lease (κs .0) (qs .0)) ∷ (Row.lease (κs .1 .0) (qs .1 .0)) ∷ Row.off ∷ Row.off ∷ [] }
@@ -1703,25 +1947,25 @@ module _ (claims· : Claims) where
         G35 = record { locals = List._++_ t0 t1; slots = (Row.lease (κs .0) (qs .0)) ∷ (Row.lease (κs .1 .0) (qs .1 .0)) ∷ Row.off ∷ Row.off ∷ [] }
 
         abbrev G36 : Row.Cx
-        G36 = record { locals = List._++_ t0 t16; slots = (Row.lease (κs .0) (qs .0)) ∷ (Row.lease (κs .1 .0) (qs .1 .0)) ∷ Row.off ∷ Row.off ∷ [] }
+        G36 = record { locals = List._++_ t0 t14; slots = (Row.lease (κs .0) (qs .0)) ∷ (Row.lease (κs .1 .0) (qs .1 .0)) ∷ Row.off ∷ Row.off ∷ [] }
 
         abbrev G37 : Row.Cx
-        G37 = record { locals = List._++_ t15 t16; slots = (Row.lease (κs .0) (qs .0)) ∷ (Row.lease (κs .1 .0) (qs .1 .0)) ∷ Row.off ∷ Row.off ∷ [] }
+        G37 = record { locals = List._++_ t7 t14; slots = (Row.lease (κs .0) (qs .0)) ∷ (Row.lease (κs .1 .0) (qs .1 .0)) ∷ Row.off ∷ Row.off ∷ [] }
 
         abbrev G38 : Row.Cx
-        G38 = record { locals = List._++_ t9 t16; slots = (Row.lease (κs .0) (qs .0)) ∷ (Row.lease (κs .1 .0) (qs .1 .0)) ∷ Row.off ∷ Row.off ∷ [] }
+        G38 = record { locals = List._++_ t8 t14; slots = (Row.lease (κs .0) (qs .0)) ∷ (Row.lease (κs .1 .0) (qs .1 .0)) ∷ Row.off ∷ Row.off ∷ [] }
 
         abbrev G39 : Row.Cx
-        G39 = record { locals = List._++_ t9 t1; slots = (Row.lease (κs .0) (qs .0)) ∷ (Row.lease (κs .1 .0) (qs .1 .0)) ∷ Row.off ∷ Row.off ∷ [] }
+        G39 = record { locals = List._++_ t8 t1; slots = (Row.lease (κs .0) (qs .0)) ∷ (Row.lease (κs .1 .0) (qs .1 .0)) ∷ Row.off ∷ Row.off ∷ [] }
 
         abbrev G40 : Row.Cx
-        G40 = record { locals = List._++_ t10 t1; slots = (Row.lease (κs .0) (qs .0)) ∷ (Row.lease (κs .1 .0) (qs .1 .0)) ∷ Row.off ∷ Row.off ∷ [] }
+        G40 = record { locals = List._++_ t9 t1; slots = (Row.lease (κs .0) (qs .0)) ∷ (Row.lease (κs .1 .0) (qs .1 .0)) ∷ Row.off ∷ Row.off ∷ [] }
 
         abbrev G41 : Row.Cx
-        G41 = record { locals = List._++_ t11 t1; slots = (Row.lease (κs .0) (qs .0)) ∷ (Row.lease (κs .1 .0) (qs .1 .0)) ∷ Row.off ∷ Row.off ∷ [] }
+        G41 = record { locals = List._++_ t10 t1; slots = (Row.lease (κs .0) (qs .0)) ∷ (Row.lease (κs .1 .0) (qs .1 .0)) ∷ Row.off ∷ Row.off ∷ [] }
 
         abbrev G42 : Row.Cx
-        G42 = record { locals = List._++_ t12 t1; slots = (Row.lease (κs .0) (qs .0)) ∷ (Row.lease (κs .1 .0) (qs .1 .0)) ∷ Row.off ∷ Row.off ∷ [] }
+        G42 = record { locals = List._++_ t11 t1; slots = (Row.lease (κs .0) (qs .0)) ∷ (Row.lease (κs .1 .0) (qs .1 .0)) ∷ Row.off ∷ Row.off ∷ [] }
 
         abbrev G43 : Row.Cx
         G43 = record { locals = List._++_ t2 t1; slots = (Row.lease (κs .0) (qs .0)) ∷ (Row.lease (κs .1 .0) (qs .1 .0)) ∷ Row.off ∷ Row.off ∷ [] }
@@ -1730,100 +1974,148 @@ module _ (claims· : Claims) where
         G44 = record { locals = List._++_ t0 t1; slots = (Row.lease (κs .0) (qs .0)) ∷ (Row.lease (κs .1 .0) (qs .1 .0)) ∷ Row.off ∷ Row.off ∷ [] }
 
         abbrev G45 : Row.Cx
-        G45 = record { locals = List._++_ t0 t1; slots = (Row.lease (κs .0) (qs .0)) ∷ (Row.lease (κs .1 .0) (qs .1 .0)) ∷ Row.alive ∷ Row.off ∷ [] }
+        G45 = record { locals = List._++_ t15 t1; slots = (Row.lease (κs .0) (qs .0)) ∷ (Row.lease (κs .1 .0) (qs .1 .0)) ∷ Row.off ∷ Row.off ∷ [] }
 
         abbrev G46 : Row.Cx
-        G46 = record { locals = List._++_ g17 t18; slots = Row.off ∷ (Row.lease (κs .1 .0) (qs .1 .0)) ∷ Row.alive ∷ Row.off ∷ [] }
+        G46 = record { locals = List._++_ t15 t1; slots = (Row.lease (κs .0) (qs .0)) ∷ (Row.lease (κs .1 .0) (qs .1 .0)) ∷ Row.alive ∷ Row.off ∷ [] }
 
         abbrev G47 : Row.Cx
-        G47 = record { locals = List._++_ g17 t19; slots = Row.off ∷ (Row.lease (κs .1 .0) (qs .1 .0)) ∷ Row.alive ∷ Row.off ∷ [] }
+        G47 = record { locals = List._++_ g16 t17; slots = Row.off ∷ (Row.lease (κs .1 .0) (qs .1 .0)) ∷ Row.alive ∷ Row.off ∷ [] }
 
         abbrev G48 : Row.Cx
-        G48 = record { locals = List._++_ g20 t19; slots = Row.off ∷ (Row.lease (κs .1 .0) (qs .1 .0)) ∷ Row.alive ∷ Row.off ∷ [] }
+        G48 = record { locals = List._++_ g16 t18; slots = Row.off ∷ (Row.lease (κs .1 .0) (qs .1 .0)) ∷ Row.alive ∷ Row.off ∷ [] }
 
         abbrev G49 : Row.Cx
-        G49 = record { locals = List._++_ g20 t1; slots = Row.off ∷ (Row.lease (κs .1 .0) (qs .1 .0)) ∷ Row.alive ∷ Row.off ∷ [] }
+        G49 = record { locals = List._++_ g19 t18; slots = Row.off ∷ (Row.lease (κs .1 .0) (qs .1 .0)) ∷ Row.alive ∷ Row.off ∷ [] }
 
         abbrev G50 : Row.Cx
-        G50 = record { locals = List._++_ g20 t1; slots = Row.off ∷ (Row.lease (κs .1 .0) (qs .1 .0)) ∷ Row.dead ∷ Row.off ∷ [] }
+        G50 = record { locals = List._++_ g19 t1; slots = Row.off ∷ (Row.lease (κs .1 .0) (qs .1 .0)) ∷ Row.alive ∷ Row.off ∷ [] }
 
         abbrev G51 : Row.Cx
-        G51 = record { locals = List._++_ t21 t1; slots = (Row.lease (κs .0) (qs .0)) ∷ (Row.lease (κs .1 .0) (qs .1 .0)) ∷ Row.dead ∷ Row.off ∷ [] }
+        G51 = record { locals = List._++_ g20 t1; slots = Row.off ∷ (Row.lease (κs .1 .0) (qs .1 .0)) ∷ Row.alive ∷ Row.off ∷ [] }
 
         abbrev G52 : Row.Cx
-        G52 = record { locals = List._++_ t21 t1; slots = (Row.lease (κs .0) (qs .0)) ∷ (Row.lease (κs .1 .0) (qs .1 .0)) ∷ Row.off ∷ Row.off ∷ [] }
+        G52 = record { locals = List._++_ g20 t1; slots = Row.off ∷ (Row.lease (κs .1 .0) (qs .1 .0)) ∷ Row.dead ∷ Row.off ∷ [] }
 
         abbrev G53 : Row.Cx
-        G53 = record { locals = List._++_ t22 t1; slots = (Row.lease (κs .0) (qs .0)) ∷ (Row.lease (κs .1 .0) (qs .1 .0)) ∷ Row.off ∷ Row.off ∷ [] }
+        G53 = record { locals = List._++_ t3 t1; slots = (Row.lease (κs .0) (qs .0)) ∷ (Row.lease (κs .1 .0) (qs .1 .0)) ∷ Row.dead ∷ Row.off ∷ [] }
 
         abbrev G54 : Row.Cx
-        G54 = record { locals = List._++_ t23 t1; slots = (Row.lease (κs .0) (qs .0)) ∷ (Row.lease (κs .1 .0) (qs .1 .0)) ∷ Row.off ∷ Row.off ∷ [] }
+        G54 = record { locals = List._++_ t3 t1; slots = (Row.lease (κs .0) (qs .0)) ∷ (Row.lease (κs .1 .0) (qs .1 .0)) ∷ Row.off ∷ Row.off ∷ [] }
 
         abbrev G55 : Row.Cx
-        G55 = record { locals = List._++_ t24 t1; slots = (Row.lease (κs .0) (qs .0)) ∷ (Row.lease (κs .1 .0) (qs .1 .0)) ∷ Row.off ∷ Row.off ∷ [] }
+        G55 = record { locals = List._++_ t4 t1; slots = (Row.lease (κs .0) (qs .0)) ∷ (Row.lease (κs .1 .0) (qs .1 .0)) ∷ Row.off ∷ Row.off ∷ [] }
 
         abbrev G56 : Row.Cx
-        G56 = record { locals = List._++_ t25 t1; slots = (Row.lease (κs .0) (qs .0)) ∷ (Row.lease (κs .1 .0) (qs .1 .0)) ∷ Row.off ∷ Row.off ∷ [] }
+        G56 = record { locals = List._++_ t0 t1; slots = (Row.lease (κs .0) (qs .0)) ∷ (Row.lease (κs .1 .0) (qs .1 .0)) ∷ Row.off ∷ Row.off ∷ [] }
 
         abbrev G57 : Row.Cx
-        G57 = record { locals = List._++_ t25 t1; slots = (Row.lease (κs .0) (qs .0)) ∷ (Row.lease (κs .1 .0) (qs .1 .0)) ∷ Row.off ∷ Row.alive ∷ [] }
+        G57 = record { locals = List._++_ t5 t1; slots = (Row.lease (κs .0) (qs .0)) ∷ (Row.lease (κs .1 .0) (qs .1 .0)) ∷ Row.off ∷ Row.off ∷ [] }
 
         abbrev G58 : Row.Cx
-        G58 = record { locals = List._++_ g26 t27; slots = Row.off ∷ (Row.lease (κs .1 .0) (qs .1 .0)) ∷ Row.off ∷ Row.alive ∷ [] }
+        G58 = record { locals = List._++_ t0 t1; slots = (Row.lease (κs .0) (qs .0)) ∷ (Row.lease (κs .1 .0) (qs .1 .0)) ∷ Row.off ∷ Row.off ∷ [] }
 
         abbrev G59 : Row.Cx
-        G59 = record { locals = List._++_ g26 t28; slots = Row.off ∷ (Row.lease (κs .1 .0) (qs .1 .0)) ∷ Row.off ∷ Row.alive ∷ [] }
+        G59 = record { locals = List._++_ t0 t21; slots = (Row.lease (κs .0) (qs .0)) ∷ (Row.lease (κs .1 .0) (qs .1 .0)) ∷ Row.off ∷ Row.off ∷ [] }
 
         abbrev G60 : Row.Cx
-        G60 = record { locals = List._++_ g26 t29; slots = Row.off ∷ (Row.lease (κs .1 .0) (qs .1 .0)) ∷ Row.off ∷ Row.alive ∷ [] }
+        G60 = record { locals = List._++_ t7 t21; slots = (Row.lease (κs .0) (qs .0)) ∷ (Row.lease (κs .1 .0) (qs .1 .0)) ∷ Row.off ∷ Row.off ∷ [] }
 
         abbrev G61 : Row.Cx
-        G61 = record { locals = List._++_ g30 t29; slots = Row.off ∷ (Row.lease (κs .1 .0) (qs .1 .0)) ∷ Row.off ∷ Row.alive ∷ [] }
+        G61 = record { locals = List._++_ t8 t21; slots = (Row.lease (κs .0) (qs .0)) ∷ (Row.lease (κs .1 .0) (qs .1 .0)) ∷ Row.off ∷ Row.off ∷ [] }
 
         abbrev G62 : Row.Cx
-        G62 = record { locals = List._++_ g30 t31; slots = Row.off ∷ (Row.lease (κs .1 .0) (qs .1 .0)) ∷ Row.off ∷ Row.alive ∷ [] }
+        G62 = record { locals = List._++_ t8 t1; slots = (Row.lease (κs .0) (qs .0)) ∷ (Row.lease (κs .1 .0) (qs .1 .0)) ∷ Row.off ∷ Row.off ∷ [] }
 
         abbrev G63 : Row.Cx
-        G63 = record { locals = List._++_ g30 t31; slots = Row.off ∷ (Row.lease (κs .1 .0) (qs .1 .0)) ∷ Row.off ∷ Row.dead ∷ [] }
+        G63 = record { locals = List._++_ t9 t1; slots = (Row.lease (κs .0) (qs .0)) ∷ (Row.lease (κs .1 .0) (qs .1 .0)) ∷ Row.off ∷ Row.off ∷ [] }
 
         abbrev G64 : Row.Cx
-        G64 = record { locals = List._++_ t24 t1; slots = (Row.lease (κs .0) (qs .0)) ∷ (Row.lease (κs .1 .0) (qs .1 .0)) ∷ Row.off ∷ Row.dead ∷ [] }
+        G64 = record { locals = List._++_ t10 t1; slots = (Row.lease (κs .0) (qs .0)) ∷ (Row.lease (κs .1 .0) (qs .1 .0)) ∷ Row.off ∷ Row.off ∷ [] }
 
         abbrev G65 : Row.Cx
-        G65 = record { locals = List._++_ t24 t1; slots = (Row.lease (κs .0) (qs .0)) ∷ (Row.lease (κs .1 .0) (qs .1 .0)) ∷ Row.off ∷ Row.off ∷ [] }
+        G65 = record { locals = List._++_ t11 t1; slots = (Row.lease (κs .0) (qs .0)) ∷ (Row.lease (κs .1 .0) (qs .1 .0)) ∷ Row.off ∷ Row.off ∷ [] }
 
         abbrev G66 : Row.Cx
-        G66 = record { locals = List._++_ t32 t1; slots = (Row.lease (κs .0) (qs .0)) ∷ (Row.lease (κs .1 .0) (qs .1 .0)) ∷ Row.off ∷ Row.off ∷ [] }
+        G66 = record { locals = List._++_ t2 t1; slots = (Row.lease (κs .0) (qs .0)) ∷ (Row.lease (κs .1 .0) (qs .1 .0)) ∷ Row.off ∷ Row.off ∷ [] }
 
         abbrev G67 : Row.Cx
-        G67 = record { locals = List._++_ t33 t1; slots = (Row.lease (κs .0) (qs .0)) ∷ (Row.lease (κs .1 .0) (qs .1 .0)) ∷ Row.off ∷ Row.off ∷ [] }
+        G67 = record { locals = List._++_ t0 t1; slots = (Row.lease (κs .0) (qs .0)) ∷ (Row.lease (κs .1 .0) (qs .1 .0)) ∷ Row.off ∷ Row.off ∷ [] }
 
         abbrev G68 : Row.Cx
-        G68 = record { locals = List._++_ t34 t1; slots = (Row.lease (κs .0) (qs .0)) ∷ (Row.lease (κs .1 .0) (qs .1 .0)) ∷ Row.off ∷ Row.off ∷ [] }
+        G68 = record { locals = List._++_ t22 t1; slots = (Row.lease (κs .0) (qs .0)) ∷ (Row.lease (κs .1 .0) (qs .1 .0)) ∷ Row.off ∷ Row.off ∷ [] }
 
         abbrev G69 : Row.Cx
-        G69 = record { locals = List._++_ t35 t1; slots = (Row.lease (κs .0) (qs .0)) ∷ (Row.lease (κs .1 .0) (qs .1 .0)) ∷ Row.off ∷ Row.off ∷ [] }
+        G69 = record { locals = List._++_ t23 t1; slots = (Row.lease (κs .0) (qs .0)) ∷ (Row.lease (κs .1 .0) (qs .1 .0)) ∷ Row.off ∷ Row.off ∷ [] }
 
         abbrev G70 : Row.Cx
-        G70 = record { locals = List._++_ t36 t1; slots = (Row.lease (κs .0) (qs .0)) ∷ (Row.lease (κs .1 .0) (qs .1 .0)) ∷ Row.off ∷ Row.off ∷ [] }
+        G70 = record { locals = List._++_ t24 t1; slots = (Row.lease (κs .0) (qs .0)) ∷ (Row.lease (κs .1 .0) (qs .1 .0)) ∷ Row.off ∷ Row.off ∷ [] }
 
         abbrev G71 : Row.Cx
-        G71 = record { locals = List._++_ t37 t1; slots = (Row.lease (κs .0) (qs .0)) ∷ (Row.lease (κs .1 .0) (qs .1 .0)) ∷ Row.off ∷ Row.off ∷ [] }
+        G71 = record { locals = List._++_ t25 t1; slots = (Row.lease (κs .0) (qs .0)) ∷ (Row.lease (κs .1 .0) (qs .1 .0)) ∷ Row.off ∷ Row.off ∷ [] }
 
         abbrev G72 : Row.Cx
-        G72 = record { locals = List._++_ t38 t1; slots = (Row.lease (κs .0) (qs .0)) ∷ (Row.lease (κs .1 .0) (qs .1 .0)) ∷ Row.off ∷ Row.off ∷ [] }
+        G72 = record { locals = List._++_ t25 t1; slots = (Row.lease (κs .0) (qs .0)) ∷ (Row.lease (κs .1 .0) (qs .1 .0)) ∷ Row.off ∷ Row.alive ∷ [] }
 
         abbrev G73 : Row.Cx
-        G73 = record { locals = List._++_ t39 t1; slots = (Row.lease (κs .0) (qs .0)) ∷ (Row.lease (κs .1 .0) (qs .1 .0)) ∷ Row.off ∷ Row.off ∷ [] }
+        G73 = record { locals = List._++_ g26 t27; slots = Row.off ∷ (Row.lease (κs .1 .0) (qs .1 .0)) ∷ Row.off ∷ Row.alive ∷ [] }
 
         abbrev G74 : Row.Cx
-        G74 = record { locals = List._++_ t40 t1; slots = (Row.lease (κs .0) (qs .0)) ∷ (Row.lease (κs .1 .0) (qs .1 .0)) ∷ Row.off ∷ Row.off ∷ [] }
+        G74 = record { locals = List._++_ g26 t28; slots = Row.off ∷ (Row.lease (κs .1 .0) (qs .1 .0)) ∷ Row.off ∷ Row.alive ∷ [] }
 
         abbrev G75 : Row.Cx
-        G75 = record { locals = List._++_ t41 t1; slots = (Row.lease (κs .0) (qs .0)) ∷ (Row.lease (κs .1 .0) (qs .1 .0)) ∷ Row.off ∷ Row.off ∷ [] }
+        G75 = record { locals = List._++_ g26 t29; slots = Row.off ∷ (Row.lease (κs .1 .0) (qs .1 .0)) ∷ Row.off ∷ Row.alive ∷ [] }
 
         abbrev G76 : Row.Cx
-        G76 = record { locals = List._++_ t2 t1; slots = (Row.lease (κs .0) (qs .0)) ∷ (Row.lease (κs .1 .0) (qs .1 .0)) ∷ Row.off ∷ Row.off ∷ [] }
+        G76 = record { locals = List._++_ g30 t29; slots = Row.off ∷ (Row.lease (κs .1 .0) (qs .1 .0)) ∷ Row.off ∷ Row.alive ∷ [] }
+
+        abbrev G77 : Row.Cx
+        G77 = record { locals = List._++_ g30 t31; slots = Row.off ∷ (Row.lease (κs .1 .0) (qs .1 .0)) ∷ Row.off ∷ Row.alive ∷ [] }
+
+        abbrev G78 : Row.Cx
+        G78 = record { locals = List._++_ g30 t31; slots = Row.off ∷ (Row.lease (κs .1 .0) (qs .1 .0)) ∷ Row.off ∷ Row.dead ∷ [] }
+
+        abbrev G79 : Row.Cx
+        G79 = record { locals = List._++_ t24 t1; slots = (Row.lease (κs .0) (qs .0)) ∷ (Row.lease (κs .1 .0) (qs .1 .0)) ∷ Row.off ∷ Row.dead ∷ [] }
+
+        abbrev G80 : Row.Cx
+        G80 = record { locals = List._++_ t24 t1; slots = (Row.lease (κs .0) (qs .0)) ∷ (Row.lease (κs .1 .0) (qs .1 .0)) ∷ Row.off ∷ Row.off ∷ [] }
+
+        abbrev G81 : Row.Cx
+        G81 = record { locals = List._++_ t32 t1; slots = (Row.lease (κs .0) (qs .0)) ∷ (Row.lease (κs .1 .0) (qs .1 .0)) ∷ Row.off ∷ Row.off ∷ [] }
+
+        abbrev G82 : Row.Cx
+        G82 = record { locals = List._++_ t33 t1; slots = (Row.lease (κs .0) (qs .0)) ∷ (Row.lease (κs .1 .0) (qs .1 .0)) ∷ Row.off ∷ Row.off ∷ [] }
+
+        abbrev G83 : Row.Cx
+        G83 = record { locals = List._++_ t34 t1; slots = (Row.lease (κs .0) (qs .0)) ∷ (Row.lease (κs .1 .0) (qs .1 .0)) ∷ Row.off ∷ Row.off ∷ [] }
+
+        abbrev G84 : Row.Cx
+        G84 = record { locals = List._++_ t35 t1; slots = (Row.lease (κs .0) (qs .0)) ∷ (Row.lease (κs .1 .0) (qs .1 .0)) ∷ Row.off ∷ Row.off ∷ [] }
+
+        abbrev G85 : Row.Cx
+        G85 = record { locals = List._++_ t36 t1; slots = (Row.lease (κs .0) (qs .0)) ∷ (Row.lease (κs .1 .0) (qs .1 .0)) ∷ Row.off ∷ Row.off ∷ [] }
+
+        abbrev G86 : Row.Cx
+        G86 = record { locals = List._++_ t37 t1; slots = (Row.lease (κs .0) (qs .0)) ∷ (Row.lease (κs .1 .0) (qs .1 .0)) ∷ Row.off ∷ Row.off ∷ [] }
+
+        abbrev G87 : Row.Cx
+        G87 = record { locals = List._++_ t38 t1; slots = (Row.lease (κs .0) (qs .0)) ∷ (Row.lease (κs .1 .0) (qs .1 .0)) ∷ Row.off ∷ Row.off ∷ [] }
+
+        abbrev G88 : Row.Cx
+        G88 = record { locals = List._++_ t39 t1; slots = (Row.lease (κs .0) (qs .0)) ∷ (Row.lease (κs .1 .0) (qs .1 .0)) ∷ Row.off ∷ Row.off ∷ [] }
+
+        abbrev G89 : Row.Cx
+        G89 = record { locals = List._++_ t40 t1; slots = (Row.lease (κs .0) (qs .0)) ∷ (Row.lease (κs .1 .0) (qs .1 .0)) ∷ Row.off ∷ Row.off ∷ [] }
+
+        abbrev G90 : Row.Cx
+        G90 = record { locals = List._++_ t41 t1; slots = (Row.lease (κs .0) (qs .0)) ∷ (Row.lease (κs .1 .0) (qs .1 .0)) ∷ Row.off ∷ Row.off ∷ [] }
+
+        abbrev G91 : Row.Cx
+        G91 = record { locals = List._++_ t42 t1; slots = (Row.lease (κs .0) (qs .0)) ∷ (Row.lease (κs .1 .0) (qs .1 .0)) ∷ Row.off ∷ Row.off ∷ [] }
+
+        abbrev G92 : Row.Cx
+        G92 = record { locals = List._++_ t2 t1; slots = (Row.lease (κs .0) (qs .0)) ∷ (Row.lease (κs .1 .0) (qs .1 .0)) ∷ Row.off ∷ Row.off ∷ [] }
 
         abbrev Δ0 : Typed.Outs
         Δ0 = record { next = Option.none; exits = []; returns = Option.some G1 }
@@ -1836,6 +2128,9 @@ module _ (claims· : Claims) where
 
         abbrev Δ3 : Typed.Outs
         Δ3 = Typed.withNext (Option.some G33) Δ0
+
+        abbrev Δ4 : Typed.Outs
+        Δ4 = Typed.withNext (Option.some G56) Δ0
 
         module _ {M : Type 1} (𝓤 : URA.URA M) (H : Wp.Heap 𝓤) (A : Atoms.Atoms 𝓤) (W : Kit.Given 𝓤 H A) (𝓣 : Wp.Tables 𝓤 H) (known : Knowns 𝓤 H A W 𝓣)
             (bs : List.List Nat.ℕ) (bd : Lifetimes.AllOutlive 2 (Kinds.osR r) κs) where
@@ -1862,7 +2157,7 @@ module _ (claims· : Claims) where
               (Row.sInt Syntax.w8))) d3
 
           d5 : Typed.Typed 𝓤 H A 𝓣 E G10 b4 Δ1 (at5 bs)
-          d5 = Typed.g-pre 𝓤 H A W 𝓣 E G10 G11 b4 Δ1 (Typed.pass T10 T11 (s8 bs)) (at4 bs) (Scalar.g-room 𝓤 H A W E G10 15 mirs.sched_core-Refusal
+          d5 = Typed.g-pre 𝓤 H A W 𝓣 E G10 G11 b4 Δ1 (Typed.pass T10 T11 (s8 bs)) (at4 bs) (Scalar.g-room 𝓤 H A W E G10 16 mirs.sched_core-Refusal
               (Local.room-whole 𝓤 H A W (Declared.row Refusal.the-type) mirs.sched_core-Refusal Path'.refl)) d4
 
           d6 : Typed.Typed 𝓤 H A 𝓣 E G9 b4 Δ1 (at6 bs)
@@ -1872,7 +2167,7 @@ module _ (claims· : Claims) where
           d7 : Typed.Typed 𝓤 H A 𝓣 E G8 b5 Δ1 (at7 bs)
           d7 = Typed.s-seq 𝓤 H A W 𝓣 E G8 G9 b3 b4 Δ1 (Typed.both (s6 bs)) (at6 bs) (Plain.t-call-plain 𝓤 H A W 𝓣 0 ps·1 r·1 (claims· .2) (claims· .3)
               "bs_sched::request_refused" (known .1) E (λ pos β. β) G8 (
-                record { pos = 15; st = []; d = 0; at = λ x. x },
+                record { pos = 16; st = []; d = 0; at = λ x. x },
                 (
                   record {
                     pos = 1;
@@ -1885,14 +2180,14 @@ module _ (claims· : Claims) where
               ) 0 [] (Call.sub-id 𝓤 H A W (G8 .slots)) (
                 (
                   Yields.yields-copy 𝓤 H A W (λ ρ. Unit) (Declared.row
-                      Refusal.the-type) Path'.refl (Copies.cEnum Refusal.the-type Laws'.the-laws Laws'.the-copy .copy 𝓤 H A W) ρ3 (λ x. x) (λ x. x) (λ ρ told.
-                      Local.mem-whole 𝓤 H A W (Declared.row Refusal.the-type) ρ) λ ρ told. Local.whole-mem 𝓤 H A W (Declared.row Refusal.the-type) ρ,
+                      Refusal.the-type) Path'.refl (Copies.cEnum Refusal.the-type Laws''.the-laws Laws''.the-copy .copy 𝓤 H A W) ρ4 (λ x. x) (λ x. x) (λ ρ
+                      told. Local.mem-whole 𝓤 H A W (Declared.row Refusal.the-type) ρ) λ ρ told. Local.whole-mem 𝓤 H A W (Declared.row Refusal.the-type) ρ,
                   Path'.refl,
                 ),
                 (
                   (
                     Yields.yields-copy 𝓤 H A W (λ ρ. Unit) (Declared'.row Station.the-type) Path'.refl (Copies.cStruct Station.the-type
-                        Laws'5.the-laws Laws'5.the-copy .copy 𝓤 H A W) ρ4 (λ x. x) (λ x. x) (λ ρ told. Local.mem-whole 𝓤 H A W (Declared'.row Station.the-type)
+                        Laws'5.the-laws Laws'5.the-copy .copy 𝓤 H A W) ρ5 (λ x. x) (λ x. x) (λ ρ told. Local.mem-whole 𝓤 H A W (Declared'.row Station.the-type)
                         ρ) λ ρ told. Local.whole-mem 𝓤 H A W (Declared'.row Station.the-type) ρ,
                     Path'.refl,
                   ),
@@ -1903,26 +2198,26 @@ module _ (claims· : Claims) where
 
           d8 : Typed.Typed 𝓤 H A 𝓣 E G7 b6 Δ1 (at8 bs)
           d8 = Typed.s-seq 𝓤 H A W 𝓣 E G7 G8 b2 b5 Δ1 (Typed.pass T7 T8 (s5 bs)) (at7 bs) (Make.t-enum-make-wt 𝓤 H A W E 𝓣 Refusal.the-type
-              Laws'.the-laws Laws'.the-plain tt G7 15 ((Scalar.oInt Syntax.w8 0) ∷ []) (λ m. Refusal.enum .make (Logic.inl tt)) (Reads'.room-gone 𝓤 H
-              A mirs.sched_core-Refusal) (tt, tt) Path'.refl (λ m wa. Make.made-val Refusal.the-type Laws'.the-laws [] (Refusal.enum .make (Logic.inl
-              tt)) tt (wa .1)) λ m wa. Make.made-is Refusal.the-type Laws'.the-laws [] (Refusal.enum .make (Logic.inl tt)) tt (wa .1)) d7
+              Laws''.the-laws Laws''.the-plain tt G7 16 ((Scalar.oInt Syntax.w8 0) ∷ []) (λ m. Refusal.enum .make (Logic.inl tt)) (Reads'.room-gone 𝓤
+              H A mirs.sched_core-Refusal) (tt, tt) Path'.refl (λ m wa. Make.made-val Refusal.the-type Laws''.the-laws [] (Refusal.enum .make
+              (Logic.inl tt)) tt (wa .1)) λ m wa. Make.made-is Refusal.the-type Laws''.the-laws [] (Refusal.enum .make (Logic.inl tt)) tt (wa .1)) d7
 
           d9 : Typed.Typed 𝓤 H A 𝓣 E G6 b6 Δ1 (at9 bs)
-          d9 = Typed.g-pre 𝓤 H A W 𝓣 E G6 G7 b6 Δ1 (Typed.pass T6 T7 (s4 bs)) (at8 bs) (Scalar.g-room 𝓤 H A W E G6 14 Syntax.tyBool (Scalar.room-sc 𝓤
+          d9 = Typed.g-pre 𝓤 H A W 𝓣 E G6 G7 b6 Δ1 (Typed.pass T6 T7 (s4 bs)) (at8 bs) (Scalar.g-room 𝓤 H A W E G6 15 Syntax.tyBool (Scalar.room-sc 𝓤
               H A W Row.sBool)) d8
 
           d10 : Typed.Typed 𝓤 H A 𝓣 E G16 b7 Δ1 (at10 bs)
           d10 = Typed.t-skip 𝓤 H A W 𝓣 E Δ1 tt
 
           d11 : Typed.Typed 𝓤 H A 𝓣 E G6 b7 Δ1 (at11 bs)
-          d11 = Typed.g-pre 𝓤 H A W 𝓣 E G6 G16 b7 Δ1 (Typed.pass T6 T16 (s13 bs)) (at10 bs) (Scalar.g-room 𝓤 H A W E G6 14 Syntax.tyBool
+          d11 = Typed.g-pre 𝓤 H A W 𝓣 E G6 G16 b7 Δ1 (Typed.pass T6 T16 (s13 bs)) (at10 bs) (Scalar.g-room 𝓤 H A W E G6 15 Syntax.tyBool
               (Scalar.room-sc 𝓤 H A W Row.sBool)) d10
 
           d12 : Typed.Typed 𝓤 H A 𝓣 E G6 b8 Δ1 (at12 bs)
-          d12 = Scalar.t-cond 𝓤 H A W E 𝓣 G6 14 (λ x. x) b6 b7 Δ1 (at9 bs) (at11 bs) (Scalar.reads-sc 𝓤 H A W Row.sBool) Path'.refl d9 d11
+          d12 = Scalar.t-cond 𝓤 H A W E 𝓣 G6 15 (λ x. x) b6 b7 Δ1 (at9 bs) (at11 bs) (Scalar.reads-sc 𝓤 H A W Row.sBool) Path'.refl d9 d11
 
           d13 : Typed.Typed 𝓤 H A 𝓣 E G4 b8 Δ1 (at13 bs)
-          d13 = Typed.g-pre 𝓤 H A W 𝓣 E G4 G6 b8 Δ1 (Typed.pass T4 T6 (s3 bs)) (at12 bs) (Scalar.g-room 𝓤 H A W E G4 13 Syntax.tyBool (Scalar.room-sc
+          d13 = Typed.g-pre 𝓤 H A W 𝓣 E G4 G6 b8 Δ1 (Typed.pass T4 T6 (s3 bs)) (at12 bs) (Scalar.g-room 𝓤 H A W E G4 14 Syntax.tyBool (Scalar.room-sc
               𝓤 H A W Row.sBool)) d12
 
           d14 : Typed.Typed 𝓤 H A 𝓣 E G29 b13 Δ2 (at14 bs)
@@ -1945,7 +2240,7 @@ module _ (claims· : Claims) where
               W (Row.sInt Syntax.w8))) d17
 
           d19 : Typed.Typed 𝓤 H A 𝓣 E G24 b13 Δ2 (at19 bs)
-          d19 = Typed.g-pre 𝓤 H A W 𝓣 E G24 G25 b13 Δ2 (Typed.pass T24 T25 (s21 bs)) (at18 bs) (Scalar.g-room 𝓤 H A W E G24 17 mirs.sched_core-Refusal
+          d19 = Typed.g-pre 𝓤 H A W 𝓣 E G24 G25 b13 Δ2 (Typed.pass T24 T25 (s21 bs)) (at18 bs) (Scalar.g-room 𝓤 H A W E G24 18 mirs.sched_core-Refusal
               (Local.room-whole 𝓤 H A W (Declared.row Refusal.the-type) mirs.sched_core-Refusal Path'.refl)) d18
 
           d20 : Typed.Typed 𝓤 H A 𝓣 E G23 b13 Δ2 (at20 bs)
@@ -1955,7 +2250,7 @@ module _ (claims· : Claims) where
           d21 : Typed.Typed 𝓤 H A 𝓣 E G22 b14 Δ2 (at21 bs)
           d21 = Typed.s-seq 𝓤 H A W 𝓣 E G22 G23 b12 b13 Δ2 (Typed.both (s19 bs)) (at20 bs) (Plain.t-call-plain 𝓤 H A W 𝓣 0 ps·1 r·1 (claims· .2)
               (claims· .3) "bs_sched::request_refused" (known .1) E (λ pos β. β) G22 (
-                record { pos = 17; st = []; d = 0; at = λ x. x },
+                record { pos = 18; st = []; d = 0; at = λ x. x },
                 (
                   record {
                     pos
@@ -1969,14 +2264,14 @@ module _ (claims· : Claims) where
               ) 0 [] (Call.sub-id 𝓤 H A W (G22 .slots)) (
                 (
                   Yields.yields-copy 𝓤 H A W (λ ρ. Unit) (Declared.row
-                      Refusal.the-type) Path'.refl (Copies.cEnum Refusal.the-type Laws'.the-laws Laws'.the-copy .copy 𝓤 H A W) ρ3 (λ x. x) (λ x. x) (λ ρ told.
-                      Local.mem-whole 𝓤 H A W (Declared.row Refusal.the-type) ρ) λ ρ told. Local.whole-mem 𝓤 H A W (Declared.row Refusal.the-type) ρ,
+                      Refusal.the-type) Path'.refl (Copies.cEnum Refusal.the-type Laws''.the-laws Laws''.the-copy .copy 𝓤 H A W) ρ4 (λ x. x) (λ x. x) (λ ρ
+                      told. Local.mem-whole 𝓤 H A W (Declared.row Refusal.the-type) ρ) λ ρ told. Local.whole-mem 𝓤 H A W (Declared.row Refusal.the-type) ρ,
                   Path'.refl,
                 ),
                 (
                   (
                     Yields.yields-copy 𝓤 H A W (λ ρ. Unit) (Declared'.row Station.the-type) Path'.refl (Copies.cStruct Station.the-type
-                        Laws'5.the-laws Laws'5.the-copy .copy 𝓤 H A W) ρ4 (λ x. x) (λ x. x) (λ ρ told. Local.mem-whole 𝓤 H A W (Declared'.row Station.the-type)
+                        Laws'5.the-laws Laws'5.the-copy .copy 𝓤 H A W) ρ5 (λ x. x) (λ x. x) (λ ρ told. Local.mem-whole 𝓤 H A W (Declared'.row Station.the-type)
                         ρ) λ ρ told. Local.whole-mem 𝓤 H A W (Declared'.row Station.the-type) ρ,
                     Path'.refl,
                   ),
@@ -1987,27 +2282,27 @@ module _ (claims· : Claims) where
 
           d22 : Typed.Typed 𝓤 H A 𝓣 E G21 b15 Δ2 (at22 bs)
           d22 = Typed.s-seq 𝓤 H A W 𝓣 E G21 G22 b11 b14 Δ2 (Typed.pass T21 T22 (s18 bs)) (at21 bs) (Make.t-enum-make-wt 𝓤 H A W E 𝓣 Refusal.the-type
-              Laws'.the-laws Laws'.the-plain tt G21 17 ((Scalar.oInt Syntax.w8 1) ∷ []) (λ m. Refusal.enum .make (Logic.inr (Logic.inl tt)))
-              (Reads'.room-gone 𝓤 H A mirs.sched_core-Refusal) (tt, tt) Path'.refl (λ m wa. Make.made-val Refusal.the-type Laws'.the-laws []
-              (Refusal.enum .make (Logic.inr (Logic.inl tt))) tt (wa .1)) λ m wa. Make.made-is Refusal.the-type Laws'.the-laws [] (Refusal.enum .make
+              Laws''.the-laws Laws''.the-plain tt G21 18 ((Scalar.oInt Syntax.w8 1) ∷ []) (λ m. Refusal.enum .make (Logic.inr (Logic.inl tt)))
+              (Reads'.room-gone 𝓤 H A mirs.sched_core-Refusal) (tt, tt) Path'.refl (λ m wa. Make.made-val Refusal.the-type Laws''.the-laws []
+              (Refusal.enum .make (Logic.inr (Logic.inl tt))) tt (wa .1)) λ m wa. Make.made-is Refusal.the-type Laws''.the-laws [] (Refusal.enum .make
               (Logic.inr (Logic.inl tt))) tt (wa .1)) d21
 
           d23 : Typed.Typed 𝓤 H A 𝓣 E G20 b15 Δ2 (at23 bs)
-          d23 = Typed.g-pre 𝓤 H A W 𝓣 E G20 G21 b15 Δ2 (Typed.pass T20 T21 (s17 bs)) (at22 bs) (Scalar.g-room 𝓤 H A W E G20 13 Syntax.tyBool
+          d23 = Typed.g-pre 𝓤 H A W 𝓣 E G20 G21 b15 Δ2 (Typed.pass T20 T21 (s17 bs)) (at22 bs) (Scalar.g-room 𝓤 H A W E G20 14 Syntax.tyBool
               (Scalar.room-sc 𝓤 H A W Row.sBool)) d22
 
           d24 : Typed.Typed 𝓤 H A 𝓣 E G30 b16 Δ2 (at24 bs)
           d24 = Typed.t-skip 𝓤 H A W 𝓣 E Δ2 tt
 
           d25 : Typed.Typed 𝓤 H A 𝓣 E G20 b16 Δ2 (at25 bs)
-          d25 = Typed.g-pre 𝓤 H A W 𝓣 E G20 G30 b16 Δ2 (Typed.pass T20 T30 (s26 bs)) (at24 bs) (Scalar.g-room 𝓤 H A W E G20 13 Syntax.tyBool
+          d25 = Typed.g-pre 𝓤 H A W 𝓣 E G20 G30 b16 Δ2 (Typed.pass T20 T30 (s26 bs)) (at24 bs) (Scalar.g-room 𝓤 H A W E G20 14 Syntax.tyBool
               (Scalar.room-sc 𝓤 H A W Row.sBool)) d24
 
           d26 : Typed.Typed 𝓤 H A 𝓣 E G20 b17 Δ2 (at26 bs)
-          d26 = Scalar.t-cond 𝓤 H A W E 𝓣 G20 13 (λ x. x) b15 b16 Δ2 (at23 bs) (at25 bs) (Scalar.reads-sc 𝓤 H A W Row.sBool) Path'.refl d23 d25
+          d26 = Scalar.t-cond 𝓤 H A W E 𝓣 G20 14 (λ x. x) b15 b16 Δ2 (at23 bs) (at25 bs) (Scalar.reads-sc 𝓤 H A W Row.sBool) Path'.refl d23 d25
 
           d27 : Typed.Typed 𝓤 H A 𝓣 E G18 b17 Δ2 (at27 bs)
-          d27 = Typed.g-pre 𝓤 H A W 𝓣 E G18 G20 b17 Δ2 (Typed.pass T18 T20 (s16 bs)) (at26 bs) (Scalar.g-room 𝓤 H A W E G18 16 τ1 (Scalar.room-sc 𝓤 H
+          d27 = Typed.g-pre 𝓤 H A W 𝓣 E G18 G20 b17 Δ2 (Typed.pass T18 T20 (s16 bs)) (at26 bs) (Scalar.g-room 𝓤 H A W E G18 17 τ1 (Scalar.room-sc 𝓤 H
               A W (Row.sInt Syntax.w64))) d26
 
           d28 : Typed.Typed 𝓤 H A 𝓣 E G43 b22 Δ3 (at28 bs)
@@ -2030,7 +2325,7 @@ module _ (claims· : Claims) where
               W (Row.sInt Syntax.w8))) d31
 
           d33 : Typed.Typed 𝓤 H A 𝓣 E G38 b22 Δ3 (at33 bs)
-          d33 = Typed.g-pre 𝓤 H A W 𝓣 E G38 G39 b22 Δ3 (Typed.pass T38 T39 (s34 bs)) (at32 bs) (Scalar.g-room 𝓤 H A W E G38 18 mirs.sched_core-Refusal
+          d33 = Typed.g-pre 𝓤 H A W 𝓣 E G38 G39 b22 Δ3 (Typed.pass T38 T39 (s34 bs)) (at32 bs) (Scalar.g-room 𝓤 H A W E G38 19 mirs.sched_core-Refusal
               (Local.room-whole 𝓤 H A W (Declared.row Refusal.the-type) mirs.sched_core-Refusal Path'.refl)) d32
 
           d34 : Typed.Typed 𝓤 H A 𝓣 E G37 b22 Δ3 (at34 bs)
@@ -2040,7 +2335,7 @@ module _ (claims· : Claims) where
           d35 : Typed.Typed 𝓤 H A 𝓣 E G36 b23 Δ3 (at35 bs)
           d35 = Typed.s-seq 𝓤 H A W 𝓣 E G36 G37 b21 b22 Δ3 (Typed.both (s32 bs)) (at34 bs) (Plain.t-call-plain 𝓤 H A W 𝓣 0 ps·1 r·1 (claims· .2)
               (claims· .3) "bs_sched::request_refused" (known .1) E (λ pos β. β) G36 (
-                record { pos = 18; st = []; d = 0; at = λ x. x },
+                record { pos = 19; st = []; d = 0; at = λ x. x },
                 (
                   record {
                     pos
@@ -2054,14 +2349,14 @@ module _ (claims· : Claims) where
               ) 0 [] (Call.sub-id 𝓤 H A W (G36 .slots)) (
                 (
                   Yields.yields-copy 𝓤 H A W (λ ρ. Unit) (Declared.row
-                      Refusal.the-type) Path'.refl (Copies.cEnum Refusal.the-type Laws'.the-laws Laws'.the-copy .copy 𝓤 H A W) ρ3 (λ x. x) (λ x. x) (λ ρ told.
-                      Local.mem-whole 𝓤 H A W (Declared.row Refusal.the-type) ρ) λ ρ told. Local.whole-mem 𝓤 H A W (Declared.row Refusal.the-type) ρ,
+                      Refusal.the-type) Path'.refl (Copies.cEnum Refusal.the-type Laws''.the-laws Laws''.the-copy .copy 𝓤 H A W) ρ4 (λ x. x) (λ x. x) (λ ρ
+                      told. Local.mem-whole 𝓤 H A W (Declared.row Refusal.the-type) ρ) λ ρ told. Local.whole-mem 𝓤 H A W (Declared.row Refusal.the-type) ρ,
                   Path'.refl,
                 ),
                 (
                   (
                     Yields.yields-copy 𝓤 H A W (λ ρ. Unit) (Declared'.row Station.the-type) Path'.refl (Copies.cStruct Station.the-type
-                        Laws'5.the-laws Laws'5.the-copy .copy 𝓤 H A W) ρ4 (λ x. x) (λ x. x) (λ ρ told. Local.mem-whole 𝓤 H A W (Declared'.row Station.the-type)
+                        Laws'5.the-laws Laws'5.the-copy .copy 𝓤 H A W) ρ5 (λ x. x) (λ x. x) (λ ρ told. Local.mem-whole 𝓤 H A W (Declared'.row Station.the-type)
                         ρ) λ ρ told. Local.whole-mem 𝓤 H A W (Declared'.row Station.the-type) ρ,
                     Path'.refl,
                   ),
@@ -2072,404 +2367,325 @@ module _ (claims· : Claims) where
 
           d36 : Typed.Typed 𝓤 H A 𝓣 E G35 b24 Δ3 (at36 bs)
           d36 = Typed.s-seq 𝓤 H A W 𝓣 E G35 G36 b20 b23 Δ3 (Typed.pass T35 T36 (s31 bs)) (at35 bs) (Make.t-enum-make-wt 𝓤 H A W E 𝓣 Refusal.the-type
-              Laws'.the-laws Laws'.the-plain tt G35 18 ((Scalar.oInt Syntax.w8 1) ∷ []) (λ m. Refusal.enum .make (Logic.inr (Logic.inl tt)))
-              (Reads'.room-gone 𝓤 H A mirs.sched_core-Refusal) (tt, tt) Path'.refl (λ m wa. Make.made-val Refusal.the-type Laws'.the-laws []
-              (Refusal.enum .make (Logic.inr (Logic.inl tt))) tt (wa .1)) λ m wa. Make.made-is Refusal.the-type Laws'.the-laws [] (Refusal.enum .make
+              Laws''.the-laws Laws''.the-plain tt G35 19 ((Scalar.oInt Syntax.w8 1) ∷ []) (λ m. Refusal.enum .make (Logic.inr (Logic.inl tt)))
+              (Reads'.room-gone 𝓤 H A mirs.sched_core-Refusal) (tt, tt) Path'.refl (λ m wa. Make.made-val Refusal.the-type Laws''.the-laws []
+              (Refusal.enum .make (Logic.inr (Logic.inl tt))) tt (wa .1)) λ m wa. Make.made-is Refusal.the-type Laws''.the-laws [] (Refusal.enum .make
               (Logic.inr (Logic.inl tt))) tt (wa .1)) d35
 
           d37 : Typed.Typed 𝓤 H A 𝓣 E G34 b24 Δ3 (at37 bs)
-          d37 = Typed.g-pre 𝓤 H A W 𝓣 E G34 G35 b24 Δ3 (Typed.pass T34 T35 (s30 bs)) (at36 bs) (Scalar.g-room 𝓤 H A W E G34 14 Syntax.tyBool
+          d37 = Typed.g-pre 𝓤 H A W 𝓣 E G34 G35 b24 Δ3 (Typed.pass T34 T35 (s30 bs)) (at36 bs) (Scalar.g-room 𝓤 H A W E G34 15 Syntax.tyBool
               (Scalar.room-sc 𝓤 H A W Row.sBool)) d36
 
           d38 : Typed.Typed 𝓤 H A 𝓣 E G44 b25 Δ3 (at38 bs)
           d38 = Typed.t-skip 𝓤 H A W 𝓣 E Δ3 tt
 
           d39 : Typed.Typed 𝓤 H A 𝓣 E G34 b25 Δ3 (at39 bs)
-          d39 = Typed.g-pre 𝓤 H A W 𝓣 E G34 G44 b25 Δ3 (Typed.pass T34 T44 (s39 bs)) (at38 bs) (Scalar.g-room 𝓤 H A W E G34 14 Syntax.tyBool
+          d39 = Typed.g-pre 𝓤 H A W 𝓣 E G34 G44 b25 Δ3 (Typed.pass T34 T44 (s39 bs)) (at38 bs) (Scalar.g-room 𝓤 H A W E G34 15 Syntax.tyBool
               (Scalar.room-sc 𝓤 H A W Row.sBool)) d38
 
           d40 : Typed.Typed 𝓤 H A 𝓣 E G34 b26 Δ3 (at40 bs)
-          d40 = Scalar.t-cond 𝓤 H A W E 𝓣 G34 14 (λ x. x) b24 b25 Δ3 (at37 bs) (at39 bs) (Scalar.reads-sc 𝓤 H A W Row.sBool) Path'.refl d37 d39
+          d40 = Scalar.t-cond 𝓤 H A W E 𝓣 G34 15 (λ x. x) b24 b25 Δ3 (at37 bs) (at39 bs) (Scalar.reads-sc 𝓤 H A W Row.sBool) Path'.refl d37 d39
 
           d41 : Typed.Typed 𝓤 H A 𝓣 E G32 b26 Δ3 (at41 bs)
-          d41 = Typed.g-pre 𝓤 H A W 𝓣 E G32 G34 b26 Δ3 (Typed.pass T32 T34 (s29 bs)) (at40 bs) (Scalar.g-room 𝓤 H A W E G32 16 τ1 (Scalar.room-sc 𝓤 H
+          d41 = Typed.g-pre 𝓤 H A W 𝓣 E G32 G34 b26 Δ3 (Typed.pass T32 T34 (s29 bs)) (at40 bs) (Scalar.g-room 𝓤 H A W E G32 17 τ1 (Scalar.room-sc 𝓤 H
               A W (Row.sInt Syntax.w64))) d40
 
-          d42 : Typed.Typed 𝓤 H A 𝓣 E G76 b38 Δ0 (at42 bs)
-          d42 = Typed.t-return 𝓤 H A W 𝓣 E Δ0 tt
+          d42 : Typed.Typed 𝓤 H A 𝓣 E G66 b34 Δ4 (at42 bs)
+          d42 = Typed.t-return 𝓤 H A W 𝓣 E Δ4 tt
 
-          d43 : Typed.Typed 𝓤 H A 𝓣 E G75 b38 Δ0 (at43 bs)
-          d43 = Typed.g-pre 𝓤 H A W 𝓣 E G75 G76 b38 Δ0 (Typed.pass T75 T76 (s71 bs)) (at42 bs) (AtSlots.g-as-by 𝓤 H A W E (λ ρ. Unit) G75 0 ρ6 (λ v.
-              RequestAnswer.struct .make v tt) (Own.told-none 𝓤 H A (G75 .slots)) λ ρ told v b. Apart.folds 𝓤 H A RequestAnswer.the-type
-              (RequestAnswer.struct .Ghost) (RequestAnswer.struct .make) (λ v g. Path'.refl) ρ v tt b) d42
+          d43 : Typed.Typed 𝓤 H A 𝓣 E G65 b34 Δ4 (at43 bs)
+          d43 = Typed.g-pre 𝓤 H A W 𝓣 E G65 G66 b34 Δ4 (Typed.pass T65 T66 (s60 bs)) (at42 bs) (Scalar.g-room 𝓤 H A W E G65 7 τ2 (Scalar.room-sc 𝓤 H A
+              W (Row.sInt Syntax.w32))) d42
 
-          d44 : Typed.Typed 𝓤 H A 𝓣 E G74 b38 Δ0 (at44 bs)
-          d44 = Typed.g-pre 𝓤 H A W 𝓣 E G74 G75 b38 Δ0 (Typed.pass T74 T75 (s70 bs)) (at43 bs) (Scalar.g-room 𝓤 H A W E G74 7 τ2 (Scalar.room-sc 𝓤 H A
-              W (Row.sInt Syntax.w32))) d43
+          d44 : Typed.Typed 𝓤 H A 𝓣 E G64 b34 Δ4 (at44 bs)
+          d44 = Typed.g-pre 𝓤 H A W 𝓣 E G64 G65 b34 Δ4 (Typed.pass T64 T65 (s59 bs)) (at43 bs) (Scalar.g-room 𝓤 H A W E G64 6 τ0 (Scalar.room-sc 𝓤 H A
+              W (Row.sInt Syntax.w8))) d43
 
-          d45 : Typed.Typed 𝓤 H A 𝓣 E G73 b38 Δ0 (at45 bs)
-          d45 = Typed.g-pre 𝓤 H A W 𝓣 E G73 G74 b38 Δ0 (Typed.pass T73 T74 (s69 bs)) (at44 bs) (Scalar.g-room 𝓤 H A W E G73 6 τ0 (Scalar.room-sc 𝓤 H A
+          d45 : Typed.Typed 𝓤 H A 𝓣 E G63 b34 Δ4 (at45 bs)
+          d45 = Typed.g-pre 𝓤 H A W 𝓣 E G63 G64 b34 Δ4 (Typed.pass T63 T64 (s58 bs)) (at44 bs) (Scalar.g-room 𝓤 H A W E G63 5 τ0 (Scalar.room-sc 𝓤 H A
               W (Row.sInt Syntax.w8))) d44
 
-          d46 : Typed.Typed 𝓤 H A 𝓣 E G72 b38 Δ0 (at46 bs)
-          d46 = Typed.g-pre 𝓤 H A W 𝓣 E G72 G73 b38 Δ0 (Typed.pass T72 T73 (s68 bs)) (at45 bs) (Scalar.g-room 𝓤 H A W E G72 5 τ0 (Scalar.room-sc 𝓤 H A
+          d46 : Typed.Typed 𝓤 H A 𝓣 E G62 b34 Δ4 (at46 bs)
+          d46 = Typed.g-pre 𝓤 H A W 𝓣 E G62 G63 b34 Δ4 (Typed.pass T62 T63 (s57 bs)) (at45 bs) (Scalar.g-room 𝓤 H A W E G62 4 τ0 (Scalar.room-sc 𝓤 H A
               W (Row.sInt Syntax.w8))) d45
 
-          d47 : Typed.Typed 𝓤 H A 𝓣 E G71 b38 Δ0 (at47 bs)
-          d47 = Typed.g-pre 𝓤 H A W 𝓣 E G71 G72 b38 Δ0 (Typed.pass T71 T72 (s67 bs)) (at46 bs) (Scalar.g-room 𝓤 H A W E G71 4 τ0 (Scalar.room-sc 𝓤 H A
-              W (Row.sInt Syntax.w8))) d46
+          d47 : Typed.Typed 𝓤 H A 𝓣 E G61 b34 Δ4 (at47 bs)
+          d47 = Typed.g-pre 𝓤 H A W 𝓣 E G61 G62 b34 Δ4 (Typed.pass T61 T62 (s56 bs)) (at46 bs) (Scalar.g-room 𝓤 H A W E G61 22 mirs.sched_core-Refusal
+              (Local.room-whole 𝓤 H A W (Declared.row Refusal.the-type) mirs.sched_core-Refusal Path'.refl)) d46
 
-          d48 : Typed.Typed 𝓤 H A 𝓣 E G70 b38 Δ0 (at48 bs)
-          d48 = Typed.g-pre 𝓤 H A W 𝓣 E G70 G71 b38 Δ0 (Typed.pass T70 T71 (s66 bs)) (at47 bs) (Scalar.g-room 𝓤 H A W E G70 12 mirs.sched_core-Station
+          d48 : Typed.Typed 𝓤 H A 𝓣 E G60 b34 Δ4 (at48 bs)
+          d48 = Typed.g-pre 𝓤 H A W 𝓣 E G60 G61 b34 Δ4 (Typed.pass T60 T61 (s55 bs)) (at47 bs) (Scalar.g-room 𝓤 H A W E G60 1 mirs.sched_core-Station
               (Local.room-whole 𝓤 H A W (Declared'.row Station.the-type) mirs.sched_core-Station Path'.refl)) d47
 
-          d49 : Typed.Typed 𝓤 H A 𝓣 E G69 b38 Δ0 (at49 bs)
-          d49 = Typed.g-pre 𝓤 H A W 𝓣 E G69 G70 b38 Δ0 (Typed.pass T69 T70 (s65 bs)) (at48 bs) (Scalar.g-room 𝓤 H A W E G69 11
-              mirs.sched_core-RequestReply (Local.room-whole 𝓤 H A W (Declared.row RequestReply.the-type) mirs.sched_core-RequestReply Path'.refl))
-              d48
-
-          d50 : Typed.Typed 𝓤 H A 𝓣 E G68 b39 Δ0 (at50 bs)
-          d50 = Typed.s-seq 𝓤 H A W 𝓣 E G68 G69 b37 b38 Δ0 (Typed.pass T68 T69 (s64 bs)) (at49 bs) (Make'.t-make-told 𝓤 H A W E 𝓣 (Declared'.row
-              (Apart.apartT RequestAnswer.the-type)) Path'.refl (Laws'8.val (Apart.apartT RequestAnswer.the-type) Laws''.the-laws) (Laws'8.lawful
-              (Apart.apartT RequestAnswer.the-type) Laws''.the-laws 𝓤 H A W) (Laws'8.makes (Apart.apartT RequestAnswer.the-type) Laws''.the-plain 𝓤 H
-              A) G68 0 ((Scalar.oAt 11 mirs.sched_core-RequestReply (Laws'6.val RequestReply.the-type Laws'4.the-laws)) ∷ (Scalar.oAt 12
-              mirs.sched_core-Station (Laws'8.val Station.the-type Laws'5.the-laws)) ∷ []) (λ m. (
-                m .1 .1 .1 .1 .1 .1 .1 .1 .1 .1 .1 .0,
-                (
-                  m .1 .1 .1
-                      .1 .1 .1 .1 .1 .1 .1 .1 .1 .0,
-                  tt,
-                ),
-              )) (λ m. Laws'7.Is (Declared.row RequestReply.the-type) (m .1 .1 .1 .1 .1 .1 .1 .1 .1 .1 .1 .0)
-              (Laws'6.vals RequestReply.the-type Laws'4.the-laws (m .1 .1 .1 .1 .1 .1 .1 .1 .1 .1 .1 .0)) × Laws'7.Is (Declared'.row Station.the-type)
-              (m .1 .1 .1 .1 .1 .1 .1 .1 .1 .1 .1 .1 .0) (Laws'8.vals Station.the-type Laws'5.the-laws (m .1 .1 .1 .1 .1 .1 .1 .1 .1 .1 .1 .1 .0)))
-              (Reads'.room-gone 𝓤 H A mirs.sched_core-RequestAnswer) (
-                (Whole.reads-enum 𝓤 H A W RequestReply.the-type Laws'4.the-laws, Path'.refl),
-                ((Reads.reads-struct 𝓤 H A W Station.the-type Laws'5.the-laws, Path'.refl), tt),
-              ) Path'.refl (λ ρ m. Make'.tells-both 𝓤 H A W E ρ
-              (Row.out 0 (G68 .locals)) m (Laws'7.Is (Declared.row RequestReply.the-type) (m .1 .1 .1 .1 .1 .1 .1 .1 .1 .1 .1 .0) (Laws'6.vals
-              RequestReply.the-type Laws'4.the-laws (m .1 .1 .1 .1 .1 .1 .1 .1 .1 .1 .1 .0))) (Laws'7.Is (Declared'.row Station.the-type) (m .1 .1 .1
-              .1 .1 .1 .1 .1 .1 .1 .1 .1 .0) (Laws'8.vals Station.the-type Laws'5.the-laws (m .1 .1 .1 .1 .1 .1 .1 .1 .1 .1 .1 .1 .0)))
-              (Make'.tells-row 𝓤 H A W E ρ (Row.out 0 (G68 .locals)) m 11 (Laws'7.Is (Declared.row RequestReply.the-type) (m .1 .1 .1 .1 .1 .1 .1 .1
-              .1 .1 .1 .0) (Laws'6.vals RequestReply.the-type Laws'4.the-laws (m .1 .1 .1 .1 .1 .1 .1 .1 .1 .1 .1 .0))) (Make'.whole-is 𝓤 H A W E
-              (Declared.row RequestReply.the-type) Path'.refl (Laws'6.val RequestReply.the-type Laws'4.the-laws) (Laws'6.tells RequestReply.the-type
-              Laws'4.the-laws) ρ 11 (m .1 .1 .1 .1 .1 .1 .1 .1 .1 .1 .1 .0))) (Make'.tells-row 𝓤 H A W E ρ (Row.out 0 (G68 .locals)) m 12 (Laws'7.Is
-              (Declared'.row Station.the-type) (m .1 .1 .1 .1 .1 .1 .1 .1 .1 .1 .1 .1 .0) (Laws'8.vals Station.the-type Laws'5.the-laws (m .1 .1 .1 .1
-              .1 .1 .1 .1 .1 .1 .1 .1 .0))) (Make'.whole-is 𝓤 H A W E (Declared'.row Station.the-type) Path'.refl (Laws'8.val Station.the-type
-              Laws'5.the-laws) (Laws'8.tells Station.the-type Laws'5.the-laws) ρ 12 (m .1 .1 .1 .1 .1 .1 .1 .1 .1 .1 .1 .1 .0)))) (λ m q.
-              Signed.made-val (Apart.apartT RequestAnswer.the-type) Laws''.the-laws ((Laws'6.val RequestReply.the-type Laws'4.the-laws (m .1 .1 .1 .1
-              .1 .1 .1 .1 .1 .1 .1 .0)) ∷ (Laws'8.val Station.the-type Laws'5.the-laws (m .1 .1 .1 .1 .1 .1 .1 .1 .1 .1 .1 .1 .0)) ∷ []) (
-                m .1 .1 .1
-                    .1 .1 .1 .1 .1 .1 .1 .1 .0,
-                (m .1 .1 .1 .1 .1 .1 .1 .1 .1 .1 .1 .1 .0, tt),
-              ) (
-                Make.made-enum RequestReply.the-type Laws'4.the-laws tt
-                    Laws'4.lowers (m .1 .1 .1 .1 .1 .1 .1 .1 .1 .1 .1 .0) (q .0),
-                (
-                  Signed.made-struct Station.the-type Laws'5.the-laws Laws'5.lowers (m .1
-                      .1 .1 .1 .1 .1 .1 .1 .1 .1 .1 .1 .0) (q .1),
-                  tt,
-                ),
-              )) λ m q. Signed.made-is (Apart.apartT RequestAnswer.the-type) Laws''.the-laws
-              ((Laws'6.val RequestReply.the-type Laws'4.the-laws (m .1 .1 .1 .1 .1 .1 .1 .1 .1 .1 .1 .0)) ∷ (Laws'8.val Station.the-type
-              Laws'5.the-laws (m .1 .1 .1 .1 .1 .1 .1 .1 .1 .1 .1 .1 .0)) ∷ []) (
-                m .1 .1 .1 .1 .1 .1 .1 .1 .1 .1 .1 .0,
-                (
-                  m .1 .1 .1 .1 .1 .1 .1 .1 .1
-                      .1 .1 .1 .0,
-                  tt,
-                ),
-              ) (
-                Make.made-enum RequestReply.the-type Laws'4.the-laws tt Laws'4.lowers (m .1 .1 .1 .1 .1 .1 .1 .1 .1 .1 .1 .0) (q .0),
-                (Signed.made-struct Station.the-type Laws'5.the-laws Laws'5.lowers (m .1 .1 .1 .1 .1 .1 .1 .1 .1 .1 .1 .1 .0) (q .1), tt),
-              )) d49
-
-          d51 : Typed.Typed 𝓤 H A 𝓣 E G67 b39 Δ0 (at51 bs)
-          d51 = Typed.g-pre 𝓤 H A W 𝓣 E G67 G68 b39 Δ0 (Typed.pass T67 T68 (s63 bs)) (at50 bs) (Scalar.g-room 𝓤 H A W E G67 9
-              mirs.sched_core-RequestCoreAnswer (Local.room-whole 𝓤 H A W (Declared'.row RequestCoreAnswer.the-type) mirs.sched_core-RequestCoreAnswer
-              Path'.refl)) d50
-
-          d52 : Typed.Typed 𝓤 H A 𝓣 E G66 b40 Δ0 (at52 bs)
-          d52 = Typed.s-seq 𝓤 H A W 𝓣 E G66 G67 b36 b39 Δ0 (Typed.both (s62 bs)) (at51 bs) (WayStmt.t-way-copy-out 𝓤 H A W E 𝓣 (Declared'.row
-              Station.the-type) Path'.refl (Copies.cStruct Station.the-type Laws'5.the-laws Laws'5.the-copy .copy 𝓤 H A W) (λ ρ. Unit) G66 (Row.out 9
-              (G66 .locals)) (λ u. Row.drop 9 (G66 .locals) u) (G66 .slots) 9 (λ t. ((Syntax.field 1) ∷ t)) mirs.sched_core-Station
-              mirs.sched_core-Station 12 ρ4 (λ x. x) (λ u. At.getAt (RequestCoreAnswer.the-type .parts) 1 (RequestCoreAnswer.struct .as-values (u .1
-              .1 .1 .1 .1 .1 .1 .1 .1 .0))) (λ u. (
-                Row.hd 0 (Row.tl (Row.tl (Row.tl (Row.tl (Row.tl (Row.tl (Row.tl (Row.tl (Row.tl bs))))))))),
-                Nat._+_ 0 8,
-              )) (λ T′. record { locals = Row.setRow 9 ε39 T′; slots = G66 .slots }) (λ u T′ m′. Row.set 9 ε39 (u .1 .1 .1 .1 .1 .1 .1 .1
-              .1 .0) T′ m′) (λ u. Unit) (λ x. Unit) (Own.told-none 𝓤 H A (G66 .slots)) (DerefMove.learns-nothing 𝓤 H A (Declared'.row
-              Station.the-type)) (λ ρ told u asked. Way'.w-partˢ 𝓤 H A W E (Declared'.row RequestCoreAnswer.the-type) (Declared'.row Station.the-type)
-              mirs.sched_core-RequestCoreAnswer mirs.sched_core-Station 1 8 (u .1 .1 .1 .1 .1 .1 .1 .1 .1 .0) (At.getAt (RequestCoreAnswer.the-type
-              .parts) 1 (RequestCoreAnswer.struct .as-values (u .1 .1 .1 .1 .1 .1 .1 .1 .1 .0))) (
-                Row.hd 0 (Row.tl (Row.tl (Row.tl (Row.tl (Row.tl
-                    (Row.tl (Row.tl (Row.tl (Row.tl bs))))))))),
-                0,
-              ) (Way.w-look 𝓤 H A W E (Way.w-local 𝓤 H A W E G66 ρ u (G66 .slots) 9 (Declared'.row
-              RequestCoreAnswer.the-type) ρ7 (λ x. x) (λ x. x) (u .1 .1 .1 .1 .1 .1 .1 .1 .1 .0) (Local.mem-whole 𝓤 H A W (Declared'.row
-              RequestCoreAnswer.the-type) ρ (u .1 .1 .1 .1 .1 .1 .1 .1 .1 .0) (Row.hd 0 (Row.tl (Row.tl (Row.tl (Row.tl (Row.tl (Row.tl (Row.tl
-              (Row.tl (Row.tl bs))))))))))) (Local.whole-mem 𝓤 H A W (Declared'.row RequestCoreAnswer.the-type) ρ (u .1 .1 .1 .1 .1 .1 .1 .1 .1 .0)
-              (Row.hd 0 (Row.tl (Row.tl (Row.tl (Row.tl (Row.tl (Row.tl (Row.tl (Row.tl (Row.tl bs))))))))))))) Path'.refl λ q. Inner.cut-record 𝓤 H A
-              q (Declared'.row RequestCoreAnswer.the-type) Station.the-type 8 (u .1 .1 .1 .1 .1 .1 .1 .1 .1 .0) (u .1 .1 .1 .1 .1 .1 .1 .1 .1 .0)
-              (At.getAt (RequestCoreAnswer.the-type .parts) 1 (RequestCoreAnswer.struct .as-values (u .1 .1 .1 .1 .1 .1 .1 .1 .1 .0))) (At.getAt
-              (RequestCoreAnswer.the-type .parts) 1 (RequestCoreAnswer.struct .as-values (u .1 .1 .1 .1 .1 .1 .1 .1 .1 .0))) (
-                Row.hd 0 (Row.tl (Row.tl
-                    (Row.tl (Row.tl (Row.tl (Row.tl (Row.tl (Row.tl (Row.tl bs))))))))),
-                0,
-              ) (Behind.look-at 𝓤 H A W q RequestCoreAnswer.the-type
-              Laws'3.the-laws 1 8 Path'.refl Path'.refl (
-                Row.hd 0 (Row.tl (Row.tl (Row.tl (Row.tl (Row.tl (Row.tl (Row.tl (Row.tl (Row.tl bs))))))))),
-                0,
-              ) (u .1 .1 .1 .1 .1 .1 .1 .1 .1 .0) (RequestCoreAnswer.struct .as-values (u .1 .1 .1 .1 .1 .1 .1 .1 .1 .0)) Path'.refl))
-              (Reads'.room-gone 𝓤 H A mirs.sched_core-Station) (Yields.makes-mem 𝓤 H A W (λ ρ. Unit) (Declared'.row Station.the-type) Path'.refl ρ4 (λ
-              x. x) λ ρ told. Local.whole-mem 𝓤 H A W (Declared'.row Station.the-type) ρ) Path'.refl Path'.refl Path'.refl) d51
-
-          d53 : Typed.Typed 𝓤 H A 𝓣 E G65 b41 Δ0 (at53 bs)
-          d53 = Typed.s-seq 𝓤 H A W 𝓣 E G65 G66 b35 b40 Δ0 (Typed.pass T64 T66 (s61 bs)) (at52 bs) (CopyOut.t-copy-told 𝓤 H A W E 𝓣 (Declared.row
-              RequestReply.the-type) Path'.refl (Laws'6.val RequestReply.the-type Laws'4.the-laws) (Laws'6.lawful RequestReply.the-type
-              Laws'4.the-laws 𝓤 H A W tt) (Laws'6.makes RequestReply.the-type Laws'4.the-plain 𝓤 H A) G65 11 (Scalar.oFld 9 ((Syntax.field 0) ∷ [])
-              mirs.sched_core-RequestReply 0 λ x. Laws'6.val RequestReply.the-type Laws'4.the-laws (RequestCoreAnswer.struct .as-values x .0)) (λ m.
-              RequestCoreAnswer.struct .as-values (m .1 .1 .1 .1 .1 .1 .1 .1 .1 .0) .0) (λ m. Laws'7.Is (Declared'.row RequestCoreAnswer.the-type) (m
-              .1 .1 .1 .1 .1 .1 .1 .1 .1 .0) (Laws'8.vals RequestCoreAnswer.the-type Laws'3.the-laws (m .1 .1 .1 .1 .1 .1 .1 .1 .1 .0)))
-              (Reads'.room-gone 𝓤 H A mirs.sched_core-RequestReply) (
-                Reads.reads-field 𝓤 H A W RequestCoreAnswer.the-type Laws'3.the-laws 0
-                    mirs.sched_core-RequestReply 0 Path'.refl,
-                Path'.refl,
-              ) Path'.refl (λ ρ m. Make'.tells-row 𝓤 H A W E ρ (Row.out 11 (G65 .locals)) m 9
-              (Laws'7.Is (Declared'.row RequestCoreAnswer.the-type) (m .1 .1 .1 .1 .1 .1 .1 .1 .1 .0) (Laws'8.vals RequestCoreAnswer.the-type
-              Laws'3.the-laws (m .1 .1 .1 .1 .1 .1 .1 .1 .1 .0))) (Make'.whole-is 𝓤 H A W E (Declared'.row RequestCoreAnswer.the-type) Path'.refl
-              (Laws'8.val RequestCoreAnswer.the-type Laws'3.the-laws) (Laws'8.tells RequestCoreAnswer.the-type Laws'3.the-laws) ρ 9 (m .1 .1 .1 .1 .1
-              .1 .1 .1 .1 .0))) (λ m k wa. Path'.refl) λ m k wa. Laws'8.owed RequestCoreAnswer.the-type Laws'3.the-laws (m .1 .1 .1 .1 .1 .1 .1 .1 .1
-              .0) (Laws'8.vals RequestCoreAnswer.the-type Laws'3.the-laws (m .1 .1 .1 .1 .1 .1 .1 .1 .1 .0)) k .0) d52
-
-          d54 : Typed.Typed 𝓤 H A 𝓣 E G64 b41 Δ0 (at54 bs)
-          d54 = Typed.g-pre 𝓤 H A W 𝓣 E G64 G65 b41 Δ0 (λ Ψ. Ψ) (at53 bs) (Lifetime.g-forget 𝓤 H A W E G64 3 Row.dead Path'.refl) d53
-
-          d55 : Typed.Typed 𝓤 H A 𝓣 E G63 b41 Δ0 (at55 bs)
-          d55 = Typed.g-pre 𝓤 H A W 𝓣 E G63 G64 b41 Δ0 (Typed.both (s59 bs)) (at54 bs) (Relend.g-back-sl 𝓤 H A W E in-Record.row G63 23 2 0 3 τ6 τ5
-              (Row.lease (κs .0) (qs .0)) (λ x. x) (λ x. x) (Reads'.as-is 𝓤 H A (Mut.msleft in-Record.row τ5)) (Reads'.as-is 𝓤 H A (Relend.mslice-owed
-              in-Record.row τ6 0 3 (Row.lease (κs .0) (qs .0)))) Path'.refl Path'.refl) d54
-
-          d56 : Typed.Typed 𝓤 H A 𝓣 E G62 b41 Δ0 (at56 bs)
-          d56 = Typed.g-pre 𝓤 H A W 𝓣 E G62 G63 b41 Δ0 (λ Ψ. Ψ) (at55 bs) (Lifetime.g-end 𝓤 H A W E G62 3 Path'.refl) d55
-
-          d57 : Typed.Typed 𝓤 H A 𝓣 E G61 b41 Δ0 (at57 bs)
-          d57 = Typed.g-pre 𝓤 H A W 𝓣 E G61 G62 b41 Δ0 (Typed.pass T61 T62 (s57 bs)) (at56 bs) (Scalar.g-room 𝓤 H A W E G61 21 Syntax.tyUnit
-              (Scalar.room-sc 𝓤 H A W Row.sUnit)) d56
-
-          d58 : Typed.Typed 𝓤 H A 𝓣 E G60 b41 Δ0 (at58 bs)
-          d58 = Typed.g-pre 𝓤 H A W 𝓣 E G60 G61 b41 Δ0 (Typed.pass T60 T61 (s56 bs)) (at57 bs) (Scalar.g-room 𝓤 H A W E G60 10 τ3 (Init.room-arr 𝓤 H A
-              W (Declared'.row Record.the-type) 64 0 64 Path'.refl)) d57
-
-          d59 : Typed.Typed 𝓤 H A 𝓣 E G59 b42 Δ0 (at59 bs)
-          d59 = Typed.s-seq 𝓤 H A W 𝓣 E G59 G60 b34 b41 Δ0 (Typed.both (s55 bs)) (at58 bs) (Plain.t-call-plain 𝓤 H A W 𝓣 1 ps·4 r·4 (claims· .8)
-              (claims· .9) "bs_sched::save_64" (known .4) E (λ pos β. β) G59 (
-                record {
-                  pos = 23;
-                  ty = Syntax.tyRef Syntax.erased Syntax.mut
-                      in-Record.at;
-                  ref = λ x. x;
-                },
-                (record { pos = 10; st = []; d = 0; at = λ x. x }, tt),
-              ) 21 (3 ∷ []) (Call.sub-id 𝓤 H A W (G59 .slots)) (
-                Reads'.as-is 𝓤 H A (Mut.mslice in-Record.row τ5 3),
-                Mut.reads-mslice 𝓤 H A W in-Record.row τ5 3,
-                Path'.refl,
-                (
-                  (
-                    Array.arr-yields 𝓤 H A W
-                        (Array.eStruct Record.the-type Laws.the-laws Laws.the-copy) (Array.eStruct-laws Record.the-type Laws.the-laws Laws.the-copy
-                        Laws.the-plain) 64,
-                    Path'.refl,
-                  ),
-                  tt,
-                ),
-              ) (Reads'.room-gone 𝓤 H A Syntax.tyUnit) (tt, tt) Path'.refl) d58
-
-          d60 : Typed.Typed 𝓤 H A 𝓣 E G58 b43 Δ0 (at60 bs)
-          d60 = Typed.s-seq 𝓤 H A W 𝓣 E G58 G59 b33 b42 Δ0 (Typed.ask (s54 bs)) (at59 bs) (Relend.t-sl-aggregate 𝓤 H A W E in-Record.row 𝓣
-              (Relend.asMut in-Record.row) G58 22 23 3 τ5 τ5 (λ x. x) (Scalar.oFld 2 ((Syntax.field 1) ∷ []) τ1 8 λ v. Shared.lenV (v .0))
-              (Reads'.as-is 𝓤 H A (Relend.msptr in-Record.row τ5 3)) (Reads'.room-gone 𝓤 H A τ8) (
-                Relend.reads-owed-len 𝓤 H A W in-Record.row τ6 0 3
-                    (Row.lease (κs .0) (qs .0)) 8 Path'.refl,
-                Path'.refl,
-              ) Path'.refl Path'.refl λ b o k. tt) d59
-
-          d61 : Typed.Typed 𝓤 H A 𝓣 E G57 b44 Δ0 (at61 bs)
-          d61 = Typed.s-seq 𝓤 H A W 𝓣 E G57 G58 b32 b43 Δ0 (Typed.give (s53 bs)) (at60 bs) (Relend.t-sl-relend 𝓤 H A W E in-Record.row 𝓣 G57 2 22 0 3
-              τ6 τ5 (Row.lease (κs .0) (qs .0)) 0 (λ x. x) (Reads'.as-is 𝓤 H A ρ1) (Reads'.room-gone 𝓤 H A τ5) Path'.refl tt Path'.refl Path'.refl
-              Path'.refl λ b o. tt) d60
-
-          d62 : Typed.Typed 𝓤 H A 𝓣 E G56 b44 Δ0 (at62 bs)
-          d62 = Typed.g-pre 𝓤 H A W 𝓣 E G56 G57 b44 Δ0 (λ Ψ. Ψ) (at61 bs) (Lifetime.g-begin 𝓤 H A W E G56 3 (
-            tt,
-            (
-              tt,
-              (
-                tt,
-                (
-                  tt,
-                  (
-                    tt,
-                    (
-                      tt,
-                      (
-                        tt,
-                        (
-                          tt,
-                          (tt, (tt, (tt, (tt, (tt, (tt, (tt, (tt, (tt, (tt, (tt, (tt, (tt, (tt, (tt, (tt, tt)))))))))))))))),
-                        ),
-                      ),
-                    ),
-                  ),
-                ),
-              ),
-            ),
-          )) d61
-
-          d63 : Typed.Typed 𝓤 H A 𝓣 E G55 b45 Δ0 (at63 bs)
-          d63 = Typed.s-seq 𝓤 H A W 𝓣 E G55 G56 b31 b44 Δ0 (Typed.both (s51 bs)) (at62 bs) (WayStmt.t-way-copy-out 𝓤 H A W E 𝓣 (Array'.Array
-              (Declared'.row Record.the-type) 64) Path'.refl (Copies.cArr (Declared'.row Record.the-type) (Copies.cStruct Record.the-type
-              Laws.the-laws Laws.the-copy) 64 .copy 𝓤 H A W) (λ ρ. Unit) G55 (Row.out 9 (G55 .locals)) (λ u. Row.drop 9 (G55 .locals) u) (G55 .slots)
-              9 (λ t. ((Syntax.field 2) ∷ t)) τ3 τ3 10 ρ5 (λ x. x) (λ u. At.getAt (RequestCoreAnswer.the-type .parts) 2 (RequestCoreAnswer.struct
-              .as-values (u .1 .1 .1 .1 .1 .1 .1 .1 .1 .0))) (λ u. (
-                Row.hd 0 (Row.tl (Row.tl (Row.tl (Row.tl (Row.tl (Row.tl (Row.tl (Row.tl (Row.tl
-                    bs))))))))),
-                Nat._+_ 0 1464,
-              )) (λ T′. record { locals = Row.setRow 9 ε39 T′; slots = G55 .slots }) (λ u T′ m′. Row.set 9 ε39 (u .1 .1 .1
-              .1 .1 .1 .1 .1 .1 .0) T′ m′) (λ u. Unit) (λ x. Unit) (Own.told-none 𝓤 H A (G55 .slots)) (DerefMove.learns-nothing 𝓤 H A (Array'.Array
-              (Declared'.row Record.the-type) 64)) (λ ρ told u asked. Way'.w-partˢ 𝓤 H A W E (Declared'.row RequestCoreAnswer.the-type) (Array'.Array
-              (Declared'.row Record.the-type) 64) mirs.sched_core-RequestCoreAnswer τ3 2 1464 (u .1 .1 .1 .1 .1 .1 .1 .1 .1 .0) (At.getAt
-              (RequestCoreAnswer.the-type .parts) 2 (RequestCoreAnswer.struct .as-values (u .1 .1 .1 .1 .1 .1 .1 .1 .1 .0))) (
-                Row.hd 0 (Row.tl (Row.tl
-                    (Row.tl (Row.tl (Row.tl (Row.tl (Row.tl (Row.tl (Row.tl bs))))))))),
-                0,
-              ) (Way.w-look 𝓤 H A W E (Way.w-local 𝓤 H A W E G55 ρ u (G55
-              .slots) 9 (Declared'.row RequestCoreAnswer.the-type) ρ7 (λ x. x) (λ x. x) (u .1 .1 .1 .1 .1 .1 .1 .1 .1 .0) (Local.mem-whole 𝓤 H A W
-              (Declared'.row RequestCoreAnswer.the-type) ρ (u .1 .1 .1 .1 .1 .1 .1 .1 .1 .0) (Row.hd 0 (Row.tl (Row.tl (Row.tl (Row.tl (Row.tl (Row.tl
-              (Row.tl (Row.tl (Row.tl bs))))))))))) (Local.whole-mem 𝓤 H A W (Declared'.row RequestCoreAnswer.the-type) ρ (u .1 .1 .1 .1 .1 .1 .1 .1
-              .1 .0) (Row.hd 0 (Row.tl (Row.tl (Row.tl (Row.tl (Row.tl (Row.tl (Row.tl (Row.tl (Row.tl bs))))))))))))) Path'.refl λ q.
-              Items.cut-records 𝓤 H A q (Declared'.row RequestCoreAnswer.the-type) Record.the-type 64 1464 (u .1 .1 .1 .1 .1 .1 .1 .1 .1 .0) (u .1 .1
-              .1 .1 .1 .1 .1 .1 .1 .0) (At.getAt (RequestCoreAnswer.the-type .parts) 2 (RequestCoreAnswer.struct .as-values (u .1 .1 .1 .1 .1 .1 .1 .1
-              .1 .0))) (At.getAt (RequestCoreAnswer.the-type .parts) 2 (RequestCoreAnswer.struct .as-values (u .1 .1 .1 .1 .1 .1 .1 .1 .1 .0)))
-              (Row.hd 0 (Row.tl (Row.tl (Row.tl (Row.tl (Row.tl (Row.tl (Row.tl (Row.tl (Row.tl bs))))))))), 0) (Behind.look-at 𝓤 H A W q
-              RequestCoreAnswer.the-type Laws'3.the-laws 2 1464 Path'.refl Path'.refl (
-                Row.hd 0 (Row.tl (Row.tl (Row.tl (Row.tl (Row.tl (Row.tl
-                    (Row.tl (Row.tl (Row.tl bs))))))))),
-                0,
-              ) (u .1 .1 .1 .1 .1 .1 .1 .1 .1 .0) (RequestCoreAnswer.struct .as-values (u .1 .1 .1 .1 .1 .1 .1
-              .1 .1 .0)) Path'.refl)) (Reads'.room-gone 𝓤 H A τ3) (Yields.makes-mem 𝓤 H A W (λ ρ. Unit) (Array'.Array (Declared'.row Record.the-type)
-              64) Path'.refl ρ5 (λ x. x) λ ρ told. Whole'.arr-mem 𝓤 H A W (Declared'.row Record.the-type) 64 tt ρ) Path'.refl Path'.refl Path'.refl)
-              d62
-
-          d64 : Typed.Typed 𝓤 H A 𝓣 E G54 b45 Δ0 (at64 bs)
-          d64 = Typed.g-pre 𝓤 H A W 𝓣 E G54 G55 b45 Δ0 (Typed.pass T54 T55 (s50 bs)) (at63 bs) (Scalar.g-room 𝓤 H A W E G54 8 τ3 (Init.room-arr 𝓤 H A
-              W (Declared'.row Record.the-type) 64 0 64 Path'.refl)) d63
-
-          d65 : Typed.Typed 𝓤 H A 𝓣 E G53 b45 Δ0 (at65 bs)
-          d65 = Typed.g-pre 𝓤 H A W 𝓣 E G53 G54 b45 Δ0 (Typed.pass T53 T54 (s49 bs)) (at64 bs) (Scalar.g-room 𝓤 H A W E G53 1 mirs.sched_core-Station
-              (Local.room-whole 𝓤 H A W (Declared'.row Station.the-type) mirs.sched_core-Station Path'.refl)) d64
-
-          d66 : Typed.Typed 𝓤 H A 𝓣 E G52 b46 Δ0 (at66 bs)
-          d66 = Typed.s-seq 𝓤 H A W 𝓣 E G52 G53 b30 b45 Δ0 (Typed.both (s48 bs)) (at65 bs) (Plain.t-call-plain 𝓤 H A W 𝓣 1 ps·3 r·3 (claims· .6)
-              (claims· .7) "request_core::request_core" (known .3) E (λ pos β. β) G52 (
-                record { pos = 1; st = []; d = 0; at = λ x. x },
+          d49 : Typed.Typed 𝓤 H A 𝓣 E G59 b35 Δ4 (at49 bs)
+          d49 = Typed.s-seq 𝓤 H A W 𝓣 E G59 G60 b33 b34 Δ4 (Typed.both (s54 bs)) (at48 bs) (Plain.t-call-plain 𝓤 H A W 𝓣 0 ps·1 r·1 (claims· .2)
+              (claims· .3) "bs_sched::request_refused" (known .1) E (λ pos β. β) G59 (
+                record { pos = 22; st = []; d = 0; at = λ x. x },
                 (
                   record {
                     pos
-                        = 8;
+                        = 1;
                     st = [];
                     d = 0;
                     at = λ x. x;
                   },
-                  (
-                    record { pos = 3; ty = Syntax.tyRef (Syntax.named 1) Syntax.imm τ0; ref = λ x. x },
-                    (
-                      Num.vAt 4 λ x.
-                          x,
-                      (Num.vAt 5 λ x. x, (Num.vAt 6 λ x. x, (Num.vAt 7 λ x. x, tt))),
-                    ),
-                  ),
+                  tt,
                 ),
-              ) 9 (1 ∷ []) (Call.sub-id 𝓤 H A W (G52 .slots)) (
+              ) 0 [] (Call.sub-id 𝓤 H A W (G59 .slots)) (
                 (
-                  Yields.yields-copy
-                      𝓤 H A W (λ ρ. Unit) (Declared'.row Station.the-type) Path'.refl (Copies.cStruct Station.the-type Laws'5.the-laws Laws'5.the-copy .copy 𝓤
-                      H A W) ρ4 (λ x. x) (λ x. x) (λ ρ told. Local.mem-whole 𝓤 H A W (Declared'.row Station.the-type) ρ) λ ρ told. Local.whole-mem 𝓤 H A W
-                      (Declared'.row Station.the-type) ρ,
+                  Yields.yields-copy 𝓤 H A W (λ ρ. Unit) (Declared.row
+                      Refusal.the-type) Path'.refl (Copies.cEnum Refusal.the-type Laws''.the-laws Laws''.the-copy .copy 𝓤 H A W) ρ4 (λ x. x) (λ x. x) (λ ρ
+                      told. Local.mem-whole 𝓤 H A W (Declared.row Refusal.the-type) ρ) λ ρ told. Local.whole-mem 𝓤 H A W (Declared.row Refusal.the-type) ρ,
                   Path'.refl,
                 ),
                 (
                   (
-                    Array.arr-yields 𝓤 H A W (Array.eStruct Record.the-type Laws.the-laws Laws.the-copy)
-                        (Array.eStruct-laws Record.the-type Laws.the-laws Laws.the-copy Laws.the-plain) 64,
+                    Yields.yields-copy 𝓤 H A W (λ ρ. Unit) (Declared'.row Station.the-type) Path'.refl (Copies.cStruct Station.the-type
+                        Laws'5.the-laws Laws'5.the-copy .copy 𝓤 H A W) ρ5 (λ x. x) (λ x. x) (λ ρ told. Local.mem-whole 𝓤 H A W (Declared'.row Station.the-type)
+                        ρ) λ ρ told. Local.whole-mem 𝓤 H A W (Declared'.row Station.the-type) ρ,
                     Path'.refl,
                   ),
-                  (
-                    ShrSlice.spares-sslice 𝓤 H A W
-                        (Referent.rtF (Referent.fInt Syntax.w8)) τ9 1,
-                    Shared.reads-sslice 𝓤 H A W (Referent.rtF (Referent.fInt Syntax.w8)) τ9 1,
-                    Path'.refl,
-                    (
-                      (Scalar.reads-sc 𝓤 H A W (Row.sInt Syntax.w8), Path'.refl),
-                      (
-                        (Scalar.reads-sc 𝓤 H A W (Row.sInt Syntax.w8), Path'.refl),
-                        ((Scalar.reads-sc 𝓤 H A W (Row.sInt Syntax.w8), Path'.refl), ((Scalar.reads-sc 𝓤 H A W (Row.sInt Syntax.w32), Path'.refl), tt)),
-                      ),
-                    ),
-                  ),
+                  tt,
                 ),
-              )
-              (Reads'.room-gone 𝓤 H A mirs.sched_core-RequestCoreAnswer) (tt, tt) Path'.refl) d65
+              ) (Reads'.room-gone 𝓤 H A
+              mirs.sched_core-RequestAnswer) tt Path'.refl) d48
 
-          d67 : Typed.Typed 𝓤 H A 𝓣 E G51 b46 Δ0 (at67 bs)
-          d67 = Typed.g-pre 𝓤 H A W 𝓣 E G51 G52 b46 Δ0 (λ Ψ. Ψ) (at66 bs) (Lifetime.g-forget 𝓤 H A W E G51 2 Row.dead Path'.refl) d66
+          d50 : Typed.Typed 𝓤 H A 𝓣 E G58 b36 Δ4 (at50 bs)
+          d50 = Typed.s-seq 𝓤 H A W 𝓣 E G58 G59 b32 b35 Δ4 (Typed.pass T58 T59 (s53 bs)) (at49 bs) (Make.t-enum-make-wt 𝓤 H A W E 𝓣 Refusal.the-type
+              Laws''.the-laws Laws''.the-plain tt G58 22 ((Scalar.oInt Syntax.w8 0) ∷ []) (λ m. Refusal.enum .make (Logic.inl tt)) (Reads'.room-gone 𝓤
+              H A mirs.sched_core-Refusal) (tt, tt) Path'.refl (λ m wa. Make.made-val Refusal.the-type Laws''.the-laws [] (Refusal.enum .make
+              (Logic.inl tt)) tt (wa .1)) λ m wa. Make.made-is Refusal.the-type Laws''.the-laws [] (Refusal.enum .make (Logic.inl tt)) tt (wa .1)) d49
 
-          d68 : Typed.Typed 𝓤 H A 𝓣 E G50 b46 Δ0 (at68 bs)
-          d68 = Typed.g-pre 𝓤 H A W 𝓣 E G50 G51 b46 Δ0 (Typed.pass T49 T51 (s46 bs)) (at67 bs) (Reshare.g-back-sl-shr 𝓤 H A W E in-Record.row G50 2 0
-              2 τ6 (Row.lease (κs .0) (qs .0)) (λ x. x) (Reads'.as-is 𝓤 H A (Reshare.mslice-owedS in-Record.row τ6 0 2 (Row.lease (κs .0) (qs .0))))
-              Path'.refl Path'.refl) d67
+          d51 : Typed.Typed 𝓤 H A 𝓣 E G57 b36 Δ4 (at51 bs)
+          d51 = Typed.g-pre 𝓤 H A W 𝓣 E G57 G58 b36 Δ4 (Typed.pass T57 T58 (s52 bs)) (at50 bs) (Scalar.g-room 𝓤 H A W E G57 15 Syntax.tyBool
+              (Scalar.room-sc 𝓤 H A W Row.sBool)) d50
 
-          d69 : Typed.Typed 𝓤 H A 𝓣 E G49 b46 Δ0 (at69 bs)
-          d69 = Typed.g-pre 𝓤 H A W 𝓣 E G49 G50 b46 Δ0 (λ Ψ. Ψ) (at68 bs) (Lifetime.g-end 𝓤 H A W E G49 2 Path'.refl) d68
+          d52 : Typed.Typed 𝓤 H A 𝓣 E G67 b37 Δ4 (at52 bs)
+          d52 = Typed.t-skip 𝓤 H A W 𝓣 E Δ4 tt
 
-          d70 : Typed.Typed 𝓤 H A 𝓣 E G48 b46 Δ0 (at70 bs)
-          d70 = Typed.g-pre 𝓤 H A W 𝓣 E G48 G49 b46 Δ0 (Typed.pass T48 T49 (s44 bs)) (at69 bs) (Scalar.g-room 𝓤 H A W E G48 20 τ7 (Shared.room-sslice
-              𝓤 H A W in-Record.row τ4 2)) d69
+          d53 : Typed.Typed 𝓤 H A 𝓣 E G57 b37 Δ4 (at53 bs)
+          d53 = Typed.g-pre 𝓤 H A W 𝓣 E G57 G67 b37 Δ4 (Typed.pass T57 T67 (s61 bs)) (at52 bs) (Scalar.g-room 𝓤 H A W E G57 15 Syntax.tyBool
+              (Scalar.room-sc 𝓤 H A W Row.sBool)) d52
 
-          d71 : Typed.Typed 𝓤 H A 𝓣 E G47 b47 Δ0 (at71 bs)
-          d71 = Typed.s-seq 𝓤 H A W 𝓣 E G47 G48 b29 b46 Δ0 (Typed.both (s43 bs)) (at70 bs) (Plain.t-call-plain 𝓤 H A W 𝓣 1 ps·2 r·2 (claims· .4)
-              (claims· .5) "bs_sched::load_64" (known .2) E (λ pos β. β) G47 (
+          d54 : Typed.Typed 𝓤 H A 𝓣 E G57 b38 Δ4 (at54 bs)
+          d54 = Scalar.t-cond 𝓤 H A W E 𝓣 G57 15 (λ x. x) b36 b37 Δ4 (at51 bs) (at53 bs) (Scalar.reads-sc 𝓤 H A W Row.sBool) Path'.refl d51 d53
+
+          d55 : Typed.Typed 𝓤 H A 𝓣 E G55 b38 Δ4 (at55 bs)
+          d55 = Typed.g-pre 𝓤 H A W 𝓣 E G55 G57 b38 Δ4 (Typed.pass T55 T57 (s51 bs)) (at54 bs) (Scalar.g-room 𝓤 H A W E G55 14 Syntax.tyBool
+              (Scalar.room-sc 𝓤 H A W Row.sBool)) d54
+
+          d56 : Typed.Typed 𝓤 H A 𝓣 E G92 b48 Δ0 (at56 bs)
+          d56 = Typed.t-return 𝓤 H A W 𝓣 E Δ0 tt
+
+          d57 : Typed.Typed 𝓤 H A 𝓣 E G91 b48 Δ0 (at57 bs)
+          d57 = Typed.g-pre 𝓤 H A W 𝓣 E G91 G92 b48 Δ0 (Typed.pass T91 T92 (s86 bs)) (at56 bs) (AtSlots.g-as-by 𝓤 H A W E (λ ρ. Unit) G91 0 ρ7 (λ v.
+              RequestAnswer.struct .make v tt) (Own.told-none 𝓤 H A (G91 .slots)) λ ρ told v b. Apart.folds 𝓤 H A RequestAnswer.the-type
+              (RequestAnswer.struct .Ghost) (RequestAnswer.struct .make) (λ v g. Path'.refl) ρ v tt b) d56
+
+          d58 : Typed.Typed 𝓤 H A 𝓣 E G90 b48 Δ0 (at58 bs)
+          d58 = Typed.g-pre 𝓤 H A W 𝓣 E G90 G91 b48 Δ0 (Typed.pass T90 T91 (s85 bs)) (at57 bs) (Scalar.g-room 𝓤 H A W E G90 7 τ2 (Scalar.room-sc 𝓤 H A
+              W (Row.sInt Syntax.w32))) d57
+
+          d59 : Typed.Typed 𝓤 H A 𝓣 E G89 b48 Δ0 (at59 bs)
+          d59 = Typed.g-pre 𝓤 H A W 𝓣 E G89 G90 b48 Δ0 (Typed.pass T89 T90 (s84 bs)) (at58 bs) (Scalar.g-room 𝓤 H A W E G89 6 τ0 (Scalar.room-sc 𝓤 H A
+              W (Row.sInt Syntax.w8))) d58
+
+          d60 : Typed.Typed 𝓤 H A 𝓣 E G88 b48 Δ0 (at60 bs)
+          d60 = Typed.g-pre 𝓤 H A W 𝓣 E G88 G89 b48 Δ0 (Typed.pass T88 T89 (s83 bs)) (at59 bs) (Scalar.g-room 𝓤 H A W E G88 5 τ0 (Scalar.room-sc 𝓤 H A
+              W (Row.sInt Syntax.w8))) d59
+
+          d61 : Typed.Typed 𝓤 H A 𝓣 E G87 b48 Δ0 (at61 bs)
+          d61 = Typed.g-pre 𝓤 H A W 𝓣 E G87 G88 b48 Δ0 (Typed.pass T87 T88 (s82 bs)) (at60 bs) (Scalar.g-room 𝓤 H A W E G87 4 τ0 (Scalar.room-sc 𝓤 H A
+              W (Row.sInt Syntax.w8))) d60
+
+          d62 : Typed.Typed 𝓤 H A 𝓣 E G86 b48 Δ0 (at62 bs)
+          d62 = Typed.g-pre 𝓤 H A W 𝓣 E G86 G87 b48 Δ0 (Typed.pass T86 T87 (s81 bs)) (at61 bs) (Scalar.g-room 𝓤 H A W E G86 13 mirs.sched_core-Station
+              (Local.room-whole 𝓤 H A W (Declared'.row Station.the-type) mirs.sched_core-Station Path'.refl)) d61
+
+          d63 : Typed.Typed 𝓤 H A 𝓣 E G85 b48 Δ0 (at63 bs)
+          d63 = Typed.g-pre 𝓤 H A W 𝓣 E G85 G86 b48 Δ0 (Typed.pass T85 T86 (s80 bs)) (at62 bs) (Scalar.g-room 𝓤 H A W E G85 12
+              mirs.sched_core-RequestReply (Local.room-whole 𝓤 H A W (Declared.row RequestReply.the-type) mirs.sched_core-RequestReply Path'.refl))
+              d62
+
+          d64 : Typed.Typed 𝓤 H A 𝓣 E G84 b48 Δ0 (at64 bs)
+          d64 = Typed.g-pre 𝓤 H A W 𝓣 E G84 G85 b48 Δ0 (Typed.pass T84 T85 (s79 bs)) (at63 bs) (Scalar.g-room 𝓤 H A W E G84 10 τ1 (Scalar.room-sc 𝓤 H
+              A W (Row.sInt Syntax.w64))) d63
+
+          d65 : Typed.Typed 𝓤 H A 𝓣 E G83 b49 Δ0 (at65 bs)
+          d65 = Typed.s-seq 𝓤 H A W 𝓣 E G83 G84 b47 b48 Δ0 (Typed.pass T83 T84 (s78 bs)) (at64 bs) (Make'.t-make-told 𝓤 H A W E 𝓣 (Declared'.row
+              (Apart.apartT RequestAnswer.the-type)) Path'.refl (Laws'8.val (Apart.apartT RequestAnswer.the-type) Laws'3.the-laws) (Laws'8.lawful
+              (Apart.apartT RequestAnswer.the-type) Laws'3.the-laws 𝓤 H A W) (Laws'8.makes (Apart.apartT RequestAnswer.the-type) Laws'3.the-plain 𝓤 H
+              A) G83 0 ((Scalar.oAt 12 mirs.sched_core-RequestReply (Laws'6.val RequestReply.the-type Laws'4.the-laws)) ∷ (Scalar.oAt 13
+              mirs.sched_core-Station (Laws'8.val Station.the-type Laws'5.the-laws)) ∷ []) (λ m. (
+                m .1 .1 .1 .1 .1 .1 .1 .1 .1 .1 .1 .1 .0,
+                (
+                  m .1 .1
+                      .1 .1 .1 .1 .1 .1 .1 .1 .1 .1 .1 .0,
+                  tt,
+                ),
+              )) (λ m. Laws'7.Is (Declared.row RequestReply.the-type) (m .1 .1 .1 .1 .1 .1 .1 .1 .1 .1 .1 .1
+              .0) (Laws'6.vals RequestReply.the-type Laws'4.the-laws (m .1 .1 .1 .1 .1 .1 .1 .1 .1 .1 .1 .1 .0)) × Laws'7.Is (Declared'.row
+              Station.the-type) (m .1 .1 .1 .1 .1 .1 .1 .1 .1 .1 .1 .1 .1 .0) (Laws'8.vals Station.the-type Laws'5.the-laws (m .1 .1 .1 .1 .1 .1 .1 .1
+              .1 .1 .1 .1 .1 .0))) (Reads'.room-gone 𝓤 H A mirs.sched_core-RequestAnswer) (
+                (
+                  Whole.reads-enum 𝓤 H A W RequestReply.the-type
+                      Laws'4.the-laws,
+                  Path'.refl,
+                ),
+                ((Reads.reads-struct 𝓤 H A W Station.the-type Laws'5.the-laws, Path'.refl), tt),
+              ) Path'.refl (λ ρ m.
+              Make'.tells-both 𝓤 H A W E ρ (Row.out 0 (G83 .locals)) m (Laws'7.Is (Declared.row RequestReply.the-type) (m .1 .1 .1 .1 .1 .1 .1 .1 .1
+              .1 .1 .1 .0) (Laws'6.vals RequestReply.the-type Laws'4.the-laws (m .1 .1 .1 .1 .1 .1 .1 .1 .1 .1 .1 .1 .0))) (Laws'7.Is (Declared'.row
+              Station.the-type) (m .1 .1 .1 .1 .1 .1 .1 .1 .1 .1 .1 .1 .1 .0) (Laws'8.vals Station.the-type Laws'5.the-laws (m .1 .1 .1 .1 .1 .1 .1 .1
+              .1 .1 .1 .1 .1 .0))) (Make'.tells-row 𝓤 H A W E ρ (Row.out 0 (G83 .locals)) m 12 (Laws'7.Is (Declared.row RequestReply.the-type) (m .1
+              .1 .1 .1 .1 .1 .1 .1 .1 .1 .1 .1 .0) (Laws'6.vals RequestReply.the-type Laws'4.the-laws (m .1 .1 .1 .1 .1 .1 .1 .1 .1 .1 .1 .1 .0)))
+              (Make'.whole-is 𝓤 H A W E (Declared.row RequestReply.the-type) Path'.refl (Laws'6.val RequestReply.the-type Laws'4.the-laws)
+              (Laws'6.tells RequestReply.the-type Laws'4.the-laws) ρ 12 (m .1 .1 .1 .1 .1 .1 .1 .1 .1 .1 .1 .1 .0))) (Make'.tells-row 𝓤 H A W E ρ
+              (Row.out 0 (G83 .locals)) m 13 (Laws'7.Is (Declared'.row Station.the-type) (m .1 .1 .1 .1 .1 .1 .1 .1 .1 .1 .1 .1 .1 .0) (Laws'8.vals
+              Station.the-type Laws'5.the-laws (m .1 .1 .1 .1 .1 .1 .1 .1 .1 .1 .1 .1 .1 .0))) (Make'.whole-is 𝓤 H A W E (Declared'.row
+              Station.the-type) Path'.refl (Laws'8.val Station.the-type Laws'5.the-laws) (Laws'8.tells Station.the-type Laws'5.the-laws) ρ 13 (m .1 .1
+              .1 .1 .1 .1 .1 .1 .1 .1 .1 .1 .1 .0)))) (λ m q. Signed.made-val (Apart.apartT RequestAnswer.the-type) Laws'3.the-laws ((Laws'6.val
+              RequestReply.the-type Laws'4.the-laws (m .1 .1 .1 .1 .1 .1 .1 .1 .1 .1 .1 .1 .0)) ∷ (Laws'8.val Station.the-type Laws'5.the-laws (m .1
+              .1 .1 .1 .1 .1 .1 .1 .1 .1 .1 .1 .1 .0)) ∷ []) (
+                m .1 .1 .1 .1 .1 .1 .1 .1 .1 .1 .1 .1 .0,
+                (
+                  m .1 .1 .1 .1 .1 .1 .1 .1 .1 .1 .1 .1 .1 .0,
+                  tt,
+                ),
+              ) (
+                Make.made-enum RequestReply.the-type Laws'4.the-laws tt Laws'4.lowers (m .1 .1 .1 .1 .1 .1 .1 .1 .1 .1 .1 .1 .0) (q .0),
+                (Signed.made-struct Station.the-type Laws'5.the-laws Laws'5.lowers (m .1 .1 .1 .1 .1 .1 .1 .1 .1 .1 .1 .1 .1 .0) (q .1), tt),
+              )) λ m q.
+              Signed.made-is (Apart.apartT RequestAnswer.the-type) Laws'3.the-laws ((Laws'6.val RequestReply.the-type Laws'4.the-laws (m .1 .1 .1 .1
+              .1 .1 .1 .1 .1 .1 .1 .1 .0)) ∷ (Laws'8.val Station.the-type Laws'5.the-laws (m .1 .1 .1 .1 .1 .1 .1 .1 .1 .1 .1 .1 .1 .0)) ∷ []) (
+                m .1
+                    .1 .1 .1 .1 .1 .1 .1 .1 .1 .1 .1 .0,
+                (m .1 .1 .1 .1 .1 .1 .1 .1 .1 .1 .1 .1 .1 .0, tt),
+              ) (
+                Make.made-enum RequestReply.the-type
+                    Laws'4.the-laws tt Laws'4.lowers (m .1 .1 .1 .1 .1 .1 .1 .1 .1 .1 .1 .1 .0) (q .0),
+                (
+                  Signed.made-struct Station.the-type Laws'5.the-laws
+                      Laws'5.lowers (m .1 .1 .1 .1 .1 .1 .1 .1 .1 .1 .1 .1 .1 .0) (q .1),
+                  tt,
+                ),
+              )) d64
+
+          d66 : Typed.Typed 𝓤 H A 𝓣 E G82 b49 Δ0 (at66 bs)
+          d66 = Typed.g-pre 𝓤 H A W 𝓣 E G82 G83 b49 Δ0 (Typed.pass T82 T83 (s77 bs)) (at65 bs) (Scalar.g-room 𝓤 H A W E G82 9
+              mirs.request_core-RequestPlan (Local.room-whole 𝓤 H A W (Declared'.row RequestPlan.the-type) mirs.request_core-RequestPlan Path'.refl))
+              d65
+
+          d67 : Typed.Typed 𝓤 H A 𝓣 E G81 b50 Δ0 (at67 bs)
+          d67 = Typed.s-seq 𝓤 H A W 𝓣 E G81 G82 b46 b49 Δ0 (Typed.both (s76 bs)) (at66 bs) (WayStmt.t-way-copy-out 𝓤 H A W E 𝓣 (Declared'.row
+              Station.the-type) Path'.refl (Copies.cStruct Station.the-type Laws'5.the-laws Laws'5.the-copy .copy 𝓤 H A W) (λ ρ. Unit) G81 (Row.out 9
+              (G81 .locals)) (λ u. Row.drop 9 (G81 .locals) u) (G81 .slots) 9 (λ t. ((Syntax.field 1) ∷ t)) mirs.sched_core-Station
+              mirs.sched_core-Station 13 ρ5 (λ x. x) (λ u. At.getAt (RequestPlan.the-type .parts) 1 (RequestPlan.struct .as-values (u .1 .1 .1 .1 .1
+              .1 .1 .1 .1 .0))) (λ u. (Row.hd 0 (Row.tl (Row.tl (Row.tl (Row.tl (Row.tl (Row.tl (Row.tl (Row.tl (Row.tl bs))))))))), Nat._+_ 0 8)) (λ
+              T′. record { locals = Row.setRow 9 ε37 T′; slots = G81 .slots }) (λ u T′ m′. Row.set 9 ε37 (u .1 .1 .1 .1 .1 .1 .1 .1 .1 .0) T′ m′) (λ
+              u. Unit) (λ x. Unit) (Own.told-none 𝓤 H A (G81 .slots)) (DerefMove.learns-nothing 𝓤 H A (Declared'.row Station.the-type)) (λ ρ told u
+              asked. Way'.w-partˢ 𝓤 H A W E (Declared'.row RequestPlan.the-type) (Declared'.row Station.the-type) mirs.request_core-RequestPlan
+              mirs.sched_core-Station 1 8 (u .1 .1 .1 .1 .1 .1 .1 .1 .1 .0) (At.getAt (RequestPlan.the-type .parts) 1 (RequestPlan.struct .as-values
+              (u .1 .1 .1 .1 .1 .1 .1 .1 .1 .0))) (Row.hd 0 (Row.tl (Row.tl (Row.tl (Row.tl (Row.tl (Row.tl (Row.tl (Row.tl (Row.tl bs))))))))), 0)
+              (Way.w-look 𝓤 H A W E (Way.w-local 𝓤 H A W E G81 ρ u (G81 .slots) 9 (Declared'.row RequestPlan.the-type) ρ6 (λ x. x) (λ x. x) (u .1 .1
+              .1 .1 .1 .1 .1 .1 .1 .0) (Local.mem-whole 𝓤 H A W (Declared'.row RequestPlan.the-type) ρ (u .1 .1 .1 .1 .1 .1 .1 .1 .1 .0) (Row.hd 0
+              (Row.tl (Row.tl (Row.tl (Row.tl (Row.tl (Row.tl (Row.tl (Row.tl (Row.tl bs))))))))))) (Local.whole-mem 𝓤 H A W (Declared'.row
+              RequestPlan.the-type) ρ (u .1 .1 .1 .1 .1 .1 .1 .1 .1 .0) (Row.hd 0 (Row.tl (Row.tl (Row.tl (Row.tl (Row.tl (Row.tl (Row.tl (Row.tl
+              (Row.tl bs))))))))))))) Path'.refl λ q. Inner.cut-record 𝓤 H A q (Declared'.row RequestPlan.the-type) Station.the-type 8 (u .1 .1 .1 .1
+              .1 .1 .1 .1 .1 .0) (u .1 .1 .1 .1 .1 .1 .1 .1 .1 .0) (At.getAt (RequestPlan.the-type .parts) 1 (RequestPlan.struct .as-values (u .1 .1
+              .1 .1 .1 .1 .1 .1 .1 .0))) (At.getAt (RequestPlan.the-type .parts) 1 (RequestPlan.struct .as-values (u .1 .1 .1 .1 .1 .1 .1 .1 .1 .0)))
+              (Row.hd 0 (Row.tl (Row.tl (Row.tl (Row.tl (Row.tl (Row.tl (Row.tl (Row.tl (Row.tl bs))))))))), 0) (Behind.look-at 𝓤 H A W q
+              RequestPlan.the-type Laws'.the-laws 1 8 Path'.refl Path'.refl (
+                Row.hd 0 (Row.tl (Row.tl (Row.tl (Row.tl (Row.tl (Row.tl (Row.tl (Row.tl
+                    (Row.tl bs))))))))),
+                0,
+              ) (u .1 .1 .1 .1 .1 .1 .1 .1 .1 .0) (RequestPlan.struct .as-values (u .1 .1 .1 .1 .1 .1 .1 .1 .1 .0)) Path'.refl))
+              (Reads'.room-gone 𝓤 H A mirs.sched_core-Station) (Yields.makes-mem 𝓤 H A W (λ ρ. Unit) (Declared'.row Station.the-type) Path'.refl ρ5 (λ
+              x. x) λ ρ told. Local.whole-mem 𝓤 H A W (Declared'.row Station.the-type) ρ) Path'.refl Path'.refl Path'.refl) d66
+
+          d68 : Typed.Typed 𝓤 H A 𝓣 E G80 b51 Δ0 (at68 bs)
+          d68 = Typed.s-seq 𝓤 H A W 𝓣 E G80 G81 b45 b50 Δ0 (Typed.pass T79 T81 (s75 bs)) (at67 bs) (CopyOut.t-copy-told 𝓤 H A W E 𝓣 (Declared.row
+              RequestReply.the-type) Path'.refl (Laws'6.val RequestReply.the-type Laws'4.the-laws) (Laws'6.lawful RequestReply.the-type
+              Laws'4.the-laws 𝓤 H A W tt) (Laws'6.makes RequestReply.the-type Laws'4.the-plain 𝓤 H A) G80 12 (Scalar.oFld 9 ((Syntax.field 0) ∷ [])
+              mirs.sched_core-RequestReply 0 λ x. Laws'6.val RequestReply.the-type Laws'4.the-laws (RequestPlan.struct .as-values x .0)) (λ m.
+              RequestPlan.struct .as-values (m .1 .1 .1 .1 .1 .1 .1 .1 .1 .0) .0) (λ m. Laws'7.Is (Declared'.row RequestPlan.the-type) (m .1 .1 .1 .1
+              .1 .1 .1 .1 .1 .0) (Laws'8.vals RequestPlan.the-type Laws'.the-laws (m .1 .1 .1 .1 .1 .1 .1 .1 .1 .0))) (Reads'.room-gone 𝓤 H A
+              mirs.sched_core-RequestReply) (
+                Reads.reads-field 𝓤 H A W RequestPlan.the-type Laws'.the-laws 0 mirs.sched_core-RequestReply 0
+                    Path'.refl,
+                Path'.refl,
+              ) Path'.refl (λ ρ m. Make'.tells-row 𝓤 H A W E ρ (Row.out 12 (G80 .locals)) m 9 (Laws'7.Is (Declared'.row
+              RequestPlan.the-type) (m .1 .1 .1 .1 .1 .1 .1 .1 .1 .0) (Laws'8.vals RequestPlan.the-type Laws'.the-laws (m .1 .1 .1 .1 .1 .1 .1 .1 .1
+              .0))) (Make'.whole-is 𝓤 H A W E (Declared'.row RequestPlan.the-type) Path'.refl (Laws'8.val RequestPlan.the-type Laws'.the-laws)
+              (Laws'8.tells RequestPlan.the-type Laws'.the-laws) ρ 9 (m .1 .1 .1 .1 .1 .1 .1 .1 .1 .0))) (λ m k wa. Path'.refl) λ m k wa. Laws'8.owed
+              RequestPlan.the-type Laws'.the-laws (m .1 .1 .1 .1 .1 .1 .1 .1 .1 .0) (Laws'8.vals RequestPlan.the-type Laws'.the-laws (m .1 .1 .1 .1 .1
+              .1 .1 .1 .1 .0)) k .0) d67
+
+          d69 : Typed.Typed 𝓤 H A 𝓣 E G79 b51 Δ0 (at69 bs)
+          d69 = Typed.g-pre 𝓤 H A W 𝓣 E G79 G80 b51 Δ0 (λ Ψ. Ψ) (at68 bs) (Lifetime.g-forget 𝓤 H A W E G79 3 Row.dead Path'.refl) d68
+
+          d70 : Typed.Typed 𝓤 H A 𝓣 E G78 b51 Δ0 (at70 bs)
+          d70 = Typed.g-pre 𝓤 H A W 𝓣 E G78 G79 b51 Δ0 (Typed.both (s73 bs)) (at69 bs) (Relend.g-back-sl 𝓤 H A W E in-Record.row G78 25 2 0 3 τ6 τ5
+              (Row.lease (κs .0) (qs .0)) (λ x. x) (λ x. x) (Reads'.as-is 𝓤 H A (Mut.msleft in-Record.row τ5)) (Reads'.as-is 𝓤 H A (Relend.mslice-owed
+              in-Record.row τ6 0 3 (Row.lease (κs .0) (qs .0)))) Path'.refl Path'.refl) d69
+
+          d71 : Typed.Typed 𝓤 H A 𝓣 E G77 b51 Δ0 (at71 bs)
+          d71 = Typed.g-pre 𝓤 H A W 𝓣 E G77 G78 b51 Δ0 (λ Ψ. Ψ) (at70 bs) (Lifetime.g-end 𝓤 H A W E G77 3 Path'.refl) d70
+
+          d72 : Typed.Typed 𝓤 H A 𝓣 E G76 b51 Δ0 (at72 bs)
+          d72 = Typed.g-pre 𝓤 H A W 𝓣 E G76 G77 b51 Δ0 (Typed.pass T76 T77 (s71 bs)) (at71 bs) (Scalar.g-room 𝓤 H A W E G76 23 Syntax.tyUnit
+              (Scalar.room-sc 𝓤 H A W Row.sUnit)) d71
+
+          d73 : Typed.Typed 𝓤 H A 𝓣 E G75 b51 Δ0 (at73 bs)
+          d73 = Typed.g-pre 𝓤 H A W 𝓣 E G75 G76 b51 Δ0 (Typed.pass T75 T76 (s70 bs)) (at72 bs) (Scalar.g-room 𝓤 H A W E G75 11 mirs.dl_record-Record
+              (Local.room-whole 𝓤 H A W (Declared'.row Record.the-type) mirs.dl_record-Record Path'.refl)) d72
+
+          d74 : Typed.Typed 𝓤 H A 𝓣 E G74 b52 Δ0 (at74 bs)
+          d74 = Typed.s-seq 𝓤 H A W 𝓣 E G74 G75 b44 b51 Δ0 (Typed.both (s69 bs)) (at73 bs) (Plain.t-call-plain 𝓤 H A W 𝓣 1 ps·4 r·4 (claims· .8)
+              (claims· .9) "bs_sched::put_record" (known .4) E (λ pos β. β) G74 (
                 record {
-                  pos = 20;
-                  ty = Syntax.tyRef Syntax.erased Syntax.imm
+                  pos = 25;
+                  ty = Syntax.tyRef Syntax.erased Syntax.mut
                       in-Record.at;
                   ref = λ x. x;
                 },
-                tt,
-              ) 8 (2 ∷ []) (Call.sub-id 𝓤 H A W (G47 .slots)) (
-                ShrSlice.spares-sslice 𝓤 H A W in-Record.row τ4 2,
-                Shared.reads-sslice 𝓤 H A W in-Record.row τ4 2,
+                (Num.vAt 10 λ x. x, (record { pos = 11; st = []; d = 0; at = λ x. x }, tt)),
+              ) 23 (3 ∷ []) (Call.sub-id 𝓤 H
+              A W (G74 .slots)) (
+                Reads'.as-is 𝓤 H A (Mut.mslice in-Record.row τ5 3),
+                Mut.reads-mslice 𝓤 H A W in-Record.row τ5 3,
                 Path'.refl,
-                tt,
-              ) (Reads'.room-gone 𝓤 H A τ3) (tt, tt) Path'.refl) d70
+                (
+                  (Scalar.reads-sc 𝓤 H A W (Row.sInt Syntax.w64), Path'.refl),
+                  (
+                    (
+                      Yields.yields-copy 𝓤 H A W (λ ρ. Unit) (Declared'.row Record.the-type)
+                          Path'.refl (Copies.cStruct Record.the-type Laws.the-laws Laws.the-copy .copy 𝓤 H A W) ρ3 (λ x. x) (λ x. x) (λ ρ told. Local.mem-whole 𝓤
+                          H A W (Declared'.row Record.the-type) ρ) λ ρ told. Local.whole-mem 𝓤 H A W (Declared'.row Record.the-type) ρ,
+                      Path'.refl,
+                    ),
+                    tt,
+                  ),
+                ),
+              )
+              (Reads'.room-gone 𝓤 H A Syntax.tyUnit) (tt, tt) Path'.refl) d73
 
-          d72 : Typed.Typed 𝓤 H A 𝓣 E G46 b48 Δ0 (at72 bs)
-          d72 = Typed.s-seq 𝓤 H A W 𝓣 E G46 G47 b28 b47 Δ0 (Typed.ask (s42 bs)) (at71 bs) (Relend.t-sl-aggregate 𝓤 H A W E in-Record.row 𝓣
-              (Relend.asShr in-Record.row) G46 19 20 2 τ4 τ4 (λ x. x) (Scalar.oFld 2 ((Syntax.field 1) ∷ []) τ1 8 λ v. Shared.lenV (v .0))
-              (Reads'.as-is 𝓤 H A (Relend.ssptr in-Record.row τ4 2)) (Reads'.room-gone 𝓤 H A τ7) (
-                Reshare.reads-owedS-len 𝓤 H A W in-Record.row τ6 0 2
+          d75 : Typed.Typed 𝓤 H A 𝓣 E G73 b53 Δ0 (at75 bs)
+          d75 = Typed.s-seq 𝓤 H A W 𝓣 E G73 G74 b43 b52 Δ0 (Typed.ask (s68 bs)) (at74 bs) (Relend.t-sl-aggregate 𝓤 H A W E in-Record.row 𝓣
+              (Relend.asMut in-Record.row) G73 24 25 3 τ5 τ5 (λ x. x) (Scalar.oFld 2 ((Syntax.field 1) ∷ []) τ1 8 λ v. Shared.lenV (v .0))
+              (Reads'.as-is 𝓤 H A (Relend.msptr in-Record.row τ5 3)) (Reads'.room-gone 𝓤 H A τ8) (
+                Relend.reads-owed-len 𝓤 H A W in-Record.row τ6 0 3
                     (Row.lease (κs .0) (qs .0)) 8 Path'.refl,
                 Path'.refl,
-              ) Path'.refl Path'.refl λ b o k. tt) d71
+              ) Path'.refl Path'.refl λ b o k. tt) d74
 
-          d73 : Typed.Typed 𝓤 H A 𝓣 E G45 b49 Δ0 (at73 bs)
-          d73 = Typed.s-seq 𝓤 H A W 𝓣 E G45 G46 b27 b48 Δ0 (Typed.give (s41 bs)) (at72 bs) (Reshare.t-sl-reshare 𝓤 H A W E in-Record.row 𝓣 G45 2 19 0
-              2 τ6 τ4 (Row.lease (κs .0) (qs .0)) 0 (λ x. x) (Reads'.as-is 𝓤 H A ρ1) (Reads'.room-gone 𝓤 H A τ4) Path'.refl tt Path'.refl Path'.refl
-              Path'.refl λ b o. tt) d72
+          d76 : Typed.Typed 𝓤 H A 𝓣 E G72 b54 Δ0 (at76 bs)
+          d76 = Typed.s-seq 𝓤 H A W 𝓣 E G72 G73 b42 b53 Δ0 (Typed.give (s67 bs)) (at75 bs) (Relend.t-sl-relend 𝓤 H A W E in-Record.row 𝓣 G72 2 24 0 3
+              τ6 τ5 (Row.lease (κs .0) (qs .0)) 0 (λ x. x) (Reads'.as-is 𝓤 H A ρ1) (Reads'.room-gone 𝓤 H A τ5) Path'.refl tt Path'.refl Path'.refl
+              Path'.refl λ b o. tt) d75
 
-          d74 : Typed.Typed 𝓤 H A 𝓣 E G33 b49 Δ0 (at74 bs)
-          d74 = Typed.g-pre 𝓤 H A W 𝓣 E G33 G45 b49 Δ0 (λ Ψ. Ψ) (at73 bs) (Lifetime.g-begin 𝓤 H A W E G33 2 (
+          d77 : Typed.Typed 𝓤 H A 𝓣 E G71 b54 Δ0 (at77 bs)
+          d77 = Typed.g-pre 𝓤 H A W 𝓣 E G71 G72 b54 Δ0 (λ Ψ. Ψ) (at76 bs) (Lifetime.g-begin 𝓤 H A W E G71 3 (
             tt,
             (
               tt,
@@ -2485,7 +2701,7 @@ module _ (claims· : Claims) where
                         tt,
                         (
                           tt,
-                          (tt, (tt, (tt, (tt, (tt, (tt, (tt, (tt, (tt, (tt, (tt, (tt, (tt, (tt, (tt, (tt, tt)))))))))))))))),
+                          (tt, (tt, (tt, (tt, (tt, (tt, (tt, (tt, (tt, (tt, (tt, (tt, (tt, (tt, (tt, (tt, (tt, (tt, tt)))))))))))))))))),
                         ),
                       ),
                     ),
@@ -2493,78 +2709,292 @@ module _ (claims· : Claims) where
                 ),
               ),
             ),
-          )) d73
+          )) d76
 
-          d75 : Typed.Typed 𝓤 H A 𝓣 E G32 b50 Δ0 (at75 bs)
-          d75 = Typed.t-seq 𝓤 H A W 𝓣 E G32 G33 b26 b49 Δ0 (at41 bs) (at74 bs) d41 d74
+          d78 : Typed.Typed 𝓤 H A 𝓣 E G70 b55 Δ0 (at78 bs)
+          d78 = Typed.s-seq 𝓤 H A W 𝓣 E G70 G71 b41 b54 Δ0 (Typed.both (s65 bs)) (at77 bs) (WayStmt.t-way-copy-out 𝓤 H A W E 𝓣 (Declared'.row
+              Record.the-type) Path'.refl (Copies.cStruct Record.the-type Laws.the-laws Laws.the-copy .copy 𝓤 H A W) (λ ρ. Unit) G70 (Row.out 9 (G70
+              .locals)) (λ u. Row.drop 9 (G70 .locals) u) (G70 .slots) 9 (λ t. ((Syntax.field 3) ∷ t)) mirs.dl_record-Record mirs.dl_record-Record 11
+              ρ3 (λ x. x) (λ u. At.getAt (RequestPlan.the-type .parts) 3 (RequestPlan.struct .as-values (u .1 .1 .1 .1 .1 .1 .1 .1 .1 .0))) (λ u.
+              (Row.hd 0 (Row.tl (Row.tl (Row.tl (Row.tl (Row.tl (Row.tl (Row.tl (Row.tl (Row.tl bs))))))))), Nat._+_ 0 1472)) (λ T′. record {
+                locals =
+                    Row.setRow 9 ε37 T′;
+                slots = G70 .slots;
+              }) (λ u T′ m′. Row.set 9 ε37 (u .1 .1 .1 .1 .1 .1 .1 .1 .1 .0) T′ m′) (λ u. Unit) (λ x. Unit)
+              (Own.told-none 𝓤 H A (G70 .slots)) (DerefMove.learns-nothing 𝓤 H A (Declared'.row Record.the-type)) (λ ρ told u asked. Way'.w-partˢ 𝓤 H
+              A W E (Declared'.row RequestPlan.the-type) (Declared'.row Record.the-type) mirs.request_core-RequestPlan mirs.dl_record-Record 3 1472 (u
+              .1 .1 .1 .1 .1 .1 .1 .1 .1 .0) (At.getAt (RequestPlan.the-type .parts) 3 (RequestPlan.struct .as-values (u .1 .1 .1 .1 .1 .1 .1 .1 .1
+              .0))) (Row.hd 0 (Row.tl (Row.tl (Row.tl (Row.tl (Row.tl (Row.tl (Row.tl (Row.tl (Row.tl bs))))))))), 0) (Way.w-look 𝓤 H A W E
+              (Way.w-local 𝓤 H A W E G70 ρ u (G70 .slots) 9 (Declared'.row RequestPlan.the-type) ρ6 (λ x. x) (λ x. x) (u .1 .1 .1 .1 .1 .1 .1 .1 .1
+              .0) (Local.mem-whole 𝓤 H A W (Declared'.row RequestPlan.the-type) ρ (u .1 .1 .1 .1 .1 .1 .1 .1 .1 .0) (Row.hd 0 (Row.tl (Row.tl (Row.tl
+              (Row.tl (Row.tl (Row.tl (Row.tl (Row.tl (Row.tl bs))))))))))) (Local.whole-mem 𝓤 H A W (Declared'.row RequestPlan.the-type) ρ (u .1 .1
+              .1 .1 .1 .1 .1 .1 .1 .0) (Row.hd 0 (Row.tl (Row.tl (Row.tl (Row.tl (Row.tl (Row.tl (Row.tl (Row.tl (Row.tl bs))))))))))))) Path'.refl λ
+              q. Inner.cut-record 𝓤 H A q (Declared'.row RequestPlan.the-type) Record.the-type 1472 (u .1 .1 .1 .1 .1 .1 .1 .1 .1 .0) (u .1 .1 .1 .1
+              .1 .1 .1 .1 .1 .0) (At.getAt (RequestPlan.the-type .parts) 3 (RequestPlan.struct .as-values (u .1 .1 .1 .1 .1 .1 .1 .1 .1 .0)))
+              (At.getAt (RequestPlan.the-type .parts) 3 (RequestPlan.struct .as-values (u .1 .1 .1 .1 .1 .1 .1 .1 .1 .0))) (
+                Row.hd 0 (Row.tl (Row.tl
+                    (Row.tl (Row.tl (Row.tl (Row.tl (Row.tl (Row.tl (Row.tl bs))))))))),
+                0,
+              ) (Behind.look-at 𝓤 H A W q RequestPlan.the-type Laws'.the-laws 3
+              1472 Path'.refl Path'.refl (Row.hd 0 (Row.tl (Row.tl (Row.tl (Row.tl (Row.tl (Row.tl (Row.tl (Row.tl (Row.tl bs))))))))), 0) (u .1 .1 .1
+              .1 .1 .1 .1 .1 .1 .0) (RequestPlan.struct .as-values (u .1 .1 .1 .1 .1 .1 .1 .1 .1 .0)) Path'.refl)) (Reads'.room-gone 𝓤 H A
+              mirs.dl_record-Record) (Yields.makes-mem 𝓤 H A W (λ ρ. Unit) (Declared'.row Record.the-type) Path'.refl ρ3 (λ x. x) λ ρ told.
+              Local.whole-mem 𝓤 H A W (Declared'.row Record.the-type) ρ) Path'.refl Path'.refl Path'.refl) d77
 
-          d76 : Typed.Typed 𝓤 H A 𝓣 E G31 b51 Δ0 (at76 bs)
-          d76 = Typed.s-seq 𝓤 H A W 𝓣 E G31 G32 b19 b50 Δ0 (Typed.ask (s28 bs)) (at75 bs) (Scalar.t-op2 𝓤 H A W E 𝓣 G31 Syntax.ne (Scalar.oAt 16 τ1
-              (Row.valS (Row.sInt Syntax.w64))) (Scalar.oBig Syntax.w64 16384) 14 ρ0 Syntax.tyBool (Row.valS Row.sBool) (Row.sBool .of)
+          d79 : Typed.Typed 𝓤 H A 𝓣 E G69 b56 Δ0 (at79 bs)
+          d79 = Typed.s-seq 𝓤 H A W 𝓣 E G69 G70 b40 b55 Δ0 (Typed.pass T69 T70 (s64 bs)) (at78 bs) (Scalar.t-use 𝓤 H A W E 𝓣 G69 (Scalar.oFld 9
+              ((Syntax.field 2) ∷ []) τ1 1464 (Reads.fieldV RequestPlan.the-type Laws'.the-laws 2)) 10 ρ2 τ1 (Row.valS (Row.sInt Syntax.w64))
+              (Row.sInt Syntax.w64 .of) (Reads.reads-field 𝓤 H A W RequestPlan.the-type Laws'.the-laws 2 τ1 1464 Path'.refl, Path'.refl)
+              (Reads'.room-gone 𝓤 H A τ1) (Scalar.holds-sc 𝓤 H A W (Row.sInt Syntax.w64)) Path'.refl (λ u. Path'.refl) λ u. tt) d78
+
+          d80 : Typed.Typed 𝓤 H A 𝓣 E G68 b56 Δ0 (at80 bs)
+          d80 = Typed.g-pre 𝓤 H A W 𝓣 E G68 G69 b56 Δ0 (Typed.pass T68 T69 (s63 bs)) (at79 bs) (Scalar.g-room 𝓤 H A W E G68 1 mirs.sched_core-Station
+              (Local.room-whole 𝓤 H A W (Declared'.row Station.the-type) mirs.sched_core-Station Path'.refl)) d79
+
+          d81 : Typed.Typed 𝓤 H A 𝓣 E G56 b57 Δ0 (at81 bs)
+          d81 = Typed.s-seq 𝓤 H A W 𝓣 E G56 G68 b39 b56 Δ0 (Typed.both (s62 bs)) (at80 bs) (Plain.t-call-plain 𝓤 H A W 𝓣 0 ps·3 r·3 (claims· .6)
+              (claims· .7) "request_core::request_plan" (known .3) E (λ pos β. β) G56 (
+                record { pos = 1; st = []; d = 0; at = λ x. x },
+                (
+                  Num.vAt 4 λ
+                      x. x,
+                  (Num.vAt 5 λ x. x, (Num.vAt 6 λ x. x, (Num.vAt 7 λ x. x, tt))),
+                ),
+              ) 9 [] (Call.sub-id 𝓤 H A W (G56 .slots)) (
+                (
+                  Yields.yields-copy 𝓤 H
+                      A W (λ ρ. Unit) (Declared'.row Station.the-type) Path'.refl (Copies.cStruct Station.the-type Laws'5.the-laws Laws'5.the-copy .copy 𝓤 H A
+                      W) ρ5 (λ x. x) (λ x. x) (λ ρ told. Local.mem-whole 𝓤 H A W (Declared'.row Station.the-type) ρ) λ ρ told. Local.whole-mem 𝓤 H A W
+                      (Declared'.row Station.the-type) ρ,
+                  Path'.refl,
+                ),
+                (
+                  (Scalar.reads-sc 𝓤 H A W (Row.sInt Syntax.w8), Path'.refl),
+                  (
+                    (
+                      Scalar.reads-sc 𝓤 H A W
+                          (Row.sInt Syntax.w8),
+                      Path'.refl,
+                    ),
+                    (
+                      (Scalar.reads-sc 𝓤 H A W (Row.sInt Syntax.w8), Path'.refl),
+                      (
+                        (
+                          Scalar.reads-sc 𝓤 H A W (Row.sInt
+                              Syntax.w32),
+                          Path'.refl,
+                        ),
+                        tt,
+                      ),
+                    ),
+                  ),
+                ),
+              ) (Reads'.room-gone 𝓤 H A mirs.request_core-RequestPlan) tt Path'.refl) d80
+
+          d82 : Typed.Typed 𝓤 H A 𝓣 E G55 b58 Δ0 (at82 bs)
+          d82 = Typed.t-seq 𝓤 H A W 𝓣 E G55 G56 b38 b57 Δ0 (at55 bs) (at81 bs) d55 d81
+
+          d83 : Typed.Typed 𝓤 H A 𝓣 E G54 b59 Δ0 (at83 bs)
+          d83 = Typed.s-seq 𝓤 H A W 𝓣 E G54 G55 b31 b58 Δ0 (Typed.ask (s50 bs)) (at82 bs) (Scalar.t-op1 𝓤 H A W E 𝓣 G54 Syntax.bitNot (Scalar.oAt 14
+              Syntax.tyBool (Row.valS Row.sBool)) 15 ρ0 Syntax.tyBool (Row.valS Row.sBool) (Row.sBool .of) (
+                Scalar.reads-sc 𝓤 H A W Row.sBool,
+                Path'.refl,
+              ) (Reads'.room-gone 𝓤 H A Syntax.tyBool) (Scalar.holds-sc 𝓤 H A W Row.sBool) Path'.refl (λ u. Path'.refl) λ u. tt) d82
+
+          d84 : Typed.Typed 𝓤 H A 𝓣 E G53 b59 Δ0 (at84 bs)
+          d84 = Typed.g-pre 𝓤 H A W 𝓣 E G53 G54 b59 Δ0 (λ Ψ. Ψ) (at83 bs) (Lifetime.g-forget 𝓤 H A W E G53 2 Row.dead Path'.refl) d83
+
+          d85 : Typed.Typed 𝓤 H A 𝓣 E G52 b59 Δ0 (at85 bs)
+          d85 = Typed.g-pre 𝓤 H A W 𝓣 E G52 G53 b59 Δ0 (Typed.pass T51 T53 (s48 bs)) (at84 bs) (Reshare.g-back-sl-shr 𝓤 H A W E in-Record.row G52 2 0
+              2 τ6 (Row.lease (κs .0) (qs .0)) (λ x. x) (Reads'.as-is 𝓤 H A (Reshare.mslice-owedS in-Record.row τ6 0 2 (Row.lease (κs .0) (qs .0))))
+              Path'.refl Path'.refl) d84
+
+          d86 : Typed.Typed 𝓤 H A 𝓣 E G51 b59 Δ0 (at86 bs)
+          d86 = Typed.g-pre 𝓤 H A W 𝓣 E G51 G52 b59 Δ0 (λ Ψ. Ψ) (at85 bs) (Lifetime.g-end 𝓤 H A W E G51 2 Path'.refl) d85
+
+          d87 : Typed.Typed 𝓤 H A 𝓣 E G50 b59 Δ0 (at87 bs)
+          d87 = Typed.g-pre 𝓤 H A W 𝓣 E G50 G51 b59 Δ0 (Typed.pass T50 T51 (s46 bs)) (at86 bs) (Scalar.g-room 𝓤 H A W E G50 8 τ3 (Init.room-arr 𝓤 H A
+              W (Referent.rtF (Referent.fInt Syntax.w8)) 4 0 4 Path'.refl)) d86
+
+          d88 : Typed.Typed 𝓤 H A 𝓣 E G49 b59 Δ0 (at88 bs)
+          d88 = Typed.g-pre 𝓤 H A W 𝓣 E G49 G50 b59 Δ0 (Typed.pass T49 T50 (s45 bs)) (at87 bs) (Scalar.g-room 𝓤 H A W E G49 21 τ7 (Shared.room-sslice
+              𝓤 H A W in-Record.row τ4 2)) d87
+
+          d89 : Typed.Typed 𝓤 H A 𝓣 E G48 b60 Δ0 (at89 bs)
+          d89 = Typed.s-seq 𝓤 H A W 𝓣 E G48 G49 b30 b59 Δ0 (Typed.both (s44 bs)) (at88 bs) (Plain.t-call-plain 𝓤 H A W 𝓣 2 ps·2 r·2 (claims· .4)
+              (claims· .5) "bs_sched::queue_is_sound" (known .2) E (λ pos β. β) G48 (
+                record { pos = 8; st = []; d = 0; at = λ x. x },
+                (
+                  record {
+                    pos =
+                        21;
+                    ty = Syntax.tyRef Syntax.erased Syntax.imm in-Record.at;
+                    ref = λ x. x;
+                  },
+                  (
+                    record {
+                      pos = 3;
+                      ty = Syntax.tyRef (Syntax.named 1)
+                          Syntax.imm τ0;
+                      ref = λ x. x;
+                    },
+                    tt,
+                  ),
+                ),
+              ) 14 (2 ∷ 1 ∷ []) (Call.sub-id 𝓤 H A W (G48 .slots)) (
+                (
+                  Array.arr-yields 𝓤 H A W (Array.eInt
+                      Syntax.w8) (Array.eInt-laws Syntax.w8) 4,
+                  Path'.refl,
+                ),
+                (
+                  ShrSlice.spares-sslice 𝓤 H A W in-Record.row τ4 2,
+                  Shared.reads-sslice 𝓤 H A W
+                      in-Record.row τ4 2,
+                  Path'.refl,
+                  (
+                    ShrSlice.spares-sslice 𝓤 H A W (Referent.rtF (Referent.fInt Syntax.w8)) τ9 1,
+                    Shared.reads-sslice 𝓤 H A
+                        W (Referent.rtF (Referent.fInt Syntax.w8)) τ9 1,
+                    Path'.refl,
+                    tt,
+                  ),
+                ),
+              ) (Reads'.room-gone 𝓤 H A Syntax.tyBool) (tt, (tt, tt)) Path'.refl) d88
+
+          d90 : Typed.Typed 𝓤 H A 𝓣 E G47 b61 Δ0 (at90 bs)
+          d90 = Typed.s-seq 𝓤 H A W 𝓣 E G47 G48 b29 b60 Δ0 (Typed.ask (s43 bs)) (at89 bs) (Relend.t-sl-aggregate 𝓤 H A W E in-Record.row 𝓣
+              (Relend.asShr in-Record.row) G47 20 21 2 τ4 τ4 (λ x. x) (Scalar.oFld 2 ((Syntax.field 1) ∷ []) τ1 8 λ v. Shared.lenV (v .0))
+              (Reads'.as-is 𝓤 H A (Relend.ssptr in-Record.row τ4 2)) (Reads'.room-gone 𝓤 H A τ7) (
+                Reshare.reads-owedS-len 𝓤 H A W in-Record.row τ6 0 2
+                    (Row.lease (κs .0) (qs .0)) 8 Path'.refl,
+                Path'.refl,
+              ) Path'.refl Path'.refl λ b o k. tt) d89
+
+          d91 : Typed.Typed 𝓤 H A 𝓣 E G46 b62 Δ0 (at91 bs)
+          d91 = Typed.s-seq 𝓤 H A W 𝓣 E G46 G47 b28 b61 Δ0 (Typed.give (s42 bs)) (at90 bs) (Reshare.t-sl-reshare 𝓤 H A W E in-Record.row 𝓣 G46 2 20 0
+              2 τ6 τ4 (Row.lease (κs .0) (qs .0)) 0 (λ x. x) (Reads'.as-is 𝓤 H A ρ1) (Reads'.room-gone 𝓤 H A τ4) Path'.refl tt Path'.refl Path'.refl
+              Path'.refl λ b o. tt) d90
+
+          d92 : Typed.Typed 𝓤 H A 𝓣 E G45 b62 Δ0 (at92 bs)
+          d92 = Typed.g-pre 𝓤 H A W 𝓣 E G45 G46 b62 Δ0 (λ Ψ. Ψ) (at91 bs) (Lifetime.g-begin 𝓤 H A W E G45 2 (
+            tt,
+            (
+              tt,
+              (
+                tt,
+                (
+                  tt,
+                  (
+                    tt,
+                    (
+                      tt,
+                      (
+                        tt,
+                        (
+                          tt,
+                          (tt, (tt, (tt, (tt, (tt, (tt, (tt, (tt, (tt, (tt, (tt, (tt, (tt, (tt, (tt, (tt, (tt, (tt, tt)))))))))))))))))),
+                        ),
+                      ),
+                    ),
+                  ),
+                ),
+              ),
+            ),
+          )) d91
+
+          d93 : Typed.Typed 𝓤 H A 𝓣 E G33 b63 Δ0 (at93 bs)
+          d93 = Typed.s-seq 𝓤 H A W 𝓣 E G33 G45 b27 b62 Δ0 (Typed.both (s40 bs)) (at92 bs) (WayStmt.t-way-copy-out 𝓤 H A W E 𝓣 (Array'.Array
+              (Referent.rtF (Referent.fInt Syntax.w8)) 4) Path'.refl (Copies.cArr (Referent.rtF (Referent.fInt Syntax.w8)) (Copies.cRf (Referent.fInt
+              Syntax.w8)) 4 .copy 𝓤 H A W) (λ ρ. Unit) G33 (Row.out 1 (G33 .locals)) (λ u. Row.drop 1 (G33 .locals) u) (G33 .slots) 1 (λ t.
+              ((Syntax.field 6) ∷ t)) τ3 τ3 8 ρ8 (λ x. x) (λ u. At.getAt (Station.the-type .parts) 6 (Station.struct .as-values (u .1 .0))) (λ u.
+              (Row.hd 0 (Row.tl bs), Nat._+_ 0 1452)) (λ T′. record { locals = Row.setRow 1 ε31 T′; slots = G33 .slots }) (λ u T′ m′. Row.set 1 ε31 (u
+              .1 .0) T′ m′) (λ u. Unit) (λ x. Unit) (Own.told-none 𝓤 H A (G33 .slots)) (DerefMove.learns-nothing 𝓤 H A (Array'.Array (Referent.rtF
+              (Referent.fInt Syntax.w8)) 4)) (λ ρ told u asked. Way'.w-partˢ 𝓤 H A W E (Declared'.row Station.the-type) (Array'.Array (Referent.rtF
+              (Referent.fInt Syntax.w8)) 4) mirs.sched_core-Station τ3 6 1452 (u .1 .0) (At.getAt (Station.the-type .parts) 6 (Station.struct
+              .as-values (u .1 .0))) (Row.hd 0 (Row.tl bs), 0) (Way.w-look 𝓤 H A W E (Way.w-local 𝓤 H A W E G33 ρ u (G33 .slots) 1 (Declared'.row
+              Station.the-type) ρ5 (λ x. x) (λ x. x) (u .1 .0) (Local.mem-whole 𝓤 H A W (Declared'.row Station.the-type) ρ (u .1 .0) (Row.hd 0 (Row.tl
+              bs))) (Local.whole-mem 𝓤 H A W (Declared'.row Station.the-type) ρ (u .1 .0) (Row.hd 0 (Row.tl bs))))) Path'.refl λ q. Items.cut-array 𝓤
+              H A q (Declared'.row Station.the-type) (Referent.rtF (Referent.fInt Syntax.w8)) 4 1452 (u .1 .0) (u .1 .0) (At.getAt (Station.the-type
+              .parts) 6 (Station.struct .as-values (u .1 .0))) (At.getAt (Station.the-type .parts) 6 (Station.struct .as-values (u .1 .0))) (
+                Row.hd 0
+                    (Row.tl bs),
+                0,
+              ) (Behind.look-at 𝓤 H A W q Station.the-type Laws'5.the-laws 6 1452 Path'.refl Path'.refl (Row.hd 0 (Row.tl bs), 0) (u .1
+              .0) (Station.struct .as-values (u .1 .0)) Path'.refl)) (Reads'.room-gone 𝓤 H A τ3) (Yields.makes-mem 𝓤 H A W (λ ρ. Unit) (Array'.Array
+              (Referent.rtF (Referent.fInt Syntax.w8)) 4) Path'.refl ρ8 (λ x. x) λ ρ told. Whole'.arr-mem 𝓤 H A W (Referent.rtF (Referent.fInt
+              Syntax.w8)) 4 tt ρ) Path'.refl Path'.refl Path'.refl) d92
+
+          d94 : Typed.Typed 𝓤 H A 𝓣 E G32 b64 Δ0 (at94 bs)
+          d94 = Typed.t-seq 𝓤 H A W 𝓣 E G32 G33 b26 b63 Δ0 (at41 bs) (at93 bs) d41 d93
+
+          d95 : Typed.Typed 𝓤 H A 𝓣 E G31 b65 Δ0 (at95 bs)
+          d95 = Typed.s-seq 𝓤 H A W 𝓣 E G31 G32 b19 b64 Δ0 (Typed.ask (s28 bs)) (at94 bs) (Scalar.t-op2 𝓤 H A W E 𝓣 G31 Syntax.ne (Scalar.oAt 17 τ1
+              (Row.valS (Row.sInt Syntax.w64))) (Scalar.oBig Syntax.w64 16384) 15 ρ0 Syntax.tyBool (Row.valS Row.sBool) (Row.sBool .of)
               (Scalar.reads-sc 𝓤 H A W (Row.sInt Syntax.w64), Path'.refl) record { lower = record { fits = Dec'.lit< tt } } (Reads'.room-gone 𝓤 H A
-              Syntax.tyBool) (Scalar.holds-sc 𝓤 H A W Row.sBool) Path'.refl (λ u. Path'.refl) λ u. tt) d75
+              Syntax.tyBool) (Scalar.holds-sc 𝓤 H A W Row.sBool) Path'.refl (λ u. Path'.refl) λ u. tt) d94
 
-          d77 : Typed.Typed 𝓤 H A 𝓣 E G19 b52 Δ0 (at77 bs)
-          d77 = Typed.s-seq 𝓤 H A W 𝓣 E G19 G31 b18 b51 Δ0 (Typed.pass T19 T31 (s27 bs)) (at76 bs) (Scalar.t-use 𝓤 H A W E 𝓣 G19 (Scalar.oFld 3
-              ((Syntax.field 1) ∷ []) τ1 8 Shared.lenV) 16 ρ2 τ1 (Row.valS (Row.sInt Syntax.w64)) (Row.sInt Syntax.w64 .of) (
+          d96 : Typed.Typed 𝓤 H A 𝓣 E G19 b66 Δ0 (at96 bs)
+          d96 = Typed.s-seq 𝓤 H A W 𝓣 E G19 G31 b18 b65 Δ0 (Typed.pass T19 T31 (s27 bs)) (at95 bs) (Scalar.t-use 𝓤 H A W E 𝓣 G19 (Scalar.oFld 3
+              ((Syntax.field 1) ∷ []) τ1 8 Shared.lenV) 17 ρ2 τ1 (Row.valS (Row.sInt Syntax.w64)) (Row.sInt Syntax.w64 .of) (
                 Shared.reads-sslice-len 𝓤
                     H A W (Referent.rtF (Referent.fInt Syntax.w8)) τ9 1 8 Path'.refl,
                 Path'.refl,
               ) (Reads'.room-gone 𝓤 H A τ1) (Scalar.holds-sc 𝓤 H A W
-              (Row.sInt Syntax.w64)) Path'.refl (λ u. Path'.refl) λ u. tt) d76
+              (Row.sInt Syntax.w64)) Path'.refl (λ u. Path'.refl) λ u. tt) d95
 
-          d78 : Typed.Typed 𝓤 H A 𝓣 E G18 b53 Δ0 (at78 bs)
-          d78 = Typed.t-seq 𝓤 H A W 𝓣 E G18 G19 b17 b52 Δ0 (at27 bs) (at77 bs) d27 d77
+          d97 : Typed.Typed 𝓤 H A 𝓣 E G18 b67 Δ0 (at97 bs)
+          d97 = Typed.t-seq 𝓤 H A W 𝓣 E G18 G19 b17 b66 Δ0 (at27 bs) (at96 bs) d27 d96
 
-          d79 : Typed.Typed 𝓤 H A 𝓣 E G17 b54 Δ0 (at79 bs)
-          d79 = Typed.s-seq 𝓤 H A W 𝓣 E G17 G18 b10 b53 Δ0 (Typed.ask (s15 bs)) (at78 bs) (Scalar.t-op2 𝓤 H A W E 𝓣 G17 Syntax.ne (Scalar.oAt 16 τ1
-              (Row.valS (Row.sInt Syntax.w64))) (Scalar.oInt Syntax.w64 64) 13 ρ0 Syntax.tyBool (Row.valS Row.sBool) (Row.sBool .of) (
+          d98 : Typed.Typed 𝓤 H A 𝓣 E G17 b68 Δ0 (at98 bs)
+          d98 = Typed.s-seq 𝓤 H A W 𝓣 E G17 G18 b10 b67 Δ0 (Typed.ask (s15 bs)) (at97 bs) (Scalar.t-op2 𝓤 H A W E 𝓣 G17 Syntax.ne (Scalar.oAt 17 τ1
+              (Row.valS (Row.sInt Syntax.w64))) (Scalar.oInt Syntax.w64 64) 14 ρ0 Syntax.tyBool (Row.valS Row.sBool) (Row.sBool .of) (
                 Scalar.reads-sc
                     𝓤 H A W (Row.sInt Syntax.w64),
                 Path'.refl,
               ) tt (Reads'.room-gone 𝓤 H A Syntax.tyBool) (Scalar.holds-sc 𝓤 H A W Row.sBool) Path'.refl (λ
-              u. Path'.refl) λ u. tt) d78
+              u. Path'.refl) λ u. tt) d97
 
-          d80 : Typed.Typed 𝓤 H A 𝓣 E G5 b55 Δ0 (at80 bs)
-          d80 = Typed.s-seq 𝓤 H A W 𝓣 E G5 G17 b9 b54 Δ0 (Typed.pass T5 T17 (s14 bs)) (at79 bs) (Scalar.t-use 𝓤 H A W E 𝓣 G5 (Scalar.oFld 2
-              ((Syntax.field 1) ∷ []) τ1 8 Shared.lenV) 16 ρ2 τ1 (Row.valS (Row.sInt Syntax.w64)) (Row.sInt Syntax.w64 .of) (
+          d99 : Typed.Typed 𝓤 H A 𝓣 E G5 b69 Δ0 (at99 bs)
+          d99 = Typed.s-seq 𝓤 H A W 𝓣 E G5 G17 b9 b68 Δ0 (Typed.pass T5 T17 (s14 bs)) (at98 bs) (Scalar.t-use 𝓤 H A W E 𝓣 G5 (Scalar.oFld 2
+              ((Syntax.field 1) ∷ []) τ1 8 Shared.lenV) 17 ρ2 τ1 (Row.valS (Row.sInt Syntax.w64)) (Row.sInt Syntax.w64 .of) (
                 Mut.reads-mslice-len 𝓤 H
                     A W in-Record.row τ6 0 8 Path'.refl,
                 Path'.refl,
               ) (Reads'.room-gone 𝓤 H A τ1) (Scalar.holds-sc 𝓤 H A W (Row.sInt Syntax.w64)) Path'.refl
-              (λ u. Path'.refl) λ u. tt) d79
+              (λ u. Path'.refl) λ u. tt) d98
 
-          d81 : Typed.Typed 𝓤 H A 𝓣 E G4 b56 Δ0 (at81 bs)
-          d81 = Typed.t-seq 𝓤 H A W 𝓣 E G4 G5 b8 b55 Δ0 (at13 bs) (at80 bs) d13 d80
+          d100 : Typed.Typed 𝓤 H A 𝓣 E G4 b70 Δ0 (at100 bs)
+          d100 = Typed.t-seq 𝓤 H A W 𝓣 E G4 G5 b8 b69 Δ0 (at13 bs) (at99 bs) d13 d99
 
-          d82 : Typed.Typed 𝓤 H A 𝓣 E G3 b57 Δ0 (at82 bs)
-          d82 = Typed.s-seq 𝓤 H A W 𝓣 E G3 G4 b1 b56 Δ0 (Typed.ask (s2 bs)) (at81 bs) (Scalar.t-op1 𝓤 H A W E 𝓣 G3 Syntax.bitNot (Scalar.oAt 13
-              Syntax.tyBool (Row.valS Row.sBool)) 14 ρ0 Syntax.tyBool (Row.valS Row.sBool) (Row.sBool .of) (
+          d101 : Typed.Typed 𝓤 H A 𝓣 E G3 b71 Δ0 (at101 bs)
+          d101 = Typed.s-seq 𝓤 H A W 𝓣 E G3 G4 b1 b70 Δ0 (Typed.ask (s2 bs)) (at100 bs) (Scalar.t-op1 𝓤 H A W E 𝓣 G3 Syntax.bitNot (Scalar.oAt 14
+              Syntax.tyBool (Row.valS Row.sBool)) 15 ρ0 Syntax.tyBool (Row.valS Row.sBool) (Row.sBool .of) (
                 Scalar.reads-sc 𝓤 H A W Row.sBool,
                 Path'.refl,
-              ) (Reads'.room-gone 𝓤 H A Syntax.tyBool) (Scalar.holds-sc 𝓤 H A W Row.sBool) Path'.refl (λ u. Path'.refl) λ u. tt) d81
+              ) (Reads'.room-gone 𝓤 H A Syntax.tyBool) (Scalar.holds-sc 𝓤 H A W Row.sBool) Path'.refl (λ u. Path'.refl) λ u. tt) d100
 
-          d83 : Typed.Typed 𝓤 H A 𝓣 E G2 b58 Δ0 (at83 bs)
-          d83 = Typed.s-seq 𝓤 H A W 𝓣 E G2 G3 b0 b57 Δ0 (Typed.both (s1 bs)) (at82 bs) (Plain.t-call-plain 𝓤 H A W 𝓣 0 ps·0 r·0 (claims· .0) (claims·
-              .1) "sched_core::station_is_sound" (known .0) E (λ pos β. β) G2 (record { pos = 1; st = []; d = 0; at = λ x. x }, tt) 13 [] (Call.sub-id
-              𝓤 H A W (G2 .slots)) (
+          d102 : Typed.Typed 𝓤 H A 𝓣 E G2 b72 Δ0 (at102 bs)
+          d102 = Typed.s-seq 𝓤 H A W 𝓣 E G2 G3 b0 b71 Δ0 (Typed.both (s1 bs)) (at101 bs) (Plain.t-call-plain 𝓤 H A W 𝓣 0 ps·0 r·0 (claims· .0)
+              (claims· .1) "sched_core::station_is_sound" (known .0) E (λ pos β. β) G2 (record { pos = 1; st = []; d = 0; at = λ x. x }, tt) 14 []
+              (Call.sub-id 𝓤 H A W (G2 .slots)) (
                 (
                   Yields.yields-copy 𝓤 H A W (λ ρ. Unit) (Declared'.row Station.the-type) Path'.refl (Copies.cStruct
-                      Station.the-type Laws'5.the-laws Laws'5.the-copy .copy 𝓤 H A W) ρ4 (λ x. x) (λ x. x) (λ ρ told. Local.mem-whole 𝓤 H A W (Declared'.row
+                      Station.the-type Laws'5.the-laws Laws'5.the-copy .copy 𝓤 H A W) ρ5 (λ x. x) (λ x. x) (λ ρ told. Local.mem-whole 𝓤 H A W (Declared'.row
                       Station.the-type) ρ) λ ρ told. Local.whole-mem 𝓤 H A W (Declared'.row Station.the-type) ρ,
                   Path'.refl,
                 ),
                 tt,
               ) (Reads'.room-gone 𝓤 H A
-              Syntax.tyBool) tt Path'.refl) d82
+              Syntax.tyBool) tt Path'.refl) d101
 
-          d84 : Typed.Typed 𝓤 H A 𝓣 E G0 b58 Δ0 (at84 bs)
-          d84 = Typed.g-pre 𝓤 H A W 𝓣 E G0 G2 b58 Δ0 (Typed.give (s0 bs)) (at83 bs) (Know.g-shs-known 𝓤 H A W (Referent.fInt Syntax.w8) E G0 3 1 τ9
+          d103 : Typed.Typed 𝓤 H A 𝓣 E G0 b72 Δ0 (at103 bs)
+          d103 = Typed.g-pre 𝓤 H A W 𝓣 E G0 G2 b72 Δ0 (Typed.give (s0 bs)) (at102 bs) (Know.g-shs-known 𝓤 H A W (Referent.fInt Syntax.w8) E G0 3 1 τ9
               (Row.lease (κs .1 .0) (qs .1 .0)) 0 (λ x. x) record { fits = Dec'.lit< tt } (Reads'.as-is 𝓤 H A (Rows'.sslice (Referent.rtF
-              (Referent.fInt Syntax.w8)) τ9 1)) Path'.refl tt) d83
+              (Referent.fInt Syntax.w8)) τ9 1)) Path'.refl tt) d102
 
-          pub typed : Typed.Typed 𝓤 H A 𝓣 E (Function.Γin 2 ps r xs m κs qs) b58 (Function.Δret 2 ps r xs m κs qs) (Φ bs)
-          typed = d84
+          pub typed : Typed.Typed 𝓤 H A 𝓣 E (Function.Γin 2 ps r xs m κs qs) b72 (Function.Δret 2 ps r xs m κs qs) (Φ bs)
+          typed = d103
 
       module _ (κs : Lifetimes.Lfts 2) where
         pub record Args : Type 0 where
@@ -2662,7 +3092,7 @@ module _ (claims· : Claims) where
 
       abbrev W1 : (before : After-shared-slice-known) → (given : s1 (before .before .blocks) .gives (m1 (before .before) (before .shared-slice-known
           .given))) → Typed.Want O1
-      W1 = λ before given. Typed.wantNext T5 O0 (at80 (before .before .blocks) (W0 (before .before .κs) (before .before .args) (before .before
+      W1 = λ before given. Typed.wantNext T5 O0 (at99 (before .before .blocks) (W0 (before .before .κs) (before .before .args) (before .before
           .blocks))) (W0 (before .before .κs) (before .before .args) (before .before .blocks))
 
       abbrev pub m4 : (before : After-shared-slice-known) → (given : s1 (before .before .blocks) .gives (m1 (before .before) (before
@@ -2677,7 +3107,7 @@ module _ (claims· : Claims) where
 
       module _ (before· : After-station-is-sound) where
         pub record Then1·own : Type 0 where
-          pub taken : Path'._≡_ (Row.get 14 (T6 .locals) (m4 (before· .before) (After-station-is-sound·gave before·))) Bool'.true
+          pub taken : Path'._≡_ (Row.get 15 (T6 .locals) (m4 (before· .before) (After-station-is-sound·gave before·))) Bool'.true
 
       pub record Then1 : Type 0 where
         pub before : After-station-is-sound
@@ -2692,7 +3122,7 @@ module _ (claims· : Claims) where
       module _ (before· : Then1) where
         abbrev pub After-request-refused·own : Type 0
         After-request-refused·own = Called.Called ps·1 r·1 (claims· .3) T8 (
-          record { pos = 15; st = []; d = 0; at = λ x. x },
+          record { pos = 16; st = []; d = 0; at = λ x. x },
           (
             record {
               pos = 1;
@@ -2712,7 +3142,7 @@ module _ (claims· : Claims) where
       abbrev pub After-request-refused·gave : (c : After-request-refused) → s6 (c .before .before .before .before .blocks) .gives (m6 (c .before
           .before))
       After-request-refused·gave = λ c. Called.given ps·1 r·1 (claims· .3) T8 (
-        record { pos = 15; st = []; d = 0; at = λ x. x },
+        record { pos = 16; st = []; d = 0; at = λ x. x },
         (
           record {
             pos = 1;
@@ -2755,7 +3185,7 @@ module _ (claims· : Claims) where
 
       module _ (before· : After-station-is-sound) where
         pub record Else1·own : Type 0 where
-          pub left : Path'._≡_ (Row.get 14 (T6 .locals) (m4 (before· .before) (After-station-is-sound·gave before·))) Bool'.false
+          pub left : Path'._≡_ (Row.get 15 (T6 .locals) (m4 (before· .before) (After-station-is-sound·gave before·))) Bool'.false
 
       pub record Else1 : Type 0 where
         pub before : After-station-is-sound
@@ -2768,7 +3198,7 @@ module _ (claims· : Claims) where
       m16 = λ before. s15 (before .before .before .blocks) .next (m15 before)
 
       abbrev W2 : (before : After-station-is-sound) → Typed.Want O2
-      W2 = λ before. Typed.wantNext T19 O0 (at77 (before .before .before .blocks) (W0 (before .before .before .κs) (before .before .before .args)
+      W2 = λ before. Typed.wantNext T19 O0 (at96 (before .before .before .blocks) (W0 (before .before .before .κs) (before .before .before .args)
           (before .before .before .blocks))) (W0 (before .before .before .κs) (before .before .before .args) (before .before .before .blocks))
 
       abbrev pub m17 : (before : After-station-is-sound) → Typed.Mo T20
@@ -2776,7 +3206,7 @@ module _ (claims· : Claims) where
 
       module _ (before· : Else1) where
         pub record Then2·own : Type 0 where
-          pub taken : Path'._≡_ {A = Nat.ℕ} (Row.get 16 (T17 .locals) (m15 (before· .before))) 64 → ⊥
+          pub taken : Path'._≡_ {A = Nat.ℕ} (Row.get 17 (T17 .locals) (m15 (before· .before))) 64 → ⊥
 
       pub record Then2 : Type 0 where
         pub before : Else1
@@ -2797,7 +3227,7 @@ module _ (claims· : Claims) where
       module _ (before· : Then2) where
         abbrev pub After-request-refused2·own : Type 0
         After-request-refused2·own = Called.Called ps·1 r·1 (claims· .3) T22 (
-          record { pos = 17; st = []; d = 0; at = λ x. x },
+          record { pos = 18; st = []; d = 0; at = λ x. x },
           (
             record {
               pos = 1;
@@ -2817,7 +3247,7 @@ module _ (claims· : Claims) where
       abbrev pub After-request-refused2·gave : (c : After-request-refused2) → s19 (c .before .before .before .before .before .blocks) .gives (m19 (c
           .before .before))
       After-request-refused2·gave = λ c. Called.given ps·1 r·1 (claims· .3) T22 (
-        record { pos = 17; st = []; d = 0; at = λ x. x },
+        record { pos = 18; st = []; d = 0; at = λ x. x },
         (
           record {
             pos = 1;
@@ -2857,7 +3287,7 @@ module _ (claims· : Claims) where
 
       module _ (before· : Else1) where
         pub record Else2·own : Type 0 where
-          pub left : Path'._≡_ {A = Nat.ℕ} (Row.get 16 (T17 .locals) (m15 (before· .before))) 64
+          pub left : Path'._≡_ {A = Nat.ℕ} (Row.get 17 (T17 .locals) (m15 (before· .before))) 64
 
       pub record Else2 : Type 0 where
         pub before : Else1
@@ -2873,7 +3303,7 @@ module _ (claims· : Claims) where
       m29 = λ before. s28 (before .before .before .before .blocks) .next (m28 before)
 
       abbrev W3 : (before : Else1) → Typed.Want O3
-      W3 = λ before. Typed.wantNext T33 O0 (at74 (before .before .before .before .blocks) (W0 (before .before .before .before .κs) (before .before
+      W3 = λ before. Typed.wantNext T33 O0 (at93 (before .before .before .before .blocks) (W0 (before .before .before .before .κs) (before .before
           .before .before .args) (before .before .before .before .blocks))) (W0 (before .before .before .before .κs) (before .before .before .before
           .args) (before .before .before .before .blocks))
 
@@ -2882,7 +3312,7 @@ module _ (claims· : Claims) where
 
       module _ (before· : Else2) where
         pub record Then3·own : Type 0 where
-          pub taken : Path'._≡_ {A = Nat.ℕ} (Row.get 16 (T31 .locals) (m28 (before· .before))) 16384 → ⊥
+          pub taken : Path'._≡_ {A = Nat.ℕ} (Row.get 17 (T31 .locals) (m28 (before· .before))) 16384 → ⊥
 
       pub record Then3 : Type 0 where
         pub before : Else2
@@ -2904,7 +3334,7 @@ module _ (claims· : Claims) where
       module _ (before· : Then3) where
         abbrev pub After-request-refused3·own : Type 0
         After-request-refused3·own = Called.Called ps·1 r·1 (claims· .3) T36 (
-          record { pos = 18; st = []; d = 0; at = λ x. x },
+          record { pos = 19; st = []; d = 0; at = λ x. x },
           (
             record {
               pos = 1;
@@ -2924,7 +3354,7 @@ module _ (claims· : Claims) where
       abbrev pub After-request-refused3·gave : (c : After-request-refused3) → s32 (c .before .before .before .before .before .before .blocks) .gives
           (m32 (c .before .before))
       After-request-refused3·gave = λ c. Called.given ps·1 r·1 (claims· .3) T36 (
-        record { pos = 18; st = []; d = 0; at = λ x. x },
+        record { pos = 19; st = []; d = 0; at = λ x. x },
         (
           record {
             pos = 1;
@@ -2970,7 +3400,7 @@ module _ (claims· : Claims) where
 
       module _ (before· : Else2) where
         pub record Else3·own : Type 0 where
-          pub left : Path'._≡_ {A = Nat.ℕ} (Row.get 16 (T31 .locals) (m28 (before· .before))) 16384
+          pub left : Path'._≡_ {A = Nat.ℕ} (Row.get 17 (T31 .locals) (m28 (before· .before))) 16384
 
       pub record Else3 : Type 0 where
         pub before : Else2
@@ -2979,319 +3409,468 @@ module _ (claims· : Claims) where
       abbrev pub m40 : (before : Else2) → Typed.Mo T44
       m40 = λ before. s39 (before .before .before .before .before .blocks) (m30 (before .before))
 
-      abbrev pub m41 : (before : Else3) → (given : s41 (before .before .before .before .before .before .blocks) .gives (m40 (before .before))) →
-          Typed.Mo T46
-      m41 = λ before given. s41 (before .before .before .before .before .before .blocks) .next (m40 (before .before)) given
-
-      abbrev pub m42 : (before : Else3) → (given : s41 (before .before .before .before .before .before .blocks) .gives (m40 (before .before))) →
-          Typed.Mo T47
-      m42 = λ before given. s42 (before .before .before .before .before .before .blocks) .next (m41 before given)
+      abbrev pub m41 : (before : Else3) → (given : s40 (before .before .before .before .before .before .blocks) .gives (m40 (before .before))) →
+          Typed.Mo T45
+      m41 = λ before given. s40 (before .before .before .before .before .before .blocks) .next (m40 (before .before)) given
 
       module _ (before· : Else3) where
-        pub record After-load-64-arg·own : Type 0 where
-          pub given : s41 (before· .before .before .before .before .before .blocks) .gives (m40 (before· .before))
+        pub record After-queued·own : Type 0 where
+          pub given : s40 (before· .before .before .before .before .before .blocks) .gives (m40 (before· .before))
 
-      pub record After-load-64-arg : Type 0 where
+      pub record After-queued : Type 0 where
         pub before : Else3
-        pub load-64-arg : After-load-64-arg·own before
+        pub queued : After-queued·own before
 
-      abbrev pub Need-load-64-requires : Type 0
-      Need-load-64-requires = (c : After-load-64-arg) → s43 (c .before .before .before .before .before .before .blocks) .asks (m42 (c .before) (c
-          .load-64-arg .given))
+      abbrev pub m42 : (before : After-queued) → (given : s42 (before .before .before .before .before .before .before .blocks) .gives (m41 (before
+          .before) (before .queued .given))) → Typed.Mo T47
+      m42 = λ before given. s42 (before .before .before .before .before .before .before .blocks) .next (m41 (before .before) (before .queued .given))
+          given
 
-      abbrev pub m43 : (before : After-load-64-arg) → (given : s43 (before .before .before .before .before .before .before .blocks) .gives (m42
-          (before .before) (before .load-64-arg .given))) → Typed.Mo T48
-      m43 = λ before given. s43 (before .before .before .before .before .before .before .blocks) .next (m42 (before .before) (before .load-64-arg
-          .given)) given
+      abbrev pub m43 : (before : After-queued) → (given : s42 (before .before .before .before .before .before .before .blocks) .gives (m41 (before
+          .before) (before .queued .given))) → Typed.Mo T48
+      m43 = λ before given. s43 (before .before .before .before .before .before .before .blocks) .next (m42 before given)
 
-      module _ (before· : After-load-64-arg) where
-        abbrev pub After-load-64·own : Type 0
-        After-load-64·own = Called.Called ps·2 r·2 (claims· .5) T47 (
-          record {
-            pos = 20;
-            ty = Syntax.tyRef Syntax.erased Syntax.imm in-Record.at;
-            ref =
-                λ x. x;
-          },
-          tt,
-        ) (m42 (before· .before) (before· .load-64-arg .given))
+      module _ (before· : After-queued) where
+        pub record After-queue-is-sound-arg·own : Type 0 where
+          pub given : s42 (before· .before .before .before .before .before .before .blocks) .gives (m41 (before· .before) (before· .queued .given))
 
-      pub record After-load-64 : Type 0 where
-        pub before : After-load-64-arg
-        pub load-64 : After-load-64·own before
+      pub record After-queue-is-sound-arg : Type 0 where
+        pub before : After-queued
+        pub queue-is-sound-arg : After-queue-is-sound-arg·own before
 
-      abbrev pub After-load-64·gave : (c : After-load-64) → s43 (c .before .before .before .before .before .before .before .blocks) .gives (m42 (c
-          .before .before) (c .before .load-64-arg .given))
-      After-load-64·gave = λ c. Called.given ps·2 r·2 (claims· .5) T47 (
-        record {
-          pos = 20;
-          ty = Syntax.tyRef Syntax.erased Syntax.imm in-Record.at;
-          ref = λ x. x;
-        },
-        tt,
-      ) (m42 (c .before .before) (c .before .load-64-arg .given)) (c .load-64)
+      abbrev pub Need-queue-is-sound-requires : Type 0
+      Need-queue-is-sound-requires = (c : After-queue-is-sound-arg) → s44 (c .before .before .before .before .before .before .before .blocks) .asks
+          (m43 (c .before) (c .queue-is-sound-arg .given))
 
-      abbrev pub m44 : (before : After-load-64-arg) → (given : s43 (before .before .before .before .before .before .before .blocks) .gives (m42
-          (before .before) (before .load-64-arg .given))) → Typed.Mo T49
-      m44 = λ before given. s44 (before .before .before .before .before .before .before .blocks) (m43 before given)
+      abbrev pub m44 : (before : After-queue-is-sound-arg) → (given : s44 (before .before .before .before .before .before .before .before .blocks)
+          .gives (m43 (before .before) (before .queue-is-sound-arg .given))) → Typed.Mo T49
+      m44 = λ before given. s44 (before .before .before .before .before .before .before .before .blocks) .next (m43 (before .before) (before
+          .queue-is-sound-arg .given)) given
 
-      abbrev pub m45 : (before : After-load-64-arg) → (given : s43 (before .before .before .before .before .before .before .blocks) .gives (m42
-          (before .before) (before .load-64-arg .given))) → Typed.Mo T51
-      m45 = λ before given. s46 (before .before .before .before .before .before .before .blocks) (m44 before given)
-
-      abbrev pub Need-request-core-requires : Type 0
-      Need-request-core-requires = (c : After-load-64) → s48 (c .before .before .before .before .before .before .before .blocks) .asks (m45 (c
-          .before) (After-load-64·gave c))
-
-      abbrev pub m46 : (before : After-load-64) → (given : s48 (before .before .before .before .before .before .before .before .blocks) .gives (m45
-          (before .before) (After-load-64·gave before))) → Typed.Mo T53
-      m46 = λ before given. s48 (before .before .before .before .before .before .before .before .blocks) .next (m45 (before .before)
-          (After-load-64·gave before)) given
-
-      module _ (before· : After-load-64) where
-        abbrev pub After-request-core·own : Type 0
-        After-request-core·own = Called.Called ps·3 r·3 (claims· .7) T51 (
-          record { pos = 1; st = []; d = 0; at = λ x. x },
+      module _ (before· : After-queue-is-sound-arg) where
+        abbrev pub After-queue-is-sound·own : Type 0
+        After-queue-is-sound·own = Called.Called ps·2 r·2 (claims· .5) T48 (
+          record { pos = 8; st = []; d = 0; at = λ x. x },
           (
             record {
-              pos = 8;
-              st = [];
+              pos = 21;
+              ty =
+                  Syntax.tyRef Syntax.erased Syntax.imm in-Record.at;
+              ref = λ x. x;
+            },
+            (
+              record {
+                pos = 3;
+                ty = Syntax.tyRef (Syntax.named 1) Syntax.imm τ0;
+                ref = λ x. x;
+              },
+              tt,
+            ),
+          ),
+        ) (m43 (before· .before) (before· .queue-is-sound-arg .given))
+
+      pub record After-queue-is-sound : Type 0 where
+        pub before : After-queue-is-sound-arg
+        pub queue-is-sound : After-queue-is-sound·own before
+
+      abbrev pub After-queue-is-sound·gave : (c : After-queue-is-sound) → s44 (c .before .before .before .before .before .before .before .before
+          .blocks) .gives (m43 (c .before .before) (c .before .queue-is-sound-arg .given))
+      After-queue-is-sound·gave = λ c. Called.given ps·2 r·2 (claims· .5) T48 (
+        record { pos = 8; st = []; d = 0; at = λ x. x },
+        (
+          record {
+            pos = 21;
+            ty
+                = Syntax.tyRef Syntax.erased Syntax.imm in-Record.at;
+            ref = λ x. x;
+          },
+          (
+            record {
+              pos = 3;
+              ty = Syntax.tyRef (Syntax.named 1) Syntax.imm τ0;
+              ref = λ x. x;
+            },
+            tt,
+          ),
+        ),
+      ) (m43 (c .before .before) (c .before .queue-is-sound-arg .given)) (c .queue-is-sound)
+
+      abbrev pub m45 : (before : After-queue-is-sound-arg) → (given : s44 (before .before .before .before .before .before .before .before .blocks)
+          .gives (m43 (before .before) (before .queue-is-sound-arg .given))) → Typed.Mo T50
+      m45 = λ before given. s45 (before .before .before .before .before .before .before .before .blocks) (m44 before given)
+
+      abbrev pub m46 : (before : After-queue-is-sound-arg) → (given : s44 (before .before .before .before .before .before .before .before .blocks)
+          .gives (m43 (before .before) (before .queue-is-sound-arg .given))) → Typed.Mo T51
+      m46 = λ before given. s46 (before .before .before .before .before .before .before .before .blocks) (m45 before given)
+
+      abbrev pub m47 : (before : After-queue-is-sound-arg) → (given : s44 (before .before .before .before .before .before .before .before .blocks)
+          .gives (m43 (before .before) (before .queue-is-sound-arg .given))) → Typed.Mo T53
+      m47 = λ before given. s48 (before .before .before .before .before .before .before .before .blocks) (m46 before given)
+
+      abbrev pub m48 : (before : After-queue-is-sound-arg) → (given : s44 (before .before .before .before .before .before .before .before .blocks)
+          .gives (m43 (before .before) (before .queue-is-sound-arg .given))) → Typed.Mo T55
+      m48 = λ before given. s50 (before .before .before .before .before .before .before .before .blocks) .next (m47 before given)
+
+      abbrev W4 : (before : After-queue-is-sound-arg) → (given : s44 (before .before .before .before .before .before .before .before .blocks) .gives
+          (m43 (before .before) (before .queue-is-sound-arg .given))) → Typed.Want O4
+      W4 = λ before given. Typed.wantNext T56 O0 (at81 (before .before .before .before .before .before .before .before .blocks) (W0 (before .before
+          .before .before .before .before .before .before .κs) (before .before .before .before .before .before .before .before .args) (before .before
+          .before .before .before .before .before .before .blocks))) (W0 (before .before .before .before .before .before .before .before .κs) (before
+          .before .before .before .before .before .before .before .args) (before .before .before .before .before .before .before .before .blocks))
+
+      abbrev pub m49 : (before : After-queue-is-sound-arg) → (given : s44 (before .before .before .before .before .before .before .before .blocks)
+          .gives (m43 (before .before) (before .queue-is-sound-arg .given))) → Typed.Mo T57
+      m49 = λ before given. s51 (before .before .before .before .before .before .before .before .blocks) (m48 before given)
+
+      abbrev pub m50 : (before : After-queue-is-sound) → Typed.Mo T58
+      m50 = λ before. s52 (before .before .before .before .before .before .before .before .before .blocks) (m49 (before .before)
+          (After-queue-is-sound·gave before))
+
+      abbrev pub m51 : (before : After-queue-is-sound) → Typed.Mo T59
+      m51 = λ before. s53 (before .before .before .before .before .before .before .before .before .blocks) (m50 before)
+
+      module _ (before· : After-queue-is-sound) where
+        pub record Then4·own : Type 0 where
+          pub taken : Path'._≡_ (Row.get 15 (T57 .locals) (m49 (before· .before) (After-queue-is-sound·gave before·))) Bool'.true
+
+      pub record Then4 : Type 0 where
+        pub before : After-queue-is-sound
+        pub if4 : Then4·own before
+
+      abbrev pub Need-request-refused-requires-4 : Type 0
+      Need-request-refused-requires-4 = (c : Then4) → s54 (c .before .before .before .before .before .before .before .before .before .blocks) .asks
+          (m51 (c .before))
+
+      abbrev pub m52 : (before : Then4) → (given : s54 (before .before .before .before .before .before .before .before .before .before .blocks) .gives
+          (m51 (before .before))) → Typed.Mo T60
+      m52 = λ before given. s54 (before .before .before .before .before .before .before .before .before .before .blocks) .next (m51 (before .before))
+          given
+
+      module _ (before· : Then4) where
+        abbrev pub After-request-refused4·own : Type 0
+        After-request-refused4·own = Called.Called ps·1 r·1 (claims· .3) T59 (
+          record { pos = 22; st = []; d = 0; at = λ x. x },
+          (
+            record {
+              pos = 1;
+              st
+                  = [];
               d = 0;
               at = λ x. x;
             },
-            (
-              record { pos = 3; ty = Syntax.tyRef (Syntax.named 1) Syntax.imm τ0; ref = λ x. x },
-              (
-                Num.vAt 4 λ x. x,
-                (
-                  Num.vAt 5 λ
-                      x. x,
-                  (Num.vAt 6 λ x. x, (Num.vAt 7 λ x. x, tt)),
-                ),
-              ),
-            ),
+            tt,
           ),
-        ) (m45 (before· .before) (After-load-64·gave before·))
+        ) (m51 (before· .before))
 
-      pub record After-request-core : Type 0 where
-        pub before : After-load-64
-        pub request-core : After-request-core·own before
+      pub record After-request-refused4 : Type 0 where
+        pub before : Then4
+        pub request-refused4 : After-request-refused4·own before
 
-      abbrev pub After-request-core·gave : (c : After-request-core) → s48 (c .before .before .before .before .before .before .before .before .blocks)
-          .gives (m45 (c .before .before) (After-load-64·gave (c .before)))
-      After-request-core·gave = λ c. Called.given ps·3 r·3 (claims· .7) T51 (
-        record { pos = 1; st = []; d = 0; at = λ x. x },
+      abbrev pub After-request-refused4·gave : (c : After-request-refused4) → s54 (c .before .before .before .before .before .before .before .before
+          .before .before .blocks) .gives (m51 (c .before .before))
+      After-request-refused4·gave = λ c. Called.given ps·1 r·1 (claims· .3) T59 (
+        record { pos = 22; st = []; d = 0; at = λ x. x },
         (
           record {
-            pos = 8;
-            st =
-                [];
+            pos = 1;
+            st = [];
             d = 0;
             at = λ x. x;
           },
+          tt,
+        ),
+      ) (m51 (c .before .before)) (c .request-refused4)
+
+      abbrev pub m53 : (before : Then4) → (given : s54 (before .before .before .before .before .before .before .before .before .before .blocks) .gives
+          (m51 (before .before))) → Typed.Mo T61
+      m53 = λ before given. s55 (before .before .before .before .before .before .before .before .before .before .blocks) (m52 before given)
+
+      abbrev pub m54 : (before : Then4) → (given : s54 (before .before .before .before .before .before .before .before .before .before .blocks) .gives
+          (m51 (before .before))) → Typed.Mo T62
+      m54 = λ before given. s56 (before .before .before .before .before .before .before .before .before .before .blocks) (m53 before given)
+
+      abbrev pub m55 : (before : Then4) → (given : s54 (before .before .before .before .before .before .before .before .before .before .blocks) .gives
+          (m51 (before .before))) → Typed.Mo T63
+      m55 = λ before given. s57 (before .before .before .before .before .before .before .before .before .before .blocks) (m54 before given)
+
+      abbrev pub m56 : (before : Then4) → (given : s54 (before .before .before .before .before .before .before .before .before .before .blocks) .gives
+          (m51 (before .before))) → Typed.Mo T64
+      m56 = λ before given. s58 (before .before .before .before .before .before .before .before .before .before .blocks) (m55 before given)
+
+      abbrev pub m57 : (before : Then4) → (given : s54 (before .before .before .before .before .before .before .before .before .before .blocks) .gives
+          (m51 (before .before))) → Typed.Mo T65
+      m57 = λ before given. s59 (before .before .before .before .before .before .before .before .before .before .blocks) (m56 before given)
+
+      abbrev pub m58 : (before : Then4) → (given : s54 (before .before .before .before .before .before .before .before .before .before .blocks) .gives
+          (m51 (before .before))) → Typed.Mo T66
+      m58 = λ before given. s60 (before .before .before .before .before .before .before .before .before .before .blocks) (m57 before given)
+
+      abbrev pub Need-same-length : Type 0
+      Need-same-length = (c : After-request-refused4) → MutSlice.SameLen (Row.get 2 (T66 .locals) (m58 (c .before) (After-request-refused4·gave c)))
+          (dens (c .before .before .before .before .before .before .before .before .before .before .κs) (c .before .before .before .before .before
+          .before .before .before .before .before .args) .1 .0)
+
+      abbrev pub Need-returns-4 : Type 0
+      Need-returns-4 = (c : After-request-refused4) → Post· (c .before .before .before .before .before .before .before .before .before .before .κs)
+          (dens (c .before .before .before .before .before .before .before .before .before .before .κs) (c .before .before .before .before .before
+          .before .before .before .before .before .args)) (Function.resV r (c .before .before .before .before .before .before .before .before .before
+          .before .κs) (m58 (c .before) (After-request-refused4·gave c) .0)) (Clauses.atExit (Kinds.endedOf 2 ps r) (c .before .before .before .before
+          .before .before .before .before .before .before .κs) (dens (c .before .before .before .before .before .before .before .before .before
+          .before .κs) (c .before .before .before .before .before .before .before .before .before .before .args)) (Enter.lastsP (c .before .before
+          .before .before .before .before .before .before .before .before .κs) 1 ps xs (dens (c .before .before .before .before .before .before
+          .before .before .before .before .κs) (c .before .before .before .before .before .before .before .before .before .before .args)) (m58 (c
+          .before) (After-request-refused4·gave c) .1)))
+
+      abbrev pub m59 : (before : After-queue-is-sound) → Typed.Mo T67
+      m59 = λ before. s61 (before .before .before .before .before .before .before .before .before .blocks) (m49 (before .before)
+          (After-queue-is-sound·gave before))
+
+      module _ (before· : After-queue-is-sound) where
+        pub record Else4·own : Type 0 where
+          pub left : Path'._≡_ (Row.get 15 (T57 .locals) (m49 (before· .before) (After-queue-is-sound·gave before·))) Bool'.false
+
+      pub record Else4 : Type 0 where
+        pub before : After-queue-is-sound
+        pub if4 : Else4·own before
+
+      abbrev pub Need-request-plan-requires : Type 0
+      Need-request-plan-requires = (c : Else4) → s62 (c .before .before .before .before .before .before .before .before .before .blocks) .asks (m59 (c
+          .before))
+
+      abbrev pub m60 : (before : Else4) → (given : s62 (before .before .before .before .before .before .before .before .before .before .blocks) .gives
+          (m59 (before .before))) → Typed.Mo T68
+      m60 = λ before given. s62 (before .before .before .before .before .before .before .before .before .before .blocks) .next (m59 (before .before))
+          given
+
+      module _ (before· : Else4) where
+        abbrev pub After-request-plan·own : Type 0
+        After-request-plan·own = Called.Called ps·3 r·3 (claims· .7) T56 (
+          record { pos = 1; st = []; d = 0; at = λ x. x },
           (
-            record { pos = 3; ty = Syntax.tyRef (Syntax.named 1) Syntax.imm τ0; ref = λ x. x },
+            Num.vAt 4 λ x. x,
             (
-              Num.vAt 4 λ x. x,
-              (
-                Num.vAt 5
-                    λ x. x,
-                (Num.vAt 6 λ x. x, (Num.vAt 7 λ x. x, tt)),
-              ),
+              Num.vAt
+                  5 λ x. x,
+              (Num.vAt 6 λ x. x, (Num.vAt 7 λ x. x, tt)),
             ),
           ),
+        ) (m59 (before· .before))
+
+      pub record After-request-plan : Type 0 where
+        pub before : Else4
+        pub request-plan : After-request-plan·own before
+
+      abbrev pub After-request-plan·gave : (c : After-request-plan) → s62 (c .before .before .before .before .before .before .before .before .before
+          .before .blocks) .gives (m59 (c .before .before))
+      After-request-plan·gave = λ c. Called.given ps·3 r·3 (claims· .7) T56 (
+        record { pos = 1; st = []; d = 0; at = λ x. x },
+        (
+          Num.vAt 4 λ x. x,
+          (Num.vAt 5 λ x. x, (Num.vAt 6 λ x. x, (Num.vAt 7 λ x. x, tt))),
         ),
-      ) (m45 (c .before .before) (After-load-64·gave (c .before))) (c .request-core)
+      ) (m59 (c .before .before)) (c .request-plan)
 
-      abbrev pub m47 : (before : After-load-64) → (given : s48 (before .before .before .before .before .before .before .before .blocks) .gives (m45
-          (before .before) (After-load-64·gave before))) → Typed.Mo T54
-      m47 = λ before given. s49 (before .before .before .before .before .before .before .before .blocks) (m46 before given)
+      abbrev pub m61 : (before : Else4) → (given : s62 (before .before .before .before .before .before .before .before .before .before .blocks) .gives
+          (m59 (before .before))) → Typed.Mo T69
+      m61 = λ before given. s63 (before .before .before .before .before .before .before .before .before .before .blocks) (m60 before given)
 
-      abbrev pub m48 : (before : After-load-64) → (given : s48 (before .before .before .before .before .before .before .before .blocks) .gives (m45
-          (before .before) (After-load-64·gave before))) → Typed.Mo T55
-      m48 = λ before given. s50 (before .before .before .before .before .before .before .before .blocks) (m47 before given)
+      abbrev pub m62 : (before : Else4) → (given : s62 (before .before .before .before .before .before .before .before .before .before .blocks) .gives
+          (m59 (before .before))) → Typed.Mo T70
+      m62 = λ before given. s64 (before .before .before .before .before .before .before .before .before .before .blocks) (m61 before given)
 
-      abbrev pub m49 : (before : After-request-core) → (given : s51 (before .before .before .before .before .before .before .before .before .blocks)
-          .gives (m48 (before .before) (After-request-core·gave before))) → Typed.Mo T56
-      m49 = λ before given. s51 (before .before .before .before .before .before .before .before .before .blocks) .next (m48 (before .before)
-          (After-request-core·gave before)) given
+      abbrev pub m63 : (before : After-request-plan) → (given : s65 (before .before .before .before .before .before .before .before .before .before
+          .before .blocks) .gives (m62 (before .before) (After-request-plan·gave before))) → Typed.Mo T71
+      m63 = λ before given. s65 (before .before .before .before .before .before .before .before .before .before .before .blocks) .next (m62 (before
+          .before) (After-request-plan·gave before)) given
 
-      module _ (before· : After-request-core) where
-        pub record After-after·own : Type 0 where
-          pub given : s51 (before· .before .before .before .before .before .before .before .before .blocks) .gives (m48 (before· .before)
-              (After-request-core·gave before·))
+      module _ (before· : After-request-plan) where
+        pub record After-r·own : Type 0 where
+          pub given : s65 (before· .before .before .before .before .before .before .before .before .before .before .blocks) .gives (m62 (before·
+              .before) (After-request-plan·gave before·))
 
-      pub record After-after : Type 0 where
-        pub before : After-request-core
-        pub after : After-after·own before
+      pub record After-r : Type 0 where
+        pub before : After-request-plan
+        pub r : After-r·own before
 
-      abbrev pub m50 : (before : After-after) → (given : s53 (before .before .before .before .before .before .before .before .before .before .blocks)
-          .gives (m49 (before .before) (before .after .given))) → Typed.Mo T58
-      m50 = λ before given. s53 (before .before .before .before .before .before .before .before .before .before .blocks) .next (m49 (before .before)
-          (before .after .given)) given
+      abbrev pub m64 : (before : After-r) → (given : s67 (before .before .before .before .before .before .before .before .before .before .before
+          .before .blocks) .gives (m63 (before .before) (before .r .given))) → Typed.Mo T73
+      m64 = λ before given. s67 (before .before .before .before .before .before .before .before .before .before .before .before .blocks) .next (m63
+          (before .before) (before .r .given)) given
 
-      abbrev pub m51 : (before : After-after) → (given : s53 (before .before .before .before .before .before .before .before .before .before .blocks)
-          .gives (m49 (before .before) (before .after .given))) → Typed.Mo T59
-      m51 = λ before given. s54 (before .before .before .before .before .before .before .before .before .before .blocks) .next (m50 before given)
+      abbrev pub m65 : (before : After-r) → (given : s67 (before .before .before .before .before .before .before .before .before .before .before
+          .before .blocks) .gives (m63 (before .before) (before .r .given))) → Typed.Mo T74
+      m65 = λ before given. s68 (before .before .before .before .before .before .before .before .before .before .before .before .blocks) .next (m64
+          before given)
 
-      module _ (before· : After-after) where
-        pub record After-save-64-arg·own : Type 0 where
-          pub given : s53 (before· .before .before .before .before .before .before .before .before .before .blocks) .gives (m49 (before· .before)
-              (before· .after .given))
+      module _ (before· : After-r) where
+        pub record After-put-record-arg·own : Type 0 where
+          pub given : s67 (before· .before .before .before .before .before .before .before .before .before .before .before .blocks) .gives (m63
+              (before· .before) (before· .r .given))
 
-      pub record After-save-64-arg : Type 0 where
-        pub before : After-after
-        pub save-64-arg : After-save-64-arg·own before
+      pub record After-put-record-arg : Type 0 where
+        pub before : After-r
+        pub put-record-arg : After-put-record-arg·own before
 
-      abbrev pub Need-save-64-requires : Type 0
-      Need-save-64-requires = (c : After-save-64-arg) → s55 (c .before .before .before .before .before .before .before .before .before .before
-          .blocks) .asks (m51 (c .before) (c .save-64-arg .given))
+      abbrev pub Need-put-record-requires : Type 0
+      Need-put-record-requires = (c : After-put-record-arg) → s69 (c .before .before .before .before .before .before .before .before .before .before
+          .before .before .blocks) .asks (m65 (c .before) (c .put-record-arg .given))
 
-      abbrev pub m52 : (before : After-save-64-arg) → (given : s55 (before .before .before .before .before .before .before .before .before .before
-          .before .blocks) .gives (m51 (before .before) (before .save-64-arg .given))) → Typed.Mo T60
-      m52 = λ before given. s55 (before .before .before .before .before .before .before .before .before .before .before .blocks) .next (m51 (before
-          .before) (before .save-64-arg .given)) given
+      abbrev pub m66 : (before : After-put-record-arg) → (given : s69 (before .before .before .before .before .before .before .before .before .before
+          .before .before .before .blocks) .gives (m65 (before .before) (before .put-record-arg .given))) → Typed.Mo T75
+      m66 = λ before given. s69 (before .before .before .before .before .before .before .before .before .before .before .before .before .blocks) .next
+          (m65 (before .before) (before .put-record-arg .given)) given
 
-      module _ (before· : After-save-64-arg) where
-        abbrev pub After-save-64·own : Type 0
-        After-save-64·own = Called.Called ps·4 r·4 (claims· .9) T59 (
+      module _ (before· : After-put-record-arg) where
+        abbrev pub After-put-record·own : Type 0
+        After-put-record·own = Called.Called ps·4 r·4 (claims· .9) T74 (
           record {
-            pos = 23;
+            pos = 25;
             ty = Syntax.tyRef Syntax.erased Syntax.mut in-Record.at;
-            ref =
-                λ x. x;
+            ref = λ x. x;
           },
-          (record { pos = 10; st = []; d = 0; at = λ x. x }, tt),
-        ) (m51 (before· .before) (before· .save-64-arg .given))
+          (Num.vAt 10 λ x. x, (record { pos = 11; st = []; d = 0; at = λ x. x }, tt)),
+        ) (m65 (before· .before) (before·
+            .put-record-arg .given))
 
-      pub record After-save-64 : Type 0 where
-        pub before : After-save-64-arg
-        pub save-64 : After-save-64·own before
+      pub record After-put-record : Type 0 where
+        pub before : After-put-record-arg
+        pub put-record : After-put-record·own before
 
-      abbrev pub After-save-64·gave : (c : After-save-64) → s55 (c .before .before .before .before .before .before .before .before .before .before
-          .before .blocks) .gives (m51 (c .before .before) (c .before .save-64-arg .given))
-      After-save-64·gave = λ c. Called.given ps·4 r·4 (claims· .9) T59 (
+      abbrev pub After-put-record·gave : (c : After-put-record) → s69 (c .before .before .before .before .before .before .before .before .before
+          .before .before .before .before .blocks) .gives (m65 (c .before .before) (c .before .put-record-arg .given))
+      After-put-record·gave = λ c. Called.given ps·4 r·4 (claims· .9) T74 (
         record {
-          pos = 23;
+          pos = 25;
           ty = Syntax.tyRef Syntax.erased Syntax.mut in-Record.at;
           ref = λ x. x;
         },
-        (record { pos = 10; st = []; d = 0; at = λ x. x }, tt),
-      ) (m51 (c .before .before) (c .before .save-64-arg .given)) (c
-          .save-64)
+        (Num.vAt 10 λ x. x, (record { pos = 11; st = []; d = 0; at = λ x. x }, tt)),
+      ) (m65 (c .before .before) (c .before
+          .put-record-arg .given)) (c .put-record)
 
-      abbrev pub m53 : (before : After-save-64-arg) → (given : s55 (before .before .before .before .before .before .before .before .before .before
-          .before .blocks) .gives (m51 (before .before) (before .save-64-arg .given))) → Typed.Mo T61
-      m53 = λ before given. s56 (before .before .before .before .before .before .before .before .before .before .before .blocks) (m52 before given)
+      abbrev pub m67 : (before : After-put-record-arg) → (given : s69 (before .before .before .before .before .before .before .before .before .before
+          .before .before .before .blocks) .gives (m65 (before .before) (before .put-record-arg .given))) → Typed.Mo T76
+      m67 = λ before given. s70 (before .before .before .before .before .before .before .before .before .before .before .before .before .blocks) (m66
+          before given)
 
-      abbrev pub m54 : (before : After-save-64-arg) → (given : s55 (before .before .before .before .before .before .before .before .before .before
-          .before .blocks) .gives (m51 (before .before) (before .save-64-arg .given))) → Typed.Mo T62
-      m54 = λ before given. s57 (before .before .before .before .before .before .before .before .before .before .before .blocks) (m53 before given)
+      abbrev pub m68 : (before : After-put-record-arg) → (given : s69 (before .before .before .before .before .before .before .before .before .before
+          .before .before .before .blocks) .gives (m65 (before .before) (before .put-record-arg .given))) → Typed.Mo T77
+      m68 = λ before given. s71 (before .before .before .before .before .before .before .before .before .before .before .before .before .blocks) (m67
+          before given)
 
-      abbrev pub m55 : (before : After-save-64) → (given : s59 (before .before .before .before .before .before .before .before .before .before .before
-          .before .blocks) .gives (m54 (before .before) (After-save-64·gave before))) → Typed.Mo T64
-      m55 = λ before given. s59 (before .before .before .before .before .before .before .before .before .before .before .before .blocks) .next (m54
-          (before .before) (After-save-64·gave before)) given
+      abbrev pub m69 : (before : After-put-record) → (given : s73 (before .before .before .before .before .before .before .before .before .before
+          .before .before .before .before .blocks) .gives (m68 (before .before) (After-put-record·gave before))) → Typed.Mo T79
+      m69 = λ before given. s73 (before .before .before .before .before .before .before .before .before .before .before .before .before .before
+          .blocks) .next (m68 (before .before) (After-put-record·gave before)) given
 
-      abbrev pub m56 : (before : After-save-64) → (given : s59 (before .before .before .before .before .before .before .before .before .before .before
-          .before .blocks) .gives (m54 (before .before) (After-save-64·gave before))) → Typed.Mo T66
-      m56 = λ before given. s61 (before .before .before .before .before .before .before .before .before .before .before .before .blocks) (m55 before
-          given)
+      abbrev pub m70 : (before : After-put-record) → (given : s73 (before .before .before .before .before .before .before .before .before .before
+          .before .before .before .before .blocks) .gives (m68 (before .before) (After-put-record·gave before))) → Typed.Mo T81
+      m70 = λ before given. s75 (before .before .before .before .before .before .before .before .before .before .before .before .before .before
+          .blocks) (m69 before given)
 
-      module _ (before· : After-save-64) where
+      module _ (before· : After-put-record) where
         pub record After-queue·own : Type 0 where
-          pub given : s59 (before· .before .before .before .before .before .before .before .before .before .before .before .blocks) .gives (m54
-              (before· .before) (After-save-64·gave before·))
+          pub given : s73 (before· .before .before .before .before .before .before .before .before .before .before .before .before .before .blocks)
+              .gives (m68 (before· .before) (After-put-record·gave before·))
 
       pub record After-queue : Type 0 where
-        pub before : After-save-64
+        pub before : After-put-record
         pub queue : After-queue·own before
 
-      abbrev pub m57 : (before : After-queue) → (given : s62 (before .before .before .before .before .before .before .before .before .before .before
-          .before .before .blocks) .gives (m56 (before .before) (before .queue .given))) → Typed.Mo T67
-      m57 = λ before given. s62 (before .before .before .before .before .before .before .before .before .before .before .before .before .blocks) .next
-          (m56 (before .before) (before .queue .given)) given
+      abbrev pub m71 : (before : After-queue) → (given : s76 (before .before .before .before .before .before .before .before .before .before .before
+          .before .before .before .before .blocks) .gives (m70 (before .before) (before .queue .given))) → Typed.Mo T82
+      m71 = λ before given. s76 (before .before .before .before .before .before .before .before .before .before .before .before .before .before
+          .before .blocks) .next (m70 (before .before) (before .queue .given)) given
 
-      abbrev pub m58 : (before : After-queue) → (given : s62 (before .before .before .before .before .before .before .before .before .before .before
-          .before .before .blocks) .gives (m56 (before .before) (before .queue .given))) → Typed.Mo T68
-      m58 = λ before given. s63 (before .before .before .before .before .before .before .before .before .before .before .before .before .blocks) (m57
-          before given)
+      abbrev pub m72 : (before : After-queue) → (given : s76 (before .before .before .before .before .before .before .before .before .before .before
+          .before .before .before .before .blocks) .gives (m70 (before .before) (before .queue .given))) → Typed.Mo T83
+      m72 = λ before given. s77 (before .before .before .before .before .before .before .before .before .before .before .before .before .before
+          .before .blocks) (m71 before given)
 
-      abbrev pub m59 : (before : After-queue) → (given : s62 (before .before .before .before .before .before .before .before .before .before .before
-          .before .before .blocks) .gives (m56 (before .before) (before .queue .given))) → Typed.Mo T69
-      m59 = λ before given. s64 (before .before .before .before .before .before .before .before .before .before .before .before .before .blocks) (m58
-          before given)
+      abbrev pub m73 : (before : After-queue) → (given : s76 (before .before .before .before .before .before .before .before .before .before .before
+          .before .before .before .before .blocks) .gives (m70 (before .before) (before .queue .given))) → Typed.Mo T84
+      m73 = λ before given. s78 (before .before .before .before .before .before .before .before .before .before .before .before .before .before
+          .before .blocks) (m72 before given)
 
-      abbrev pub m60 : (before : After-queue) → (given : s62 (before .before .before .before .before .before .before .before .before .before .before
-          .before .before .blocks) .gives (m56 (before .before) (before .queue .given))) → Typed.Mo T70
-      m60 = λ before given. s65 (before .before .before .before .before .before .before .before .before .before .before .before .before .blocks) (m59
-          before given)
+      abbrev pub m74 : (before : After-queue) → (given : s76 (before .before .before .before .before .before .before .before .before .before .before
+          .before .before .before .before .blocks) .gives (m70 (before .before) (before .queue .given))) → Typed.Mo T85
+      m74 = λ before given. s79 (before .before .before .before .before .before .before .before .before .before .before .before .before .before
+          .before .blocks) (m73 before given)
 
-      abbrev pub m61 : (before : After-queue) → (given : s62 (before .before .before .before .before .before .before .before .before .before .before
-          .before .before .blocks) .gives (m56 (before .before) (before .queue .given))) → Typed.Mo T71
-      m61 = λ before given. s66 (before .before .before .before .before .before .before .before .before .before .before .before .before .blocks) (m60
-          before given)
+      abbrev pub m75 : (before : After-queue) → (given : s76 (before .before .before .before .before .before .before .before .before .before .before
+          .before .before .before .before .blocks) .gives (m70 (before .before) (before .queue .given))) → Typed.Mo T86
+      m75 = λ before given. s80 (before .before .before .before .before .before .before .before .before .before .before .before .before .before
+          .before .blocks) (m74 before given)
 
-      abbrev pub m62 : (before : After-queue) → (given : s62 (before .before .before .before .before .before .before .before .before .before .before
-          .before .before .blocks) .gives (m56 (before .before) (before .queue .given))) → Typed.Mo T72
-      m62 = λ before given. s67 (before .before .before .before .before .before .before .before .before .before .before .before .before .blocks) (m61
-          before given)
+      abbrev pub m76 : (before : After-queue) → (given : s76 (before .before .before .before .before .before .before .before .before .before .before
+          .before .before .before .before .blocks) .gives (m70 (before .before) (before .queue .given))) → Typed.Mo T87
+      m76 = λ before given. s81 (before .before .before .before .before .before .before .before .before .before .before .before .before .before
+          .before .blocks) (m75 before given)
 
-      abbrev pub m63 : (before : After-queue) → (given : s62 (before .before .before .before .before .before .before .before .before .before .before
-          .before .before .blocks) .gives (m56 (before .before) (before .queue .given))) → Typed.Mo T73
-      m63 = λ before given. s68 (before .before .before .before .before .before .before .before .before .before .before .before .before .blocks) (m62
-          before given)
+      abbrev pub m77 : (before : After-queue) → (given : s76 (before .before .before .before .before .before .before .before .before .before .before
+          .before .before .before .before .blocks) .gives (m70 (before .before) (before .queue .given))) → Typed.Mo T88
+      m77 = λ before given. s82 (before .before .before .before .before .before .before .before .before .before .before .before .before .before
+          .before .blocks) (m76 before given)
 
-      abbrev pub m64 : (before : After-queue) → (given : s62 (before .before .before .before .before .before .before .before .before .before .before
-          .before .before .blocks) .gives (m56 (before .before) (before .queue .given))) → Typed.Mo T74
-      m64 = λ before given. s69 (before .before .before .before .before .before .before .before .before .before .before .before .before .blocks) (m63
-          before given)
+      abbrev pub m78 : (before : After-queue) → (given : s76 (before .before .before .before .before .before .before .before .before .before .before
+          .before .before .before .before .blocks) .gives (m70 (before .before) (before .queue .given))) → Typed.Mo T89
+      m78 = λ before given. s83 (before .before .before .before .before .before .before .before .before .before .before .before .before .before
+          .before .blocks) (m77 before given)
 
-      abbrev pub m65 : (before : After-queue) → (given : s62 (before .before .before .before .before .before .before .before .before .before .before
-          .before .before .blocks) .gives (m56 (before .before) (before .queue .given))) → Typed.Mo T75
-      m65 = λ before given. s70 (before .before .before .before .before .before .before .before .before .before .before .before .before .blocks) (m64
-          before given)
+      abbrev pub m79 : (before : After-queue) → (given : s76 (before .before .before .before .before .before .before .before .before .before .before
+          .before .before .before .before .blocks) .gives (m70 (before .before) (before .queue .given))) → Typed.Mo T90
+      m79 = λ before given. s84 (before .before .before .before .before .before .before .before .before .before .before .before .before .before
+          .before .blocks) (m78 before given)
 
-      abbrev pub m66 : (before : After-queue) → (given : s62 (before .before .before .before .before .before .before .before .before .before .before
-          .before .before .blocks) .gives (m56 (before .before) (before .queue .given))) → Typed.Mo T76
-      m66 = λ before given. s71 (before .before .before .before .before .before .before .before .before .before .before .before .before .blocks) (m65
-          before given)
+      abbrev pub m80 : (before : After-queue) → (given : s76 (before .before .before .before .before .before .before .before .before .before .before
+          .before .before .before .before .blocks) .gives (m70 (before .before) (before .queue .given))) → Typed.Mo T91
+      m80 = λ before given. s85 (before .before .before .before .before .before .before .before .before .before .before .before .before .before
+          .before .blocks) (m79 before given)
+
+      abbrev pub m81 : (before : After-queue) → (given : s76 (before .before .before .before .before .before .before .before .before .before .before
+          .before .before .before .before .blocks) .gives (m70 (before .before) (before .queue .given))) → Typed.Mo T92
+      m81 = λ before given. s86 (before .before .before .before .before .before .before .before .before .before .before .before .before .before
+          .before .blocks) (m80 before given)
 
       module _ (before· : After-queue) where
         pub record After-station·own : Type 0 where
-          pub given : s62 (before· .before .before .before .before .before .before .before .before .before .before .before .before .blocks) .gives
-              (m56 (before· .before) (before· .queue .given))
+          pub given : s76 (before· .before .before .before .before .before .before .before .before .before .before .before .before .before .before
+              .blocks) .gives (m70 (before· .before) (before· .queue .given))
 
       pub record After-station : Type 0 where
         pub before : After-queue
         pub station : After-station·own before
 
-      abbrev pub Need-same-length : Type 0
-      Need-same-length = (c : After-station) → MutSlice.SameLen (Row.get 2 (T76 .locals) (m66 (c .before) (c .station .given))) (dens (c .before
-          .before .before .before .before .before .before .before .before .before .before .before .before .κs) (c .before .before .before .before
-          .before .before .before .before .before .before .before .before .before .args) .1 .0)
+      abbrev pub Need-same-length-2 : Type 0
+      Need-same-length-2 = (c : After-station) → MutSlice.SameLen (Row.get 2 (T92 .locals) (m81 (c .before) (c .station .given))) (dens (c .before
+          .before .before .before .before .before .before .before .before .before .before .before .before .before .before .κs) (c .before .before
+          .before .before .before .before .before .before .before .before .before .before .before .before .before .args) .1 .0)
 
-      abbrev pub Need-returns-4 : Type 0
-      Need-returns-4 = (c : After-station) → Post· (c .before .before .before .before .before .before .before .before .before .before .before .before
-          .before .κs) (dens (c .before .before .before .before .before .before .before .before .before .before .before .before .before .κs) (c
-          .before .before .before .before .before .before .before .before .before .before .before .before .before .args)) (Function.resV r (c .before
-          .before .before .before .before .before .before .before .before .before .before .before .before .κs) (m66 (c .before) (c .station .given)
-          .0)) (Clauses.atExit (Kinds.endedOf 2 ps r) (c .before .before .before .before .before .before .before .before .before .before .before
-          .before .before .κs) (dens (c .before .before .before .before .before .before .before .before .before .before .before .before .before .κs)
-          (c .before .before .before .before .before .before .before .before .before .before .before .before .before .args)) (Enter.lastsP (c .before
+      abbrev pub Need-returns-5 : Type 0
+      Need-returns-5 = (c : After-station) → Post· (c .before .before .before .before .before .before .before .before .before .before .before .before
+          .before .before .before .κs) (dens (c .before .before .before .before .before .before .before .before .before .before .before .before
+          .before .before .before .κs) (c .before .before .before .before .before .before .before .before .before .before .before .before .before
+          .before .before .args)) (Function.resV r (c .before .before .before .before .before .before .before .before .before .before .before .before
+          .before .before .before .κs) (m81 (c .before) (c .station .given) .0)) (Clauses.atExit (Kinds.endedOf 2 ps r) (c .before .before .before
+          .before .before .before .before .before .before .before .before .before .before .before .before .κs) (dens (c .before .before .before
+          .before .before .before .before .before .before .before .before .before .before .before .before .κs) (c .before .before .before .before
+          .before .before .before .before .before .before .before .before .before .before .before .args)) (Enter.lastsP (c .before .before .before
           .before .before .before .before .before .before .before .before .before .before .before .before .κs) 1 ps xs (dens (c .before .before
-          .before .before .before .before .before .before .before .before .before .before .before .κs) (c .before .before .before .before .before
-          .before .before .before .before .before .before .before .before .args)) (m66 (c .before) (c .station .given) .1)))
+          .before .before .before .before .before .before .before .before .before .before .before .before .before .κs) (c .before .before .before
+          .before .before .before .before .before .before .before .before .before .before .before .before .args)) (m81 (c .before) (c .station .given)
+          .1)))
 
       module _ (station-is-sound-requires : Need-station-is-sound-requires) (request-refused-requires : Need-request-refused-requires) (returns :
           Need-returns) (request-refused-requires-2 : Need-request-refused-requires-2) (returns-2 : Need-returns-2) (request-refused-requires-3 :
-          Need-request-refused-requires-3) (returns-3 : Need-returns-3) (load-64-requires : Need-load-64-requires) (request-core-requires :
-          Need-request-core-requires) (save-64-requires : Need-save-64-requires) (same-length : Need-same-length) (returns-4 : Need-returns-4) where
-        lay14 : (c : After-save-64) → at58 (c .before .before .before .before .before .before .before .before .before .before .before .blocks) (W0 (c
-            .before .before .before .before .before .before .before .before .before .before .before .κs) (c .before .before .before .before .before
-            .before .before .before .before .before .before .args) (c .before .before .before .before .before .before .before .before .before .before
-            .before .blocks)) (m52 (c .before) (After-save-64·gave c))
-        lay14 = λ c. (
+          Need-request-refused-requires-3) (returns-3 : Need-returns-3) (queue-is-sound-requires : Need-queue-is-sound-requires)
+          (request-refused-requires-4 : Need-request-refused-requires-4) (same-length : Need-same-length) (returns-4 : Need-returns-4)
+          (request-plan-requires : Need-request-plan-requires) (put-record-requires : Need-put-record-requires) (same-length-2 : Need-same-length-2)
+          (returns-5 : Need-returns-5) where
+        lay16 : (c : After-put-record) → at73 (c .before .before .before .before .before .before .before .before .before .before .before .before
+            .before .blocks) (W0 (c .before .before .before .before .before .before .before .before .before .before .before .before .before .κs) (c
+            .before .before .before .before .before .before .before .before .before .before .before .before .before .args) (c .before .before .before
+            .before .before .before .before .before .before .before .before .before .before .blocks)) (m66 (c .before) (After-put-record·gave c))
+        lay16 = λ c. (
           Path'.refl,
           λ g. (
             tt,
@@ -3299,45 +3878,59 @@ module _ (claims· : Claims) where
               (
                 tt,
                 (
-                  MutSlice.fix-len (Row.get 2 (T76 .locals) (m66 record {
+                  MutSlice.fix-len (Row.get 2 (T92 .locals) (m81 record {
                     before = record {
                       before = c .before;
-                      save-64 = c .save-64;
+                      put-record = c .put-record;
                     };
                     queue = record { given = g };
-                  } g') .ptr) (Row.get 2 (T76 .locals) (m66 record {
+                  } g') .ptr) (Row.get 2 (T92 .locals) (m81 record {
                     before = record {
                       before = c
                           .before;
-                      save-64 = c .save-64;
+                      put-record = c .put-record;
                     };
                     queue = record { given = g };
-                  } g') .name) (Row.get 2 (T76 .locals) (m66 record {
+                  } g') .name) (Row.get 2 (T92 .locals) (m81 record {
                     before = record {
-                      before
-                          = c .before;
-                      save-64 = c .save-64;
+                      before = c .before;
+                      put-record = c .put-record;
                     };
                     queue = record { given = g };
-                  } g') .now) (dens (c .before .before .before .before .before .before
-                      .before .before .before .before .before .κs) (c .before .before .before .before .before .before .before .before .before .before .before
-                      .args) .1 .0 .now) (same-length record {
+                  } g') .now) (dens (c .before .before .before .before
+                      .before .before .before .before .before .before .before .before .before .κs) (c .before .before .before .before .before .before .before
+                      .before .before .before .before .before .before .args) .1 .0 .now) (same-length-2 record {
                         before = record {
-                          before = record { before = c .before; save-64 = c .save-64 };
-                          queue = record {
-                            given = g;
+                          before = record {
+                            before = c
+                                .before;
+                            put-record = c .put-record;
                           };
+                          queue = record { given = g };
                         };
                         station = record { given = g' };
                       }),
-                  (Path'.refl, (tt, (tt, (tt, (tt, tt))))),
+                  (
+                    Path'.refl,
+                    (
+                      tt,
+                      (
+                        tt,
+                        (
+                          tt,
+                          (tt, tt),
+                        ),
+                      ),
+                    ),
+                  ),
                 ),
               ),
-              returns-4 record {
+              returns-5 record {
                 before = record {
-                  before
-                      = record { before = c .before; save-64 = c .save-64 };
-                  queue = record { given = g };
+                  before = record { before = c .before; put-record = c .put-record };
+                  queue = record {
+                    given = g;
+                  };
                 };
                 station = record { given = g' };
               },
@@ -3345,101 +3938,189 @@ module _ (claims· : Claims) where
           ),
         )
 
-        lay13 : (c : After-request-core) → at65 (c .before .before .before .before .before .before .before .before .blocks) (W0 (c .before .before
-            .before .before .before .before .before .before .κs) (c .before .before .before .before .before .before .before .before .args) (c .before
-            .before .before .before .before .before .before .before .blocks)) (m46 (c .before) (After-request-core·gave c))
-        lay13 = λ c. (
+        lay15 : (c : After-request-plan) → at80 (c .before .before .before .before .before .before .before .before .before .before .blocks) (W0 (c
+            .before .before .before .before .before .before .before .before .before .before .κs) (c .before .before .before .before .before .before
+            .before .before .before .before .args) (c .before .before .before .before .before .before .before .before .before .before .blocks)) (m60
+            (c .before) (After-request-plan·gave c))
+        lay15 = λ c. (
           tt,
           λ g. λ g'. (
             Path'.refl,
             (
-              save-64-requires record {
+              put-record-requires record {
                 before = record {
                   before = record {
                     before = c .before;
-                    request-core = c
-                        .request-core;
+                    request-plan =
+                        c .request-plan;
                   };
-                  after = record { given = g };
+                  r = record { given = g };
                 };
-                save-64-arg = record { given = g' };
+                put-record-arg = record { given = g' };
               },
-              λ g''. lay14 record {
+              λ g''. lay16 record {
                 before = record {
                   before =
-                      record { before = record { before = c .before; request-core = c .request-core }; after = record { given = g } };
-                  save-64-arg = record {
+                      record { before = record { before = c .before; request-plan = c .request-plan }; r = record { given = g } };
+                  put-record-arg = record {
                     given = g';
                   };
                 };
-                save-64 = Called.called ps·4 r·4 (claims· .9) T59 (
+                put-record = Called.called ps·4 r·4 (claims· .9) T74 (
                   record {
-                    pos = 23;
+                    pos = 25;
                     ty = Syntax.tyRef Syntax.erased Syntax.mut
                         in-Record.at;
                     ref = λ x. x;
                   },
-                  (record { pos = 10; st = []; d = 0; at = λ x. x }, tt),
-                ) (m51 record {
+                  (Num.vAt 10 λ x. x, (record { pos = 11; st = []; d = 0; at = λ x. x }, tt)),
+                ) (m65 record {
                   before = record {
                     before = c .before;
-                    request-core = c .request-core;
+                    request-plan = c .request-plan;
                   };
-                  after = record { given = g };
+                  r = record { given = g };
                 } g') g'';
               },
             ),
           ),
         )
 
-        lay12 : (c : After-load-64) → at70 (c .before .before .before .before .before .before .before .blocks) (W0 (c .before .before .before .before
-            .before .before .before .κs) (c .before .before .before .before .before .before .before .args) (c .before .before .before .before .before
-            .before .before .blocks)) (m43 (c .before) (After-load-64·gave c))
-        lay12 = λ c. (
-          request-core-requires record { before = c .before; load-64 = c .load-64 },
-          λ g. lay13 record {
+        lay14 : (c : Else4) → at81 (c .before .before .before .before .before .before .before .before .before .blocks) (W0 (c .before .before .before
+            .before .before .before .before .before .before .κs) (c .before .before .before .before .before .before .before .before .before .args) (c
+            .before .before .before .before .before .before .before .before .before .blocks)) (m59 (c .before))
+        lay14 = λ c. (
+          request-plan-requires record { before = c .before; if4 = c .if4 },
+          λ g. lay15 record {
             before = record {
-              before = c
-                  .before;
-              load-64 = c .load-64;
+              before = c .before;
+              if4
+                  = c .if4;
             };
-            request-core = Called.called ps·3 r·3 (claims· .7) T51 (
+            request-plan = Called.called ps·3 r·3 (claims· .7) T56 (
               record { pos = 1; st = []; d = 0; at = λ x. x },
               (
-                record { pos = 8; st = []; d = 0; at = λ x. x },
-                (
-                  record { pos = 3; ty = Syntax.tyRef (Syntax.named 1) Syntax.imm τ0; ref = λ x. x },
-                  (Num.vAt 4 λ x. x, (Num.vAt 5 λ x. x, (Num.vAt 6 λ x. x, (Num.vAt 7 λ x. x, tt)))),
-                ),
+                Num.vAt 4 λ x. x,
+                (Num.vAt 5 λ x. x, (Num.vAt 6 λ x. x, (Num.vAt 7 λ x. x, tt))),
               ),
-            ) (m45 (c .before) (After-load-64·gave c)) g;
+            ) (m59 (c .before)) g;
           },
         )
 
-        lay11 : (c : Else3) → at74 (c .before .before .before .before .before .blocks) (W0 (c .before .before .before .before .before .κs) (c .before
-            .before .before .before .before .args) (c .before .before .before .before .before .blocks)) (m40 (c .before))
-        lay11 = λ c. λ g. (
-          Path'.refl,
+        lay13 : (c : After-request-refused4) → at48 (c .before .before .before .before .before .before .before .before .before .before .blocks) (W4 (c
+            .before .before .before) (After-queue-is-sound·gave (c .before .before))) (m52 (c .before) (After-request-refused4·gave c))
+        lay13 = λ c. (
           (
-            load-64-requires record {
-              before = record { before = c .before; if3 = c .if3 };
-              load-64-arg = record {
-                given =
-                    g;
+            tt,
+            (
+              MutSlice.fix-len (Row.get 2 (T66 .locals) (m58 (c .before) (After-request-refused4·gave c)) .ptr) (Row.get 2 (T66 .locals)
+                  (m58 (c .before) (After-request-refused4·gave c)) .name) (Row.get 2 (T66 .locals) (m58 (c .before) (After-request-refused4·gave c)) .now)
+                  (dens (c .before .before .before .before .before .before .before .before .before .before .κs) (c .before .before .before .before .before
+                  .before .before .before .before .before .args) .1 .0 .now) (same-length record {
+                    before = c .before;
+                    request-refused4 = c
+                        .request-refused4;
+                  }),
+              (Path'.refl, (tt, (tt, (tt, (tt, tt))))),
+            ),
+          ),
+          returns-4 record {
+            before = c .before;
+            request-refused4 = c
+                .request-refused4;
+          },
+        )
+
+        lay12 : (c : After-queue-is-sound) → at88 (c .before .before .before .before .before .before .before .before .blocks) (W0 (c .before .before
+            .before .before .before .before .before .before .κs) (c .before .before .before .before .before .before .before .before .args) (c .before
+            .before .before .before .before .before .before .before .blocks)) (m44 (c .before) (After-queue-is-sound·gave c))
+        lay12 = λ c. (
+          tt,
+          (
+            λ taken. (
+              request-refused-requires-4 record {
+                before = record { before = c .before; queue-is-sound = c .queue-is-sound };
+                if4 = record { taken = taken };
+              },
+              λ g. lay13 record {
+                before = record {
+                  before = record {
+                    before = c .before;
+                    queue-is-sound = c
+                        .queue-is-sound;
+                  };
+                  if4 = record { taken = taken };
+                };
+                request-refused4 = Called.called ps·1 r·1 (claims· .3) T59 (
+                  record {
+                    pos = 22;
+                    st =
+                        [];
+                    d = 0;
+                    at = λ x. x;
+                  },
+                  (record { pos = 1; st = []; d = 0; at = λ x. x }, tt),
+                ) (m51 record {
+                  before = c .before;
+                  queue-is-sound = c
+                      .queue-is-sound;
+                }) g;
+              },
+            ),
+            λ left. lay14 record {
+              before = record { before = c .before; queue-is-sound = c .queue-is-sound };
+              if4 = record {
+                left = left;
               };
             },
-            λ g'. lay12 record {
-              before = record { before = record { before = c .before; if3 = c .if3 }; load-64-arg = record { given = g } };
-              load-64 = Called.called ps·2 r·2 (claims· .5) T47 (
-                record {
-                  pos = 20;
-                  ty = Syntax.tyRef Syntax.erased Syntax.imm in-Record.at;
-                  ref = λ x.
-                      x;
-                },
-                tt,
-              ) (m42 record { before = c .before; if3 = c .if3 } g) g';
-            },
+          ),
+        )
+
+        lay11 : (c : Else3) → at93 (c .before .before .before .before .before .blocks) (W0 (c .before .before .before .before .before .κs) (c .before
+            .before .before .before .before .args) (c .before .before .before .before .before .blocks)) (m40 (c .before))
+        lay11 = λ c. (
+          tt,
+          λ g. λ g'. (
+            Path'.refl,
+            (
+              queue-is-sound-requires record {
+                before = record {
+                  before = record {
+                    before = c .before;
+                    if3 = c
+                        .if3;
+                  };
+                  queued = record { given = g };
+                };
+                queue-is-sound-arg = record { given = g' };
+              },
+              λ g''. lay12 record {
+                before = record {
+                  before =
+                      record { before = record { before = c .before; if3 = c .if3 }; queued = record { given = g } };
+                  queue-is-sound-arg = record { given = g' };
+                };
+                queue-is-sound = Called.called ps·2 r·2 (claims· .5) T48 (
+                  record { pos = 8; st = []; d = 0; at = λ x. x },
+                  (
+                    record {
+                      pos = 21;
+                      ty =
+                          Syntax.tyRef Syntax.erased Syntax.imm in-Record.at;
+                      ref = λ x. x;
+                    },
+                    (
+                      record {
+                        pos = 3;
+                        ty = Syntax.tyRef (Syntax.named 1) Syntax.imm τ0;
+                        ref = λ x. x;
+                      },
+                      tt,
+                    ),
+                  ),
+                ) (m43 record { before = record { before = c .before; if3 = c .if3 }; queued = record { given = g } } g') g'';
+              },
+            ),
           ),
         )
 
@@ -3466,7 +4147,7 @@ module _ (claims· : Claims) where
               if3 = c .if3;
             };
             request-refused3 = Called.called ps·1 r·1 (claims· .3) T36 (
-              record { pos = 18; st = []; d = 0; at = λ x. x },
+              record { pos = 19; st = []; d = 0; at = λ x. x },
               (
                 record {
                   pos = 1;
@@ -3480,7 +4161,7 @@ module _ (claims· : Claims) where
           },
         )
 
-        lay7 : (c : Else2) → at77 (c .before .before .before .before .blocks) (W0 (c .before .before .before .before .κs) (c .before .before .before
+        lay7 : (c : Else2) → at96 (c .before .before .before .before .blocks) (W0 (c .before .before .before .before .κs) (c .before .before .before
             .before .args) (c .before .before .before .before .blocks)) (m27 (c .before))
         lay7 = λ c. (
           tt,
@@ -3489,15 +4170,15 @@ module _ (claims· : Claims) where
               before = record { before = c .before; if2 = c .if2 };
               if3 = record {
                 taken = Tests.eqb-false (Row.get
-                    16 (T31 .locals) (m28 (c .before))) 16384 (Tests.not-true (Dec'.eqb (Row.get 16 (T31 .locals) (m28 (c .before))) 16384) taken);
+                    17 (T31 .locals) (m28 (c .before))) 16384 (Tests.not-true (Dec'.eqb (Row.get 17 (T31 .locals) (m28 (c .before))) 16384) taken);
               };
             },
             λ
                 left. lay10 record {
                   before = record { before = c .before; if2 = c .if2 };
                   if3 = record {
-                    left = Tests.eqb-true (Row.get 16 (T31 .locals)
-                        (m28 (c .before))) 16384 (Tests.not-false (Dec'.eqb (Row.get 16 (T31 .locals) (m28 (c .before))) 16384) left);
+                    left = Tests.eqb-true (Row.get 17 (T31 .locals)
+                        (m28 (c .before))) 16384 (Tests.not-false (Dec'.eqb (Row.get 17 (T31 .locals) (m28 (c .before))) 16384) left);
                   };
                 },
           ),
@@ -3526,7 +4207,7 @@ module _ (claims· : Claims) where
               if2 = c .if2;
             };
             request-refused2 = Called.called ps·1 r·1 (claims· .3) T22 (
-              record { pos = 17; st = []; d = 0; at = λ x. x },
+              record { pos = 18; st = []; d = 0; at = λ x. x },
               (
                 record {
                   pos = 1;
@@ -3540,7 +4221,7 @@ module _ (claims· : Claims) where
           },
         )
 
-        lay3 : (c : Else1) → at80 (c .before .before .before .blocks) (W0 (c .before .before .before .κs) (c .before .before .before .args) (c .before
+        lay3 : (c : Else1) → at99 (c .before .before .before .blocks) (W0 (c .before .before .before .κs) (c .before .before .before .args) (c .before
             .before .before .blocks)) (m14 (c .before))
         lay3 = λ c. (
           tt,
@@ -3549,15 +4230,15 @@ module _ (claims· : Claims) where
               before = record { before = c .before; if1 = c .if1 };
               if2 = record {
                 taken = Tests.eqb-false (Row.get
-                    16 (T17 .locals) (m15 (c .before))) 64 (Tests.not-true (Dec'.eqb (Row.get 16 (T17 .locals) (m15 (c .before))) 64) taken);
+                    17 (T17 .locals) (m15 (c .before))) 64 (Tests.not-true (Dec'.eqb (Row.get 17 (T17 .locals) (m15 (c .before))) 64) taken);
               };
             },
             λ left. lay6
                 record {
                   before = record { before = c .before; if1 = c .if1 };
                   if2 = record {
-                    left = Tests.eqb-true (Row.get 16 (T17 .locals) (m15 (c
-                        .before))) 64 (Tests.not-false (Dec'.eqb (Row.get 16 (T17 .locals) (m15 (c .before))) 64) left);
+                    left = Tests.eqb-true (Row.get 17 (T17 .locals) (m15 (c
+                        .before))) 64 (Tests.not-false (Dec'.eqb (Row.get 17 (T17 .locals) (m15 (c .before))) 64) left);
                   };
                 },
           ),
@@ -3574,7 +4255,7 @@ module _ (claims· : Claims) where
           },
         )
 
-        lay1 : (c : After-station-is-sound) → at82 (c .before .before .blocks) (W0 (c .before .before .κs) (c .before .before .args) (c .before
+        lay1 : (c : After-station-is-sound) → at101 (c .before .before .blocks) (W0 (c .before .before .κs) (c .before .before .args) (c .before
             .before .blocks)) (m2 (c .before) (After-station-is-sound·gave c))
         lay1 = λ c. (
           tt,
@@ -3595,7 +4276,7 @@ module _ (claims· : Claims) where
                 };
                 request-refused = Called.called ps·1 r·1 (claims· .3) T8 (
                   record {
-                    pos = 15;
+                    pos = 16;
                     st =
                         [];
                     d = 0;
@@ -3617,7 +4298,7 @@ module _ (claims· : Claims) where
           ),
         )
 
-        pub laid : (c : Start) → at84 (c .blocks) (W0 (c .κs) (c .args) (c .blocks)) (m0 (c .κs) (c .args) (c .blocks))
+        pub laid : (c : Start) → at103 (c .blocks) (W0 (c .κs) (c .args) (c .blocks)) (m0 (c .κs) (c .args) (c .blocks))
         laid = λ c. λ g. (
           station-is-sound-requires record { before = c; shared-slice-known = record { given = g } },
           λ g'. lay1 record {
@@ -3666,9 +4347,9 @@ module _ (claims· : Claims) where
 
         module _ {M : Type 1} (𝓤 : URA.URA M) (H : Wp.Heap 𝓤) (A : Atoms.Atoms 𝓤) (W : Kit.Given 𝓤 H A) (𝓣 : Wp.Tables 𝓤 H) (known0 : Plain.Known 𝓤 H
             A W 𝓣 0 ps·0 r·0 (claims· .0) (claims· .1) "sched_core::station_is_sound") (known1 : Plain.Known 𝓤 H A W 𝓣 0 ps·1 r·1 (claims· .2)
-            (claims· .3) "bs_sched::request_refused") (known2 : Plain.Known 𝓤 H A W 𝓣 1 ps·2 r·2 (claims· .4) (claims· .5) "bs_sched::load_64")
-            (known3 : Plain.Known 𝓤 H A W 𝓣 1 ps·3 r·3 (claims· .6) (claims· .7) "request_core::request_core") (known4 : Plain.Known 𝓤 H A W 𝓣 1 ps·4
-            r·4 (claims· .8) (claims· .9) "bs_sched::save_64") where
+            (claims· .3) "bs_sched::request_refused") (known2 : Plain.Known 𝓤 H A W 𝓣 2 ps·2 r·2 (claims· .4) (claims· .5) "bs_sched::queue_is_sound")
+            (known3 : Plain.Known 𝓤 H A W 𝓣 0 ps·3 r·3 (claims· .6) (claims· .7) "request_core::request_plan") (known4 : Plain.Known 𝓤 H A W 𝓣 1 ps·4
+            r·4 (claims· .8) (claims· .9) "bs_sched::put_record") where
           pub spec : Statement.Triple 𝓤 (Wp.WpFn 𝓤 H (𝓣 .C) (𝓣 .Λ) (Function.fnOf 2 ps r xs m hs body)) (Function.plainOf 𝓤 H A 2 ps r Pre· Post·)
           spec = Plain.t-fn-plain 𝓤 H A W 𝓣 2 ps r xs m hs body (λ κs qs bs. Φ bs) (λ κs qs bs bd. typed κs qs 𝓤 H A W 𝓣 (
             known0,
