@@ -1,7 +1,7 @@
 -- What the export of a build leaves, exit by exit. Assumes nothing.
 use mathlib.Core.Path.{_≡_, refl, sym, ap, _∙_}
 use mathlib.Core.Bool.{Bool, true, false, cond}
-use mathlib.Core.List.{List}
+use mathlib.Core.List.{List, [], _∷_, _++_}
 use Prim.Native.Nat.{ℕ}
 use lib.ListN.{length}
 use borrow.Author.Tests.{eq-eqb, ne-eqb}
@@ -11,78 +11,93 @@ use Rattle.sched_core.specs.declared.Station.{Station}
 use Rattle.sched_core.specs.declared.Refusal.{Refusal}
 use Rattle.sched_core.specs.declared.BuildReply.{BuildReply}
 use Rattle.sched_core.specs.declared.BuildCoreAnswer.{BuildCoreAnswer}
-use Rattle.sched_core.specs.Questions.{Memory, memory, soundStation, refusalNumber}
-use Rattle.sched_core.specs.Calls.{BuildOutcome, buildNumber, BuildAnswered, buildCall}
-use Rattle.sched_core.specs.Calls.{notBuilt as outcomeRefused}
-use Rattle.sched_core.proofs.QuestionLaws.{queue-not-64}
-use Rattle.sched_words.specs.Words.{stationWords, stationFrom, queueWords, queueFrom}
+use Rattle.sched_core.specs.Questions.{Memory, memory, Question, soundStation, isStationSound, areLengthsRight, isBlockLengthRight, isQueueSound, buildQuestions, refusalNumber, ask}
+use Rattle.sched_core.specs.Calls.{BuildOutcome, BuildAnswered, current, buildsNow, builtNow, blockBuilt, buildCall}
+use Rattle.sched_core.specs.Calls.{notBuilt as nothing}
+use Rattle.enqueue_core.specs.Plan.{SoundQueue}
+use Rattle.build_core.proofs.BuildCallLaws.{all-yes}
+use Rattle.sched_words.specs.Words.{stationWords, stationFrom, queueWords, recordsRead, recordsFrom}
+use Rattle.sched_words.proofs.RoundTrip.{station-words-back}
 use Rattle.bs_sched_c.specs.declared.reply.BsSchedBuilt.{BsSchedBuilt}
-use Rattle.bs_sched_c.specs.Exports.{if228, memoryFrom, notBuilt, builtWord, builtOf, BuildLeft, buildLeft, buildLeftBy}
-use Rattle.bs_sched_c.proofs.CallLaws.{unsound-outcome, lengths-outcome, build-kept}
-use Rattle.bs_sched_c.proofs.LeftLaws.{is-228, queue-whole, zero-not, no-records}
+use Rattle.bs_sched_c.specs.Asked.{queueQuestions, askedNumber}
+use Rattle.bs_sched_c.specs.Exports.{if228, memoryFrom, notBuilt, BuildLeft, buildLeft, buildLeftBy}
+use Rattle.bs_sched_c.proofs.AskedLaws.{zero-not, asked-no, as-read, words-back}
+use Rattle.bs_sched_c.proofs.LeftLaws.{is-228}
 
-module _ (ws qs st block : List ℕ) (w228 : length ws ≡ 228) where
+-- a station of 228 words, which is that of s
+module _ (ws qs st block : List ℕ) (w228 : length ws ≡ 228) (s : Station) (es : s ≡ stationFrom ws) where
   abbrev other : BuildLeft
   other = buildLeft (notBuilt 2) ws qs st block
 
+  abbrev m : Memory
+  m = memoryFrom ws qs st
+
   -- what the export promises
   abbrev promised : BuildLeft
-  promised = if228 ws (buildLeftBy ws qs st block (buildCall (memoryFrom ws qs st) block)) other
+  promised = if228 ws (buildLeftBy ws qs st block (buildCall m block)) other
 
-  -- a queue of other than 64 records
-  refused-left : (m : Memory) (r : Refusal) (o : BuildOutcome) → outcomeRefused (BuildReply.Refused r) m block ≡ o → (refusalNumber r ≡ 0 → ⊥)
-      → buildLeft (notBuilt (refusalNumber r)) ws qs st block ≡ buildLeftBy ws qs st block o
+  refused-left : (r : Refusal) → (refusalNumber r ≡ 0 → ⊥) → buildLeft (notBuilt (refusalNumber r)) ws qs st block ≡ buildLeftBy ws qs st block (nothing (BuildReply.Refused r) m block)
   unfolding tagRow
-  refused-left m r o e h = rw (sym e, ne-eqb _ _ h)
+  refused-left r h = rw (ne-eqb _ _ h)
 
-  pub build-lengths-left : (length qs ≡ 1472 → ⊥) → (s : Station) → s ≡ stationFrom ws → (n : ℕ) → n ≡ cond (soundStation s) 2 1 → (x : BsSchedBuilt) → x ≡ notBuilt n
-      → buildLeft x ws qs st block ≡ promised
-  build-lengths-left h s es n en x ex = is-228 ws other w228 (rw (ex, en, es) (go (soundStation (stationFrom ws)) refl))
-    where
-      m : Memory
-      m = memoryFrom ws qs st
+  -- a no to one of the questions
+  exit-no : (q more : List Question) (done : BuildOutcome) (n : ℕ) → askedNumber q ≡ n → (n ≡ 0 → ⊥) → (x : BsSchedBuilt) → x ≡ notBuilt n
+      → buildLeft x ws qs st block ≡ if228 ws (buildLeftBy ws qs st block (ask (q ++ more) done (λ r. nothing (BuildReply.Refused r) m block))) other
+  exit-no q more done n e h x ex =
+      ap (λ (y : BsSchedBuilt). buildLeft y ws qs st block) (ex ∙ ap notBuilt (sym e))
+      ∙ is-228 ws other w228
+      (asked-no (λ (i : ℕ) (o : BuildOutcome). buildLeft (notBuilt i) ws qs st block ≡ buildLeftBy ws qs st block o) done (λ r. nothing (BuildReply.Refused r) m block)
+      refused-left q more (λ z. h (sym e ∙ z)))
 
-      go : (b : Bool) → soundStation (stationFrom ws) ≡ b → buildLeft (notBuilt (cond b 2 1)) ws qs st block ≡ buildLeftBy ws qs st block (buildCall m block)
-      go true e = refused-left m Refusal.Lengths _ (lengths-outcome m block e (queue-not-64 m (no-records qs h))) zero-not
-      go false e = refused-left m Refusal.Unsound _ (unsound-outcome m block e) zero-not
+  pub build-station : soundStation s ≡ false → (x : BsSchedBuilt) → x ≡ notBuilt 1 → buildLeft x ws qs st block ≡ promised
+  unfolding ask buildCall
+  build-station bad x ex = exit-no (isStationSound (stationFrom ws) ∷ []) (areLengthsRight m ∷ isBlockLengthRight block ∷ isQueueSound m ∷ []) _ 1 (rw (sym es, bad)) zero-not x ex
 
-  -- a queue of 64 records: the build was called
-  module _ (q1472 : length qs ≡ 1472) (s : Station) (rs : List Record) (es : s ≡ stationFrom ws) (er : rs ≡ queueFrom qs) (d : BuildCoreAnswer) (st' block' : List ℕ)
-      (done : BuildAnswered (buildCall (memory s rs st) block) d st' block') (n : ℕ) (en : n ≡ buildNumber (d .reply)) (w : ℕ) (ew : w ≡ builtWord (d .reply)) where
-    abbrev o : BuildOutcome
-    o = buildCall (memory s rs st) block
+  module _ (good : soundStation s ≡ true) where
+    -- question 2 is answered no whatever the lengths of queue and store
+    pub build-block : (length block ≡ 34 → ⊥) → (x : BsSchedBuilt) → x ≡ notBuilt 2 → buildLeft x ws qs st block ≡ promised
+    unfolding ask buildCall
+    build-block other-size x ex =
+        exit-no (isStationSound (stationFrom ws) ∷ areLengthsRight m ∷ isBlockLengthRight block ∷ []) (isQueueSound m ∷ []) _ 2 (rw (sym es, good, ne-eqb _ _ other-size) (either (areLengthsRight m .holds))) zero-not x ex
+      where
+        either : (b : Bool) → _≡_ {A = ℕ} (cond b 2 2) 2
+        either true = refl
+        either false = refl
 
-    abbrev answer : BsSchedBuilt
-    answer = record { refusal = n; built = w; «tag_count» = d .«tag_count»; tags = d .tags }
+    module _ (b34 : length block ≡ 34) where
+      pub build-queue : (n : ℕ) → n ≡ askedNumber (queueQuestions (s .queued) (recordsFrom qs) st) → (n ≡ 0 → ⊥) → (x : BsSchedBuilt) → x ≡ notBuilt n
+          → buildLeft x ws qs st block ≡ promised
+      unfolding ask buildCall
+      build-queue n en h x ex = exit-no (buildQuestions m block) [] _ n (rw (sym es, good, eq-eqb _ _ b34, en)) h x ex
 
-    answer-of : answer ≡ builtOf o
-    answer-of =
-        λ i. record {
-          refusal = (en ∙ ap (λ (a : BuildCoreAnswer). buildNumber (a .reply)) (done .answer)) i;
-          built = (ew ∙ ap (λ (a : BuildCoreAnswer). builtWord (a .reply)) (done .answer)) i;
-          «tag_count» = done .answer i .«tag_count»;
-          tags = done .answer i .tags;
-        }
+      -- every question is answered yes
+      module _ (queue : SoundQueue s (recordsFrom qs) st) where
+        abbrev here : Memory
+        here = memory s (recordsFrom qs) st
 
-    numbered : n ≡ buildNumber (o .reply)
-    numbered = en ∙ ap (λ (a : BuildCoreAnswer). buildNumber (a .reply)) (done .answer)
+        answered : cond (buildsNow s) (blockBuilt here (current s) (builtNow here)) (nothing BuildReply.NoBlock here block) ≡ buildCall m block
+        answered = all-yes here block good (queue .places) (queue .cells) b34 (queue .sound) ∙ ap (λ (y : Station). buildCall (memory y (recordsFrom qs) st) block) es
 
-    called : o ≡ buildCall (memoryFrom ws qs st) block
-    called = rw (es, er, queue-whole qs q1472)
+        -- no block: station and queue keep their words
+        pub build-none : buildsNow s ≡ false → (x : BsSchedBuilt) → x ≡ notBuilt 0 → buildLeft x ws qs st block ≡ promised
+        unfolding tagRow
+        build-none idle x ex =
+            let o : nothing BuildReply.NoBlock here block ≡ buildCall m block = rw idle at answered in
+            let station : ws ≡ stationWords s = sym (station-words-back ws (ap soundStation (sym es) ∙ good)) ∙ ap stationWords (sym es) in
+            is-228 ws other w228
+            ((λ i. buildLeft (ex i) (station i) (sym (words-back ws qs st s es queue) i) st block) ∙ ap (buildLeftBy ws qs st block) o)
 
-    pub build-refused-left : (n ≡ 0 → ⊥) → buildLeft answer ws qs st' block' ≡ promised
-    build-refused-left h =
-        let f : buildNumber (o .reply) ≡ 0 → ⊥ = λ k. h (numbered ∙ k) in
-        let kept = build-kept (memory s rs st) block f in
-        let e : buildLeft (builtOf o) ws qs st block ≡ buildLeftBy ws qs st block o = rw (ne-eqb _ _ f) in
-        is-228 ws other w228
-        ((λ i. buildLeft (answer-of i) ws qs ((done .store ∙ kept .0) i) ((done .block ∙ kept .1) i)) ∙ e ∙ ap (buildLeftBy ws qs st block) called)
-
-    pub build-done-left : n ≡ 0 → (ws' qs' : List ℕ) → ws' ≡ stationWords (d .station) → qs' ≡ queueWords (d .records) → buildLeft answer ws' qs' st' block' ≡ promised
-    build-done-left h ws' qs' a b =
-        let f : buildNumber (o .reply) ≡ 0 = sym numbered ∙ h in
-        let e : buildLeft (builtOf o) (stationWords (o .memory .station)) (queueWords (o .memory .records)) (o .memory .store) (o .block) ≡ buildLeftBy ws qs st block o = rw (eq-eqb _ _ f) in
-        is-228 ws other w228
-        ((λ i. buildLeft (answer-of i) ((a ∙ ap (λ (x : BuildCoreAnswer). stationWords (x .station)) (done .answer)) i)
-        ((b ∙ ap (λ (x : BuildCoreAnswer). queueWords (x .records)) (done .answer)) i) (done .store i) (done .block i))
-        ∙ e ∙ ap (buildLeftBy ws qs st block) called)
+        -- a block
+        pub build-built : buildsNow s ≡ true → (rs : List Record) → rs ≡ recordsRead qs → (d : BuildCoreAnswer) (st' block' : List ℕ)
+            → BuildAnswered (buildCall (memory s rs st) block) d st' block' → (ws' qs' : List ℕ) → ws' ≡ stationWords (d .station) → qs' ≡ queueWords (d .records)
+            → buildLeft (record { refusal = 0; built = 1; «tag_count» = d .«tag_count»; tags = d .tags }) ws' qs' st' block' ≡ promised
+        build-built can rs er d st' block' done ws' qs' ew eq =
+            let o = blockBuilt here (current s) (builtNow here) in
+            let e : o ≡ buildCall m block = rw can at answered in
+            let k : BuildAnswered o d st' block' =
+            rw e (rw (sym es) (rw (er ∙ as-read ws qs st s es queue) at done)) in
+            is-228 ws other w228
+            ((λ i. buildLeft (record { refusal = 0; built = 1; «tag_count» = k .answer i .«tag_count»; tags = k .answer i .tags })
+            ((ew ∙ ap (λ (x : BuildCoreAnswer). stationWords (x .station)) (k .answer)) i)
+            ((eq ∙ ap (λ (x : BuildCoreAnswer). queueWords (x .records)) (k .answer)) i) (k .store i) (k .block i))
+            ∙ ap (buildLeftBy ws qs st block) e)

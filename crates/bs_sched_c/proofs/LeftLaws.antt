@@ -1,43 +1,31 @@
 -- What an export leaves, exit by exit. Assumes nothing.
 use mathlib.Core.Path.{_≡_, refl, sym, ap, _∙_}
-use mathlib.Core.Bool.{Bool, true, false, cond}
-use mathlib.Core.List.{List, []}
-use Prim.Native.Nat.{ℕ, suc}
+use mathlib.Core.Bool.{true, false}
+use mathlib.Core.List.{List, [], _∷_, _++_}
+use Prim.Native.Nat.{ℕ, zero, suc, _*_, _≤_}
 use native.Mathlib.Omega.{arith}
-use lib.ListN.{length}
+use lib.ListN.{length, set}
+use lib.Seq.{sets}
 use borrow.Author.Tests.{eq-eqb, ne-eqb}
 use Rattle.dl_record.specs.declared.Record.{Record}
 use Rattle.sched_core.specs.declared.Station.{Station}
 use Rattle.sched_core.specs.declared.Refusal.{Refusal}
+use Rattle.sched_core.specs.declared.Reply.{Reply}
 use Rattle.sched_core.specs.declared.RequestReply.{RequestReply}
 use Rattle.sched_core.specs.declared.Answer.{Answer}
-use Rattle.sched_core.specs.Questions.{Memory, memory, soundStation, areLengthsRight, refusalNumber}
-use Rattle.sched_core.specs.Calls.{Outcome, outcome, replyNumber, requestNumber}
-use Rattle.sched_core.proofs.QuestionLaws.{queue-not-64}
-use Rattle.sched_words.specs.Words.{stationWords, stationFrom, queueWords, queueFrom, recordsFrom}
-use Rattle.bs_sched_c.specs.Exports.{if228, stationLeft, answered, Left, left, memoryFrom, leftBy, grantOf}
+use Rattle.sched_core.specs.Questions.{Memory, memory, Question, soundStation, isStationSound, areLengthsRight, isQueueSound, refusalNumber, ask}
+use Rattle.sched_core.specs.Calls.{Outcome, outcome, judged, replyNumber, requestNumber}
+use Rattle.enqueue_core.specs.Plan.{SoundQueue, Planned}
+use Rattle.enqueue_core.proofs.PlanLaws.{first}
+use Rattle.sched_words.specs.Words.{stationWords, stationFrom, recordWords, recordsFrom}
+use Rattle.bs_sched_c.specs.declared.reply.BsSchedGrant.{BsSchedGrant}
+use Rattle.bs_sched_c.specs.Asked.{queueQuestions, askedNumber}
+use Rattle.bs_sched_c.specs.Exports.{if228, stationLeft, answered, Left, left, memoryFrom, leftBy, notGranted, grantOf}
+use Rattle.bs_sched_c.proofs.AskedLaws.{zero-not, asked-no, record-stored}
 
--- a station of 228 words, and of others
+-- a station of 228 words
 pub is-228 : {A : Type 0} (ws : List ℕ) {a done : A} (refused : A) → length ws ≡ 228 → a ≡ done → a ≡ if228 ws done refused
 is-228 ws refused h e = rw (eq-eqb _ _ h) e
-
-pub not-228 : {A : Type 0} (ws : List ℕ) (done refused : A) → (length ws ≡ 228 → ⊥) → refused ≡ if228 ws done refused
-not-228 ws done refused h = rw (ne-eqb _ _ h)
-
--- a queue of 1,472 words, and of others
-pub queue-whole : (qs : List ℕ) → length qs ≡ 1472 → queueFrom qs ≡ recordsFrom qs
-unfolding recordsFrom
-queue-whole qs h = rw (eq-eqb _ _ h)
-
-pub no-queue : (qs : List ℕ) → (length qs ≡ 1472 → ⊥) → recordsFrom qs ≡ []
-unfolding recordsFrom
-no-queue qs h = rw (ne-eqb _ _ h)
-
-pub zero-not : {n : ℕ} → suc n ≡ 0 → ⊥
-zero-not e = omega (arith, e)
-
-pub no-records : (qs : List ℕ) → (length qs ≡ 1472 → ⊥) → length (recordsFrom qs) ≡ 64 → ⊥
-no-records qs h e = let k : length (recordsFrom qs) ≡ 0 = ap length (no-queue qs h) in omega (arith, e, k)
 
 -- ---- calls on the station alone
 
@@ -50,45 +38,74 @@ module _ (ws : List ℕ) (a : Answer) (n : ℕ) (numbered : n ≡ replyNumber (a
 
 -- ---- calls that queue
 
--- a refusal as an outcome
-refused-left : {A R : Type 0} (number : A → ℕ) (reply : A → R) (ws qs st : List ℕ) (a : A) (m : Memory) (o : Outcome A) → outcome a m ≡ o → (number a ≡ 0 → ⊥)
-    → left (reply a) ws qs st ≡ leftBy number reply ws qs st o
-refused-left number reply ws qs st a m o e h = rw (sym e, ne-eqb _ _ h)
+-- how such a call answers: its replies as numbers, and as the export's
+pub record Replies (A R : Type 0) : Type 0 where
+  pub number : A → ℕ
+  pub reply : A → R
+  pub refuse : Refusal → A
+  pub numbered : ℕ → R
+  pub refusal : (r : Refusal) → number (refuse r) ≡ refusalNumber r
+  pub told : (r : Refusal) → numbered (refusalNumber r) ≡ reply (refuse r)
 
--- a station of 228 words
-module _ {A R : Type 0} (number : A → ℕ) (reply : A → R) (call : Memory → Outcome A) (other : Left R) (ws qs st : List ℕ) (w228 : length ws ≡ 228) where
-  -- what the export promises
-  abbrev promised : Left R
-  promised = if228 ws (leftBy number reply ws qs st (call (memoryFrom ws qs st))) other
+abbrev pub queueReplies : Replies Reply ℕ
+queueReplies = record { number = replyNumber; reply = replyNumber; refuse = Reply.Refused; numbered = λ n. n; refusal = λ r. refl; told = λ r. refl }
 
-  -- a queue of other than 64 records
-  pub exit-lengths : (refused : Refusal → A) (numbered : ℕ → R) → ((r : Refusal) → number (refused r) ≡ refusalNumber r) → ((r : Refusal) → numbered (refusalNumber r) ≡ reply (refused r))
-      → ((m : Memory) → soundStation (m .station) ≡ false → outcome (refused Refusal.Unsound) m ≡ call m)
-      → ((m : Memory) → soundStation (m .station) ≡ true → areLengthsRight m .holds ≡ false → outcome (refused Refusal.Lengths) m ≡ call m)
-      → (length qs ≡ 1472 → ⊥) → (s : Station) → s ≡ stationFrom ws → (n : ℕ) → n ≡ cond (soundStation s) 2 1 → (x : R) → x ≡ numbered n → left x ws qs st ≡ promised
-  exit-lengths refused numbered f g unsound lengths h s es n en x ex = is-228 ws other w228 (rw (ex, en, es) (go (soundStation (stationFrom ws)) refl))
-    where
-      m : Memory
-      m = memoryFrom ws qs st
-
-      go : (b : Bool) → soundStation (stationFrom ws) ≡ b → left (numbered (cond b 2 1)) ws qs st ≡ leftBy number reply ws qs st (call m)
-      go true e =
-          rw (g Refusal.Lengths) (refused-left number reply ws qs st (refused Refusal.Lengths) m (call m) (lengths m e (queue-not-64 m (no-records qs h))) (λ k. zero-not (sym (f Refusal.Lengths) ∙ k)))
-      go false e = rw (g Refusal.Unsound) (refused-left number reply ws qs st (refused Refusal.Unsound) m (call m) (unsound m e) (λ k. zero-not (sym (f Refusal.Unsound) ∙ k)))
-
-  -- a queue of 64 records: the call was made
-  module _ (q1472 : length qs ≡ 1472) (s : Station) (rs : List Record) (es : s ≡ stationFrom ws) (er : rs ≡ queueFrom qs) (a : A) (s' : Station) (rs' : List Record) (st' : List ℕ)
-      (done : outcome a (memory s' rs' st') ≡ call (memory s rs st)) (n : ℕ) (en : n ≡ number a) (x : R) (ex : x ≡ reply a) where
-    called : outcome a (memory s' rs' st') ≡ call (memoryFrom ws qs st)
-    called = done ∙ rw (es, er, queue-whole qs q1472)
-
-    pub exit-refused : (n ≡ 0 → ⊥) → left x ws qs st ≡ promised
-    exit-refused h = is-228 ws other w228 (rw ex (refused-left number reply ws qs st a (memory s' rs' st') _ called (λ k. h (en ∙ k))))
-
-    pub exit-done : n ≡ 0 → (ws' qs' : List ℕ) → ws' ≡ stationWords s' → qs' ≡ queueWords rs' → left x ws' qs' st' ≡ promised
-    exit-done h ws' qs' ew eq = is-228 ws other w228 (rw (sym called, ex, ew, eq, eq-eqb _ _ (sym en ∙ h)))
+abbrev pub grantReplies : Replies RequestReply BsSchedGrant
+grantReplies = record { number = requestNumber; reply = grantOf; refuse = RequestReply.Refused; numbered = notGranted; refusal = λ r. refl; told = λ r. refl }
 
 -- the number in a grant's answer
 pub grant-number : (r : RequestReply) → grantOf r .refusal ≡ requestNumber r
 grant-number (RequestReply.Granted c d m) = refl
 grant-number (RequestReply.Refused r) = refl
+
+positive : (n : ℕ) → (n ≡ 0 → ⊥) → 1 ≤ n
+positive zero h = absurd (h refl)
+positive (suc n) h = omega arith
+
+-- a station of 228 words, which is that of s
+module _ {A R : Type 0} (k : Replies A R) (ws qs st : List ℕ) (w228 : length ws ≡ 228) (s : Station) (es : s ≡ stationFrom ws) where
+  abbrev other : Left R
+  other = left (k .numbered 2) ws qs st
+
+  abbrev m : Memory
+  m = memoryFrom ws qs st
+
+  -- what the export promises of a call
+  abbrev promised : Outcome A → Left R
+  promised o = if228 ws (leftBy (k .number) (k .reply) ws qs st o) other
+
+  refused-left : (a : A) (m' : Memory) (o : Outcome A) → outcome a m' ≡ o → (k .number a ≡ 0 → ⊥) → left (k .reply a) ws qs st ≡ leftBy (k .number) (k .reply) ws qs st o
+  refused-left a m' o e h = rw (sym e, ne-eqb _ _ h)
+
+  module _ (rest : List Question) (done : Outcome A) where
+    -- a no to one of the first questions
+    exit-no : (q more : List Question) (n : ℕ) → askedNumber q ≡ n → (n ≡ 0 → ⊥) → (x : R) → x ≡ k .numbered n → left x ws qs st ≡ promised (judged (k .refuse) m (q ++ more) done)
+    exit-no q more n e h x ex =
+        ap (λ (y : R). left y ws qs st) (ex ∙ ap (k .numbered) (sym e))
+        ∙ is-228 ws other w228
+        (asked-no (λ (i : ℕ) (o : Outcome A). left (k .numbered i) ws qs st ≡ leftBy (k .number) (k .reply) ws qs st o) done (λ r. outcome (k .refuse r) m)
+        (λ r z. ap (λ (y : R). left y ws qs st) (k .told r) ∙ refused-left (k .refuse r) m _ refl (λ f. z (sym (k .refusal r) ∙ f))) q more (λ z. h (sym e ∙ z)))
+
+    pub exit-station : soundStation s ≡ false → (x : R) → x ≡ k .numbered 1 → left x ws qs st ≡ promised (judged (k .refuse) m (first m rest) done)
+    unfolding ask
+    exit-station bad x ex = exit-no (isStationSound (stationFrom ws) ∷ []) (areLengthsRight m ∷ isQueueSound m ∷ rest) 1 (rw (sym es, bad)) zero-not x ex
+
+    pub exit-queue : soundStation s ≡ true → (n : ℕ) → n ≡ askedNumber (queueQuestions (s .queued) (recordsFrom qs) st) → (n ≡ 0 → ⊥) → (x : R) → x ≡ k .numbered n
+        → left x ws qs st ≡ promised (judged (k .refuse) m (first m rest) done)
+    unfolding ask
+    exit-queue good n en h x ex = exit-no (first m []) rest n (rw (sym es, good, en)) h x ex
+
+  -- every question of the queue's is answered yes: there is a plan
+  module _ (queue : SoundQueue s (recordsFrom qs) st) (call : Memory → Outcome A) (st' : List ℕ) (a : A) (s' : Station) (place : ℕ) (r : Record)
+      (plan : Planned (k .number) call s st st' a s' place r) (n : ℕ) (en : n ≡ k .number a) (x : R) (ex : x ≡ k .reply a) where
+    called : outcome a (memory s' (set (recordsFrom qs) place r) st') ≡ call m
+    called = plan .whole (recordsFrom qs) queue ∙ ap (λ (y : Station). call (memory y (recordsFrom qs) st)) es
+
+    pub exit-refused : (n ≡ 0 → ⊥) → left x ws qs st' ≡ promised (call m)
+    exit-refused h =
+        let not-0 : k .number a ≡ 0 → ⊥ = λ z. h (en ∙ z) in
+        ap (λ (l : List ℕ). left x ws qs l) (plan .refused (positive (k .number a) not-0) .2)
+        ∙ is-228 ws other w228 (ap (λ (y : R). left y ws qs st) ex ∙ refused-left a (memory s' (set (recordsFrom qs) place r) st') _ called not-0)
+
+    pub exit-done : n ≡ 0 → (ws' qs' : List ℕ) → ws' ≡ stationWords s' → qs' ≡ sets qs (23 * place) (recordWords r) → left x ws' qs' st' ≡ promised (call m)
+    exit-done h ws' qs' ew eq = is-228 ws other w228 (rw (sym called, ex, ew, eq, record-stored ws qs st s es queue place (plan .joins (sym en ∙ h)) r, eq-eqb _ _ (sym en ∙ h)))

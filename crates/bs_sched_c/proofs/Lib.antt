@@ -1,3 +1,3 @@
-pub mod CallLaws
+pub mod AskedLaws
 pub mod LeftLaws
 pub mod BuildLeftLaws

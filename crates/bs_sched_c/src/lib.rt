@@ -1,6 +1,5 @@
 // The scheduler for callers in C and Rust: state and queue as words (crate sched_words), store, SDU and block as octets. Each
 // function answers document 01's number, 0 for done; on any other number nothing of the caller's is altered.
-pub mod call;
 pub mod reply;
 
 use crate::reply::BsSchedBuilt;
@@ -10,6 +9,8 @@ use crate::reply::BsSchedUsage;
 use tdma_time::TdmaTime;
 use uplink::PhyBlockNum;
 ghost use mathlib.Core.Path.{_≡_};
+ghost use Rattle.sched_words.specs.Words.{recordsFrom};
+ghost use Rattle.bs_sched_c.specs.Asked.{queueQuestions, askedNumber};
 ghost use Rattle.bs_sched_c.specs.Exports.{timeAt, stationLeft, newLeft, advanceLeft, ownerAnswer, usageReply, left, requestLeft, ackLeft, enqueueLeft, buildLeft, builtLeft};
 
 fn time_at(h: u16, m: u8, f: u8, t: u8) -> TdmaTime
@@ -107,6 +108,22 @@ pub extern "C" fn bs_sched_usage(station: &[u32], h: u16, m: u8, f: u8, t: u8) -
     reply::usage_of(found)
 }
 
+// Question 2, and question 1 for records and cells: the number of the first no, 0 for none.
+fn queue_number(queued: [u8; 4], queue: &[u32], store: &[u8]) -> u8
+    ensures { λ n. ⌜ n ≡ askedNumber (queueQuestions queued (recordsFrom (now (queue .entry))) (now (store .entry))) ⌝ }
+{
+    if queue.len() != 1472 {
+        return 2;
+    }
+    if store.len() != 16384 {
+        return 2;
+    }
+    if !sched_words::queue::queue_is_sound(queued, queue, store) {
+        return 1;
+    }
+    0
+}
+
 // A request for capacity.
 #[no_mangle]
 pub extern "C" fn bs_sched_request(
@@ -124,20 +141,24 @@ pub extern "C" fn bs_sched_request(
         return reply::not_granted(2);
     }
     let s = sched_words::station::station_from(station);
-    if queue.len() != 1472 {
-        return reply::not_granted(reply::length_number(s));
+    if !sched_core::station_is_sound(s) {
+        return reply::not_granted(1);
     }
-    let records = sched_words::queue::queue_from(queue);
-    let done = call::request(s, records, store, timeslot, code, kind, number);
-    let reply = done.reply;
-    let next = done.station;
-    let after = done.records;
+    let queued = s.queued;
+    let no = queue_number(queued, queue, store);
+    if no != 0 {
+        return reply::not_granted(no);
+    }
+    let plan = request_core::request_plan(s, timeslot, code, kind, number);
+    let reply = plan.reply;
     let grant = reply::grant_of(reply);
     if grant.refusal != 0 {
         return grant;
     }
+    let next = plan.station;
+    let r = plan.record;
     sched_words::station::put_station(station, next);
-    sched_words::queue::put_records(queue, after);
+    sched_words::queue::put_record(queue, plan.place, r);
     grant
 }
 
@@ -157,20 +178,24 @@ pub extern "C" fn bs_sched_enqueue_ack(
         return 2;
     }
     let s = sched_words::station::station_from(station);
-    if queue.len() != 1472 {
-        return reply::length_number(s);
+    if !sched_core::station_is_sound(s) {
+        return 1;
     }
-    let records = sched_words::queue::queue_from(queue);
-    let done = call::enqueue_ack(s, records, store, timeslot, kind, number);
-    let reply = done.reply;
-    let next = done.station;
-    let after = done.records;
+    let queued = s.queued;
+    let no = queue_number(queued, queue, store);
+    if no != 0 {
+        return no;
+    }
+    let plan = enqueue_core::ack_plan(s, timeslot, kind, number);
+    let reply = plan.reply;
     let n = reply::reply_number(reply);
     if n != 0 {
         return n;
     }
+    let next = plan.station;
+    let r = plan.record;
     sched_words::station::put_station(station, next);
-    sched_words::queue::put_records(queue, after);
+    sched_words::queue::put_record(queue, plan.place, r);
     0
 }
 
@@ -193,21 +218,40 @@ pub extern "C" fn bs_sched_enqueue(
         return 2;
     }
     let s = sched_words::station::station_from(station);
-    if queue.len() != 1472 {
-        return reply::length_number(s);
+    if !sched_core::station_is_sound(s) {
+        return 1;
     }
-    let records = sched_words::queue::queue_from(queue);
-    let r = sched_words::queue::record_from(offered);
-    let done = call::enqueue(s, records, store, timeslot, r, sdu);
-    let reply = done.reply;
-    let next = done.station;
-    let after = done.records;
+    let queued = s.queued;
+    let no = queue_number(queued, queue, store);
+    if no != 0 {
+        return no;
+    }
+    let o = sched_words::queue::record_from(offered);
+    let address_kind = o.address_kind;
+    let number = o.number;
+    let tag = o.tag;
+    let header = o.header;
+    let bits = o.bits;
+    let plan = enqueue_core::tma_plan(
+        s,
+        store,
+        timeslot,
+        address_kind,
+        number,
+        tag,
+        header,
+        bits,
+        sdu,
+    );
+    let reply = plan.reply;
     let n = reply::reply_number(reply);
     if n != 0 {
         return n;
     }
+    let next = plan.station;
+    let r = plan.record;
     sched_words::station::put_station(station, next);
-    sched_words::queue::put_records(queue, after);
+    sched_words::queue::put_record(queue, plan.place, r);
     0
 }
 
@@ -225,27 +269,32 @@ pub extern "C" fn bs_sched_build(
         return reply::not_built(2);
     }
     let s = sched_words::station::station_from(station);
-    if queue.len() != 1472 {
-        return reply::not_built(reply::length_number(s));
+    if !sched_core::station_is_sound(s) {
+        return reply::not_built(1);
     }
-    let records = sched_words::queue::queue_from(queue);
-    let done = call::build(s, records, store, block);
-    let reply = done.reply;
+    // a block of another length is a no to question 2, like a queue or a store
+    if block.len() != 34 {
+        return reply::not_built(2);
+    }
+    let queued = s.queued;
+    let no = queue_number(queued, queue, store);
+    if no != 0 {
+        return reply::not_built(no);
+    }
+    if !build_core::builds_now(s) {
+        return reply::not_built(0);
+    }
+    let records = sched_words::queue::records_read(queue);
+    let done = build_core::build_sound(s, records, store, block);
     let next = done.station;
     let after = done.records;
     let tags = done.tags;
-    let n = reply::build_number(reply);
-    let built = reply::built_word(reply);
-    let answer = BsSchedBuilt {
-        refusal: n,
-        built: built,
-        tag_count: done.tag_count,
-        tags: tags,
-    };
-    if n != 0 {
-        return answer;
-    }
     sched_words::station::put_station(station, next);
     sched_words::queue::put_records(queue, after);
-    answer
+    BsSchedBuilt {
+        refusal: 0,
+        built: 1,
+        tag_count: done.tag_count,
+        tags: tags,
+    }
 }

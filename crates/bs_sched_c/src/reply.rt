@@ -1,19 +1,16 @@
 // The replies of the exported functions, and how the scheduler's replies become them.
 use optional::OptU8;
-use sched_core::BuildReply;
 use sched_core::OwnerReply;
 use sched_core::Refusal;
 use sched_core::Reply;
 use sched_core::RequestReply;
-use sched_core::Station;
 use sched_core::UsageReply;
 use uplink::AccessAssignUlUsage;
 ghost use mathlib.Core.Path.{_≡_};
-ghost use mathlib.Core.Bool.{cond};
 ghost use Rattle.uplink.specs.UplinkEntry.{usageNumber, usageMarker, markerOrZero};
-ghost use Rattle.sched_core.specs.Questions.{refusalNumber, soundStation};
-ghost use Rattle.sched_core.specs.Calls.{replyNumber, buildNumber, ownerNumber};
-ghost use Rattle.bs_sched_c.specs.Exports.{notGranted, grantOf, builtWord, notBuilt, ownerWord, usageAnswer, usageOf};
+ghost use Rattle.sched_core.specs.Questions.{refusalNumber};
+ghost use Rattle.sched_core.specs.Calls.{replyNumber, ownerNumber};
+ghost use Rattle.bs_sched_c.specs.Exports.{notGranted, grantOf, notBuilt, ownerWord, usageAnswer, usageOf};
 
 // The grant of a request; usage_marker is 0 if there is none.
 #[repr(C)]
@@ -76,16 +73,6 @@ pub fn reply_number(r: Reply) -> u8
     }
 }
 
-// The number where the queue has not 64 records: 1 for an unsound state comes first.
-pub fn length_number(s: Station) -> u8
-    ensures { λ n. ⌜ n ≡ cond (soundStation s) 2 1 ⌝ }
-{
-    if !sched_core::station_is_sound(s) {
-        return 1;
-    }
-    2
-}
-
 pub fn not_granted(n: u8) -> BsSchedGrant
     ensures { λ r. ⌜ r ≡ notGranted n ⌝ }
 {
@@ -119,26 +106,6 @@ pub fn grant_of(r: RequestReply) -> BsSchedGrant
             usage_marker,
         } => granted(capacity, delay, usage_marker),
         RequestReply::Refused(q) => not_granted(refusal_number(q)),
-    }
-}
-
-pub fn build_number(r: BuildReply) -> u8
-    ensures { λ n. ⌜ n ≡ buildNumber r ⌝ }
-{
-    match r {
-        BuildReply::Built => 0,
-        BuildReply::NoBlock => 0,
-        BuildReply::Refused(q) => refusal_number(q),
-    }
-}
-
-pub fn built_word(r: BuildReply) -> u8
-    ensures { λ n. ⌜ n ≡ builtWord r ⌝ }
-{
-    match r {
-        BuildReply::Built => 1,
-        BuildReply::NoBlock => 0,
-        BuildReply::Refused(_) => 0,
     }
 }
 

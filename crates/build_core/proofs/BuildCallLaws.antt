@@ -49,7 +49,7 @@ module _ (m : Memory) (block : List ℕ) (sound : soundStation (m .station) ≡ 
   unsound-answered a bad e = rw e (subst (λ o. BuildAnswered o (nothing (BuildReply.Refused Refusal.Unsound) m) (m .store) block) (first-no _ _ 3 (buildQuestions m block) first bad) (nothing-answered (BuildReply.Refused Refusal.Unsound) m block))
 
   module _ (queue : soundQueue (m .station .queued) (m .records) (m .store) ≡ true) where
-    all-yes : cond (buildsNow (m .station)) (blockBuilt m (current (m .station)) (builtNow m)) (notBuilt BuildReply.NoBlock m block) ≡ buildCall m block
+    pub all-yes : cond (buildsNow (m .station)) (blockBuilt m (current (m .station)) (builtNow m)) (notBuilt BuildReply.NoBlock m block) ≡ buildCall m block
     unfolding buildCall
     all-yes = every-yes _ _ (buildQuestions m block) (first, queue)
 

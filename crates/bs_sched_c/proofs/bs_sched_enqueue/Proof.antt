@@ -1,20 +1,42 @@
 -- Exit by exit. Assumes nothing.
 use borrow.Author.Needs.{needs}
 use borrow.Author.Tests.{eq-eqb, ne-eqb}
-use mathlib.Core.Path.{refl, sym, _∙_, ap}
+use mathlib.Core.Path.{_≡_, refl, sym, subst, _∙_}
+use mathlib.Core.Bool.{true}
 use mathlib.Core.List.{List}
 use Prim.Native.Nat.{ℕ}
 use Rattle.dl_record.specs.declared.Record.{Record}
+use Rattle.sched_core.specs.declared.Station.{Station}
 use Rattle.sched_core.specs.declared.Reply.{Reply}
-use Rattle.sched_core.specs.Questions.{Memory, memory}
-use Rattle.sched_core.specs.Calls.{replyNumber, tmaCall}
-use Rattle.sched_core.proofs.EntryLaws.{tma-unsound, tma-lengths}
-use Rattle.sched_words.specs.Words.{recordFrom}
-use Rattle.bs_sched_c.specs.Exports.{left, enqueueLeft}
-use Rattle.bs_sched_c.proofs.CallLaws.{tma-kept}
-use Rattle.bs_sched_c.proofs.LeftLaws.{exit-lengths, exit-refused, exit-done}
+use Rattle.sched_core.specs.Questions.{Memory, soundStation}
+use Rattle.sched_core.specs.Calls.{Outcome, tmaCall}
+use Rattle.sched_core.proofs.AskLaws.{said-no, said-yes}
+use Rattle.enqueue_core.specs.declared.QueuePlan.{QueuePlan}
+use Rattle.enqueue_core.specs.Plan.{SoundQueue, QueuePlanned}
+use Rattle.sched_words.specs.Words.{recordFrom, recordsFrom}
+use Rattle.bs_sched_c.specs.Exports.{enqueueLeft}
+use Rattle.bs_sched_c.proofs.AskedLaws.{all-words, asked-yes}
+use Rattle.bs_sched_c.proofs.LeftLaws.{queueReplies, exit-station, exit-queue, exit-refused, exit-done}
 use Rattle.bs_sched_c.proofs.bs_sched_enqueue.Statement.{statement}
 use Rattle.bs_sched_c.proofs.bs_sched_enqueue.Tie as tie
+
+-- the call for an offered record
+abbrev called : ℕ → List ℕ → Record → Memory → Outcome Reply
+called t sdu r m = tmaCall m t (r .«address_kind») (r .number) (r .tag) (r .header) (r .bits) sdu
+
+-- what the questions have told
+sound : (c : tie.Else3) → soundStation (c .before .before .station-from .result) ≡ true
+sound c = said-yes (c .before .station-is-sound .ensures) (c .if3 .left)
+
+passed : (c : tie.Else4)
+    → let f = c .before .before .before .before .before .before .before in
+    let a = f .before .before .before .before .before .before .before .before .before .args in
+    SoundQueue (f .station-from .result) (recordsFrom (a .queue .now)) (a .store .now)
+passed c = asked-yes _ _ _ _ (c .before .queue-number .ensures) (c .if4 .left)
+
+-- the plan for a record that is read is the plan for the record of the words
+planned : (t : ℕ) (sdu : List ℕ) (x y : Record) → x ≡ y → (s : Station) (st st' : List ℕ) (p : QueuePlan) → QueuePlanned (called t sdu x) s st st' p → QueuePlanned (called t sdu y) s st st' p
+planned t sdu x y e s st st' p = subst (λ (r : Record). QueuePlanned (called t sdu r) s st st' p) e
 
 returns : tie.Need-returns
 unfolding enqueueLeft
@@ -25,71 +47,77 @@ unfolding enqueueLeft
 returns-2 c = rw (eq-eqb _ _ (c .before .if1 .left), ne-eqb _ _ (c .if2 .taken))
 
 returns-3 : tie.Need-returns-3
-unfolding enqueueLeft
+unfolding enqueueLeft tmaCall
 returns-3 c =
-    let q = c .before in
-    let f = q .before in
-    let e2 = f .before .before in
-    let e1 = e2 .before in
-    let a = e1 .before .before .before .before .before .before .args in
-    let ws = a .station .now in
-    let qs = a .queue .now in
-    let st = a .store .now in
-    let r = recordFrom (a .offered .now) in
-    rw (eq-eqb _ _ (e2 .if2 .left))
-    (exit-lengths replyNumber replyNumber (λ (m : Memory). tmaCall m (a .timeslot) (r .«address_kind») (r .number) (r .tag) (r .header) (r .bits) (a .sdu .now)) (left 2 ws qs st) ws qs st (e1 .if1 .left) Reply.Refused (λ n. n) (λ r. refl) (λ r. refl)
-    (λ m. tma-unsound m _ _ _ _ _ _ _) (λ m. tma-lengths m _ _ _ _ _ _ _) (q .if3 .taken) _ (f .station-from .ensures) _ (c .length-number .ensures) _ refl)
+    let f = c .before .before in
+    let e = f .before .before in
+    let a = e .before .before .before .before .before .before .before .args in
+    rw (eq-eqb _ _ (e .if2 .left))
+    (exit-station queueReplies (a .station .now) (a .queue .now) (a .store .now) (e .before .if1 .left) _ (f .station-from .ensures) _ _ (said-no (c .before .station-is-sound .ensures) (c .if3 .taken)) _ refl)
 
 returns-4 : tie.Need-returns-4
-unfolding enqueueLeft
+unfolding enqueueLeft tmaCall
 returns-4 c =
-    let g = c .before in
-    let d = g .before .before .before .before .before in
-    let q = d .before .before .before in
-    let k = q .before .before in
-    let f = k .before in
-    let e2 = f .before .before in
-    let e1 = e2 .before in
-    let a = e1 .before .before .before .before .before .before .args in
-    let ws = a .station .now in
-    let qs = a .queue .now in
-    let st = a .store .now in
-    let r = recordFrom (a .offered .now) in
-    let done = (d .enqueue .ensures
-    ∙ ap (λ (x : Record). tmaCall (memory (f .station-from .result) (q .queue-from .result) st) (a .timeslot) (x .«address_kind») (x .number) (x .tag) (x .header) (x .bits) (a .sdu .now)) (d .before .before .record-from .ensures)) in
-    let kept = tma-kept _ _ _ _ _ _ _ _ _ _ _ _ done (λ z. c .if4 .taken (g .reply-number .ensures ∙ z)) in
-    rw (eq-eqb _ _ (e2 .if2 .left))
-    (ap (λ (x : List ℕ). left (g .reply-number .result) ws qs x) kept
-    ∙ exit-refused replyNumber replyNumber (λ (m : Memory). tmaCall m (a .timeslot) (r .«address_kind») (r .number) (r .tag) (r .header) (r .bits) (a .sdu .now)) (left 2 ws qs st) ws qs st (e1 .if1 .left) (k .if3 .left) _ _ (f .station-from .ensures) (q .queue-from .ensures)
-    _ _ _ _ done _ (g .reply-number .ensures) _ (g .reply-number .ensures) (c .if4 .taken))
+    let q = c .before in
+    let i = q .before .before .before .before in
+    let f = i .before .before in
+    let e = f .before .before in
+    let a = e .before .before .before .before .before .before .before .args in
+    rw (eq-eqb _ _ (e .if2 .left))
+    (exit-queue queueReplies (a .station .now) (a .queue .now) (a .store .now) (e .before .if1 .left) _ (f .station-from .ensures) _ _ (sound i) _ (q .queue-number .ensures) (c .if4 .taken) _ refl)
+
+tma-plan-requires : tie.Need-tma-plan-requires
+tma-plan-requires c κs =
+    let t = c .before .before .before in
+    (sound (t .before .before .before .before .before), passed t .cells)
 
 returns-5 : tie.Need-returns-5
 unfolding enqueueLeft
 returns-5 c =
-    let p2 = c .before .before in
-    let p1 = p2 .before .before .before .before in
-    let n = p1 .before .before in
+    let g = c .before in
+    let p = g .before .before .before in
+    let t = p .before .before .before .before in
+    let f = t .before .before .before .before .before .before .before in
+    let e = f .before .before in
+    let a = e .before .before .before .before .before .before .before .args in
+    rw (eq-eqb _ _ (e .if2 .left))
+    (exit-refused queueReplies (a .station .now) (a .queue .now) (a .store .now) (e .before .if1 .left) _ (f .station-from .ensures) (passed t)
+    (called (a .timeslot) (a .sdu .now) (recordFrom (a .offered .now))) _ _ _ _ _ (planned (a .timeslot) (a .sdu .now) _ _ (p .before .before .before .record-from .ensures) _ _ _ (p .tma-plan .result) (p .tma-plan .ensures)) _ (g .reply-number .ensures) _ (g .reply-number .ensures) (c .if5 .taken))
+
+put-station-requires : tie.Need-put-station-requires
+put-station-requires c κs =
+    let t = c .before .before .before .before .before .before .before .before .before .before .before in
+    t .before .before .before .before .before .before .before .before .before .before .if1 .left
+
+put-record-requires : tie.Need-put-record-requires
+put-record-requires c κs =
+    let n = c .before .before .before .before .before .before .before in
+    let p = n .before .before .before .before in
+    let t = p .before .before .before .before in
+    let a = t .before .before .before .before .before .before .before .before .before .before .before .before .before .before .before .before .args in
+    (p .tma-plan .ensures .joins (sym (n .before .reply-number .ensures) ∙ n .if5 .left), all-words (a .queue .now) (passed t .places))
+
+returns-6 : tie.Need-returns-6
+unfolding enqueueLeft
+returns-6 c =
+    let w = c .before .before in
+    let v = w .before .before .before .before in
+    let n = v .before .before .before .before in
     let g = n .before in
-    let d = g .before .before .before .before .before in
-    let q = d .before .before .before in
-    let k = q .before .before in
-    let f = k .before in
-    let e2 = f .before .before in
-    let e1 = e2 .before in
-    let a = e1 .before .before .before .before .before .before .args in
-    let ws = a .station .now in
-    let qs = a .queue .now in
-    let st = a .store .now in
-    let r = recordFrom (a .offered .now) in
-    let done = (d .enqueue .ensures
-    ∙ ap (λ (x : Record). tmaCall (memory (f .station-from .result) (q .queue-from .result) st) (a .timeslot) (x .«address_kind») (x .number) (x .tag) (x .header) (x .bits) (a .sdu .now)) (d .before .before .record-from .ensures)) in
-    rw (eq-eqb _ _ (e2 .if2 .left))
-    (exit-done replyNumber replyNumber (λ (m : Memory). tmaCall m (a .timeslot) (r .«address_kind») (r .number) (r .tag) (r .header) (r .bits) (a .sdu .now)) (left 2 ws qs st) ws qs st (e1 .if1 .left) (k .if3 .left) _ _ (f .station-from .ensures) (q .queue-from .ensures)
-    _ _ _ _ done _ (g .reply-number .ensures) _ (sym (n .if4 .left) ∙ g .reply-number .ensures) (n .if4 .left) _ _ (p1 .put-station .ensures) (p2 .put-records .ensures))
+    let p = g .before .before .before in
+    let t = p .before .before .before .before in
+    let f = t .before .before .before .before .before .before .before in
+    let e = f .before .before in
+    let a = e .before .before .before .before .before .before .before .args in
+    rw (eq-eqb _ _ (e .if2 .left))
+    (exit-done queueReplies (a .station .now) (a .queue .now) (a .store .now) (e .before .if1 .left) _ (f .station-from .ensures) (passed t)
+    (called (a .timeslot) (a .sdu .now) (recordFrom (a .offered .now))) _ _ _ _ _ (planned (a .timeslot) (a .sdu .now) _ _ (p .before .before .before .record-from .ensures) _ _ _ (p .tma-plan .result) (p .tma-plan .ensures)) _ (g .reply-number .ensures) _ (sym (n .if5 .left) ∙ g .reply-number .ensures)
+    (n .if5 .left) _ _ (v .put-station .ensures) (w .put-record .ensures))
 
 pub bs-sched-enqueue-spec : {M : Type 1} → statement M
 bs-sched-enqueue-spec =
     tie.close
-    (tie.spec returns returns-2 (λ c κs. search needs) (λ c κs. search needs) (λ c. search needs) returns-3 (λ c κs. search needs) (λ c κs. search needs)
-    (λ c κs. search needs) (λ c κs. search needs) (λ c. search needs) (λ c. search needs) (λ c. search needs) returns-4 (λ c κs. search needs)
-    (λ c κs. search needs) (λ c. search needs) (λ c. search needs) (λ c. search needs) returns-5)
+    (tie.spec returns returns-2 (λ c κs. search needs) (λ c κs. search needs) (λ c. search needs) returns-3 (λ c κs. search needs) (λ c. search needs)
+    (λ c. search needs) (λ c. search needs) returns-4 (λ c κs. search needs) tma-plan-requires (λ c κs. search needs) (λ c. search needs)
+    (λ c. search needs) (λ c. search needs) returns-5 put-station-requires put-record-requires (λ c. search needs) (λ c. search needs)
+    (λ c. search needs) returns-6)

@@ -1,0 +1,115 @@
+-- The questions that an export asks first, and the words of a queue that passes them. Assumes nothing.
+use mathlib.Core.Path.{_≡_, refl, sym, ap, _∙_}
+use mathlib.Core.Bool.{Bool, true, false, _&&_, cond}
+use mathlib.Core.List.{List, [], _∷_, _++_}
+use Prim.Native.Nat.{ℕ, suc, _*_, _<_}
+use native.Mathlib.Omega.{arith}
+use lib.Dec.{eqb}
+use lib.ListN.{length, replicate, set}
+use lib.Seq.{sets}
+use borrow.Author.Tests.{eq-eqb, ne-eqb, eqb-true}
+use Rattle.optional.proofs.Tests.{and-left, and-right}
+use Rattle.uplink.proofs.Basics.{not-both}
+use Rattle.dl_record.specs.declared.Record.{Record}
+use Rattle.dl_queue.specs.Questions.{soundQueue}
+use Rattle.sched_core.specs.declared.Station.{Station}
+use Rattle.sched_core.specs.declared.Refusal.{Refusal}
+use Rattle.sched_core.specs.Questions.{Question, question, refusalNumber, ask}
+use Rattle.enqueue_core.specs.Plan.{SoundQueue}
+use Rattle.sched_words.specs.Words.{sameWords, stationWords, stationRead, stationFrom, noStation, recordWords, queueWords, recordRead, recordsRead, noRecord, queueFrom, recordsFrom}
+use Rattle.sched_words.proofs.WordLaws.{length-parts}
+use Rattle.sched_words.proofs.WordsQueue.{sound-read, sound-words, set-words}
+use Rattle.bs_sched_c.specs.Asked.{queueQuestions, askedNumber}
+
+pub zero-not : {n : ℕ} → suc n ≡ 0 → ⊥
+zero-not e = omega (arith, e)
+
+-- ---- a queue of 1,472 words, and of others
+
+pub queue-whole : (qs : List ℕ) → length qs ≡ 1472 → queueFrom qs ≡ recordsFrom qs
+unfolding recordsFrom
+queue-whole qs h = rw (eq-eqb _ _ h)
+
+no-queue : (qs : List ℕ) → (length qs ≡ 1472 → ⊥) → recordsFrom qs ≡ []
+unfolding recordsFrom
+no-queue qs h = rw (ne-eqb _ _ h)
+
+pub no-records : (qs : List ℕ) → (length qs ≡ 1472 → ⊥) → length (recordsFrom qs) ≡ 64 → ⊥
+no-records qs h e = let k : length (recordsFrom qs) ≡ 0 = ap length (no-queue qs h) in omega (arith, e, k)
+
+pub sixty-four : (qs : List ℕ) → length qs ≡ 1472 → length (recordsFrom qs) ≡ 64
+unfolding queueFrom
+sixty-four qs h = ap length (sym (queue-whole qs h)) ∙ go (sameWords (queueWords (recordsRead qs)) qs)
+  where
+    go : (b : Bool) → length (cond b (recordsRead qs) (replicate 64 noRecord)) ≡ 64
+    go true = length-parts recordRead 23 64 qs
+    go false = refl
+
+pub all-words : (qs : List ℕ) → length (recordsFrom qs) ≡ 64 → length qs ≡ 1472
+all-words qs e = go (eqb (length qs) 1472) refl
+  where
+    go : (b : Bool) → eqb (length qs) 1472 ≡ b → length qs ≡ 1472
+    go true h = eqb-true _ _ h
+    go false h = absurd (no-records qs (λ k. not-both _ (eq-eqb _ _ k) h) e)
+
+-- the counts of a station
+four-counts : (ws : List ℕ) → length (stationFrom ws .queued) ≡ 4
+unfolding stationFrom stationRead
+four-counts ws = go (sameWords (stationWords (stationRead ws)) ws)
+  where
+    go : (b : Bool) → length (cond b (stationRead ws) noStation .queued) ≡ 4
+    go true = refl
+    go false = refl
+
+-- ---- the number of the first no
+
+-- what holds of each refusal and its number holds of a call that asks these questions first
+module _ {A : Type 0} (P : ℕ → A → Type 0) (done : A) (refused : Refusal → A) (each : (r : Refusal) → (refusalNumber r ≡ 0 → ⊥) → P (refusalNumber r) (refused r)) where
+  pub asked-no : (qs rest : List Question) → (askedNumber qs ≡ 0 → ⊥) → P (askedNumber qs) (ask (qs ++ rest) done refused)
+  unfolding ask
+  asked-no [] rest h = absurd (h refl)
+  asked-no (q ∷ qs) rest h = go (asked-no qs rest) (q .holds) h
+    where
+      go : ((askedNumber qs ≡ 0 → ⊥) → P (askedNumber qs) (ask (qs ++ rest) done refused)) → (b : Bool) → (cond b (askedNumber qs) (refusalNumber (q .refusal)) ≡ 0 → ⊥)
+          → P (cond b (askedNumber qs) (refusalNumber (q .refusal))) (cond b (ask (qs ++ rest) done refused) (refused (q .refusal)))
+      go later true k = later k
+      go later false k = each (q .refusal) k
+
+both-yes : (a b : Bool) → askedNumber (question a Refusal.Lengths ∷ question b Refusal.Unsound ∷ []) ≡ 0 → (a ≡ true) × (b ≡ true)
+unfolding ask
+both-yes true true h = (refl, refl)
+both-yes true false h = absurd (zero-not h)
+both-yes false b h = absurd (zero-not h)
+
+-- no no: queue and store are sound
+pub asked-yes : (s : Station) (qs st : List ℕ) (n : ℕ) → n ≡ askedNumber (queueQuestions (s .queued) (recordsFrom qs) st) → n ≡ 0 → SoundQueue s (recordsFrom qs) st
+asked-yes s qs st n e z =
+    let lengths : Bool = eqb (length (recordsFrom qs)) 64 in
+    let both = both-yes (lengths && eqb (length st) 16384) (soundQueue (s .queued) (recordsFrom qs) st) (sym e ∙ z) in
+    record {
+      places = eqb-true _ _ (and-left lengths (eqb (length st) 16384) (both .0));
+      cells = eqb-true _ _ (and-right lengths (eqb (length st) 16384) (both .0));
+      sound = both .1;
+    }
+
+-- ---- the words of a sound queue
+
+module _ (ws qs st : List ℕ) (s : Station) (es : s ≡ stationFrom ws) (queue : SoundQueue s (recordsFrom qs) st) where
+  whole : queueFrom qs ≡ recordsFrom qs
+  whole = queue-whole qs (all-words qs (queue .places))
+
+  counts : length (s .queued) ≡ 4
+  counts = ap (λ (y : Station). length (y .queued)) es ∙ four-counts ws
+
+  sound : soundQueue (s .queued) (queueFrom qs) st ≡ true
+  sound = rw whole (queue .sound)
+
+  -- they are read as they stand
+  pub as-read : recordsRead qs ≡ recordsFrom qs
+  as-read = sym (sound-read (s .queued) st qs counts sound) ∙ whole
+
+  pub words-back : queueWords (recordsFrom qs) ≡ qs
+  words-back = ap queueWords (sym whole) ∙ sound-words (s .queued) st qs counts sound
+
+  pub record-stored : (place : ℕ) → place < 64 → (r : Record) → sets qs (23 * place) (recordWords r) ≡ queueWords (set (recordsFrom qs) place r)
+  record-stored place h r = set-words (s .queued) st qs counts sound place h r ∙ ap (λ (rs : List Record). queueWords (set rs place r)) whole
