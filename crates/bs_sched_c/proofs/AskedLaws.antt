@@ -1,12 +1,12 @@
 -- The questions that an export asks first, and the words of a queue that passes them. Assumes nothing.
-use mathlib.Core.Path.{_≡_, refl, sym, ap, _∙_}
+use mathlib.Core.Path.{_≡_, refl, sym, ap, subst, _∙_}
 use mathlib.Core.Bool.{Bool, true, false, _&&_, cond}
 use mathlib.Core.List.{List, [], _∷_, _++_}
-use Prim.Native.Nat.{ℕ, suc, _*_, _<_}
+use Prim.Native.Nat.{ℕ, suc, _*_, _≤_, _<_}
 use native.Mathlib.Omega.{arith}
 use lib.Dec.{eqb}
-use lib.ListN.{length, replicate, set}
-use lib.Seq.{sets}
+use lib.ListN.{length, replicate, set, take, drop}
+use lib.Seq.{sets, paste}
 use borrow.Author.Tests.{eq-eqb, ne-eqb, eqb-true}
 use Rattle.optional.proofs.Tests.{and-left, and-right}
 use Rattle.uplink.proofs.Basics.{not-both}
@@ -18,7 +18,7 @@ use Rattle.sched_core.specs.Questions.{Question, question, refusalNumber, ask}
 use Rattle.enqueue_core.specs.Plan.{SoundQueue}
 use Rattle.sched_words.specs.Words.{sameWords, stationWords, stationRead, stationFrom, noStation, recordWords, queueWords, recordRead, recordsRead, noRecord, queueFrom, recordsFrom}
 use Rattle.sched_words.proofs.WordLaws.{length-parts}
-use Rattle.sched_words.proofs.WordsQueue.{sound-read, sound-words, set-words}
+use Rattle.sched_words.proofs.WordsQueue.{sound-read, sound-words, set-words, pasted-words}
 use Rattle.bs_sched_c.specs.Asked.{queueQuestions, askedNumber}
 
 pub zero-not : {n : ℕ} → suc n ≡ 0 → ⊥
@@ -113,3 +113,9 @@ module _ (ws qs st : List ℕ) (s : Station) (es : s ≡ stationFrom ws) (queue 
 
   pub record-stored : (place : ℕ) → place < 64 → (r : Record) → sets qs (23 * place) (recordWords r) ≡ queueWords (set (recordsFrom qs) place r)
   record-stored place h r = set-words (s .queued) st qs counts sound place h r ∙ ap (λ (rs : List Record). queueWords (set rs place r)) whole
+
+  -- those of a timeslot's places, where all others are as they were
+  pub sixteen-stored : (f : ℕ) → f ≤ 48 → (xs : List Record) → 16 ≤ length xs
+      → sets qs (23 * f) (queueWords (take 16 (drop f (paste (recordsFrom qs) f xs 16)))) ≡ queueWords (paste (recordsFrom qs) f xs 16)
+  sixteen-stored f room xs long =
+      subst (λ (rs : List Record). sets qs (23 * f) (queueWords (take 16 (drop f (paste rs f xs 16)))) ≡ queueWords (paste rs f xs 16)) whole (pasted-words (s .queued) st qs counts sound f room xs long)

@@ -1,11 +1,17 @@
 -- What the export of a build leaves, exit by exit. Assumes nothing.
-use mathlib.Core.Path.{_≡_, refl, sym, ap, _∙_}
+use mathlib.Core.Path.{_≡_, refl, sym, ap, ap₂, _∙_}
 use mathlib.Core.Bool.{Bool, true, false, cond}
 use mathlib.Core.List.{List, [], _∷_, _++_}
-use Prim.Native.Nat.{ℕ}
-use lib.ListN.{length}
+use Prim.Native.Nat.{ℕ, _-_, _*_}
+use native.Mathlib.Omega.{arith}
+use lib.ListN.{length, take, drop}
+use lib.Seq.{sets}
 use borrow.Author.Tests.{eq-eqb, ne-eqb}
+use Rattle.tdma_time.specs.Time.{slotOf, timeslot}
+use Rattle.tdma_time.proofs.TimeLaws.{slotOf-timeslot}
 use Rattle.dl_record.specs.declared.Record.{Record}
+use Rattle.dl_queue.specs.Queue.{recordsOf}
+use Rattle.dl_queue.proofs.SetLaws.{length-records}
 use Rattle.dl_send.specs.Progress.{tagRow}
 use Rattle.sched_core.specs.declared.Station.{Station}
 use Rattle.sched_core.specs.declared.Refusal.{Refusal}
@@ -14,6 +20,7 @@ use Rattle.sched_core.specs.declared.BuildCoreAnswer.{BuildCoreAnswer}
 use Rattle.sched_core.specs.Questions.{Memory, memory, Question, soundStation, isStationSound, areLengthsRight, isBlockLengthRight, isQueueSound, buildQuestions, refusalNumber, ask}
 use Rattle.sched_core.specs.Calls.{BuildOutcome, BuildAnswered, current, buildsNow, builtNow, blockBuilt, buildCall}
 use Rattle.sched_core.specs.Calls.{notBuilt as nothing}
+use Rattle.sched_core.proofs.StationLaws.{sound-parts}
 use Rattle.enqueue_core.specs.Plan.{SoundQueue}
 use Rattle.build_core.proofs.BuildCallLaws.{all-yes}
 use Rattle.sched_words.specs.Words.{stationWords, stationFrom, queueWords, recordsRead, recordsFrom}
@@ -21,7 +28,7 @@ use Rattle.sched_words.proofs.RoundTrip.{station-words-back}
 use Rattle.bs_sched_c.specs.declared.reply.BsSchedBuilt.{BsSchedBuilt}
 use Rattle.bs_sched_c.specs.Asked.{queueQuestions, askedNumber}
 use Rattle.bs_sched_c.specs.Exports.{if228, memoryFrom, notBuilt, BuildLeft, buildLeft, buildLeftBy}
-use Rattle.bs_sched_c.proofs.AskedLaws.{zero-not, asked-no, as-read, words-back}
+use Rattle.bs_sched_c.proofs.AskedLaws.{zero-not, asked-no, as-read, words-back, sixteen-stored}
 use Rattle.bs_sched_c.proofs.LeftLaws.{is-228}
 
 -- a station of 228 words, which is that of s
@@ -87,17 +94,24 @@ module _ (ws qs st block : List ℕ) (w228 : length ws ≡ 228) (s : Station) (e
             is-228 ws other w228
             ((λ i. buildLeft (ex i) (station i) (sym (words-back ws qs st s es queue) i) st block) ∙ ap (buildLeftBy ws qs st block) o)
 
-        -- a block
+        -- a block: the records of the current timeslot are stored
         pub build-built : buildsNow s ≡ true → (rs : List Record) → rs ≡ recordsRead qs → (d : BuildCoreAnswer) (st' block' : List ℕ)
-            → BuildAnswered (buildCall (memory s rs st) block) d st' block' → (ws' qs' : List ℕ) → ws' ≡ stationWords (d .station) → qs' ≡ queueWords (d .records)
+            → BuildAnswered (buildCall (memory s rs st) block) d st' block' → (ws' qs' : List ℕ) → ws' ≡ stationWords (d .station)
+            → (f : ℕ) → f ≡ 16 * (s .time .t - 1) → qs' ≡ sets qs (23 * f) (queueWords (take 16 (drop f (d .records))))
             → buildLeft (record { refusal = 0; built = 1; «tag_count» = d .«tag_count»; tags = d .tags }) ws' qs' st' block' ≡ promised
-        build-built can rs er d st' block' done ws' qs' ew eq =
+        build-built can rs er d st' block' done ws' qs' ew f ef eq =
             let o = blockBuilt here (current s) (builtNow here) in
             let e : o ≡ buildCall m block = rw can at answered in
             let k : BuildAnswered o d st' block' =
             rw e (rw (sym es) (rw (er ∙ as-read ws qs st s es queue) at done)) in
+            let valid = sound-parts s good .time in
+            let now : timeslot (slotOf (s .time)) ≡ s .time .t = slotOf-timeslot (s .time) valid in
+            let xs = recordsOf 16 (builtNow here .left) in
+            let stored : qs' ≡ queueWords (o .memory .records) =
+            eq
+            ∙ ap₂ (λ (i : ℕ) (l : List Record). sets qs (23 * i) (queueWords (take 16 (drop i l)))) (ef ∙ ap (λ (i : ℕ). 16 * (i - 1)) (sym now)) (ap (λ (x : BuildCoreAnswer). x .records) (k .answer))
+            ∙ sixteen-stored ws qs st s es queue (16 * current s) (omega (arith, now, valid .t-high)) xs (omega (arith, length-records 16 (builtNow here .left))) in
             is-228 ws other w228
             ((λ i. buildLeft (record { refusal = 0; built = 1; «tag_count» = k .answer i .«tag_count»; tags = k .answer i .tags })
-            ((ew ∙ ap (λ (x : BuildCoreAnswer). stationWords (x .station)) (k .answer)) i)
-            ((eq ∙ ap (λ (x : BuildCoreAnswer). queueWords (x .records)) (k .answer)) i) (k .store i) (k .block i))
+            ((ew ∙ ap (λ (x : BuildCoreAnswer). stationWords (x .station)) (k .answer)) i) (stored i) (k .store i) (k .block i))
             ∙ ap (buildLeftBy ws qs st block) e)

@@ -289,8 +289,10 @@ pub extern "C" fn bs_sched_build(
     let next = done.station;
     let after = done.records;
     let tags = done.tags;
+    let time = s.time;
+    let t = (time.t - 1) as usize;
     sched_words::station::put_station(station, next);
-    sched_words::queue::put_records(queue, after);
+    sched_words::queue::put_sixteen(queue, 16 * t, after);
     BsSchedBuilt {
         refusal: 0,
         built: 1,

@@ -2,10 +2,12 @@
 use borrow.Author.Needs.{needs}
 use borrow.Author.Tests.{ne-eqb}
 use native.Mathlib.Omega.{arith}
-use mathlib.Core.Path.{_≡_, _∙_}
+use mathlib.Core.Path.{_≡_, refl, _∙_}
 use mathlib.Core.Bool.{true}
+use Rattle.tdma_time.specs.Time.{Valid}
 use Rattle.sched_core.specs.Questions.{soundStation}
 use Rattle.sched_core.proofs.AskLaws.{said-no, said-yes}
+use Rattle.sched_core.proofs.StationLaws.{sound-parts}
 use Rattle.enqueue_core.specs.Plan.{SoundQueue}
 use Rattle.sched_words.specs.Words.{recordsFrom}
 use Rattle.bs_sched_c.specs.Exports.{builtLeft}
@@ -23,6 +25,9 @@ passed : (c : tie.Else4)
     let a = f .before .before .before .before .before .before .before .args in
     SoundQueue (f .station-from .result) (recordsFrom (a .queue .now)) (a .store .now)
 passed c = asked-yes _ _ _ _ (c .before .queue-number .ensures) (c .if4 .left)
+
+time : (c : tie.Else4) → Valid (c .before .before .before .before .before .before .before .before .station-from .result .time)
+time c = sound-parts _ (sound (c .before .before .before .before .before .before)) .time
 
 returns : tie.Need-returns
 unfolding builtLeft
@@ -86,24 +91,30 @@ build-sound-requires c κs =
     let a = f .before .before .before .before .before .before .before .args in
     ((sound (b .before), passed t .cells, b .if3 .left), rw (r .records-read .ensures ∙ as-read (a .station .now) (a .queue .now) (a .store .now) _ (f .station-from .ensures) (passed t)) (passed t .sound))
 
-put-station-requires : tie.Need-put-station-requires
-put-station-requires c κs =
-    let p = c .before .before .before .before .before .before .before .before in
-    let t = p .before .before .before .before .before .before .before in
-    t .before .before .before .before .before .before .before .before .before .before .if1 .left
+-- from the timeslot's number back to the questions
+abbrev asked : tie.After-struct-known → tie.Else4
+asked c = c .before .before .before .before .before .before .before .before .before .before .before .before .before .before .before .before
 
-put-records-requires : tie.Need-put-records-requires
-put-records-requires c κs =
-    let p = c .before .before .before .before .before .before .before .before .before .before .before .before in
-    let t = p .before .before .before .before .before .before .before in
-    all-words _ (passed t .places)
+sub-t : tie.Need-sub-t
+sub-t c = time (asked c) .t-low
+
+put-station-requires : tie.Need-put-station-requires
+put-station-requires c κs = asked (c .before) .before .before .before .before .before .before .before .before .before .before .if1 .left
+
+mul-put-sixteen : tie.Need-mul-put-sixteen
+mul-put-sixteen c = omega (arith, time (asked (c .before .before .before .before .before)) .t-high)
+
+put-sixteen-requires : tie.Need-put-sixteen-requires
+put-sixteen-requires c κs =
+    let t = asked (c .before .before .before .before .before) in
+    (omega (arith, time t .t-high), all-words _ (passed t .places))
 
 returns-6 : tie.Need-returns-6
 unfolding builtLeft
 returns-6 c =
     let w = c .before .before in
     let v = w .before .before .before .before in
-    let p = v .before .before .before .before .before .before .before .before .before in
+    let p = v .before .before .before .before .before .before .before .before .before .before .before in
     let r = p .before .before .before in
     let h = r .before .before in
     let t = h .before .before in
@@ -113,7 +124,7 @@ returns-6 c =
     let e = f .before .before in
     let a = e .before .before .before .before .before .args in
     build-built (a .station .now) (a .queue .now) (a .store .now) (a .block .now) (e .if1 .left) _ (f .station-from .ensures) (sound i) (b .if3 .left) (passed t) (said-yes (h .before .builds-now .ensures) (h .if5 .left)) _
-    (r .records-read .ensures) _ _ _ (p .build-sound .ensures) _ _ (v .put-station .ensures) (w .put-records .ensures)
+    (r .records-read .ensures) _ _ _ (p .build-sound .ensures) _ _ (v .put-station .ensures) _ refl (w .put-sixteen .ensures)
 
 pub bs-sched-build-spec : {M : Type 1} → statement M
 bs-sched-build-spec =
@@ -121,5 +132,5 @@ bs-sched-build-spec =
     (tie.spec (λ c κs. search needs) returns (λ c κs. search needs) (λ c κs. search needs) (λ c κs. search needs) (λ c. search needs) returns-2
     (λ c κs. search needs) (λ c. search needs) returns-3 (λ c κs. search needs) (λ c κs. search needs) (λ c. search needs) (λ c. search needs)
     (λ c. search needs) returns-4 builds-now-requires (λ c κs. search needs) (λ c. search needs) (λ c. search needs) (λ c. search needs) returns-5
-    records-read-requires build-sound-requires put-station-requires put-records-requires (λ c. search needs) (λ c. search needs) (λ c. search needs)
+    records-read-requires build-sound-requires sub-t (λ c. search needs) put-station-requires mul-put-sixteen put-sixteen-requires (λ c. search needs) (λ c. search needs) (λ c. search needs)
     (λ c. search needs) returns-6)
