@@ -11,12 +11,6 @@ use Rattle.dl_record.specs.declared.Record.{Record}
 use Rattle.dl_record.specs.Record.{emptyRecord}
 use Rattle.bs_sched.specs.Queue.{recordAt, copied, first64}
 
--- a store past the end does nothing
-pub set-past : {A : Type 0} (l : List A) (i : ℕ) (x : A) → length l ≤ i → set l i x ≡ l
-set-past [] i x h = refl
-set-past (y ∷ l) zero x h = absurd (not-suc-le-zero h)
-set-past (y ∷ l) (suc i) x h = ap (λ t. y ∷ t) (set-past l i x (le-of-suc-le-suc h))
-
 pub none-yet : (src dst : List Record) → dst ≡ copied src 0 dst
 unfolding copied
 none-yet src dst = refl

@@ -13,13 +13,12 @@ use Rattle.dl_send.specs.Progress.{tagRow}
 use Rattle.dl_build.specs.declared.Built.{Built}
 use Rattle.dl_build.specs.Build.{BuiltIn}
 use Rattle.sched_core.specs.declared.Station.{Station}
-use Rattle.sched_core.specs.declared.Refusal.{Refusal}
 use Rattle.sched_core.specs.declared.BuildReply.{BuildReply}
 use Rattle.sched_core.specs.declared.BuildCoreAnswer.{BuildCoreAnswer}
 use Rattle.sched_core.specs.Station.{withQueued}
 use Rattle.sched_core.specs.Questions.{Memory, soundStation, buildQuestions}
 use Rattle.sched_core.specs.Calls.{notBuilt, current, buildsNow, builtNow, blockBuilt, buildCall, BuildAnswered}
-use Rattle.sched_core.proofs.AskLaws.{FirstYes, first-no, every-yes}
+use Rattle.sched_core.proofs.AskLaws.{FirstYes, every-yes}
 use Rattle.sched_core.proofs.QuestionLaws.{right-lengths}
 
 -- frame and timeslot as the time shows them
@@ -42,11 +41,6 @@ nothing-answered r m block =
 module _ (m : Memory) (block : List ℕ) (sound : soundStation (m .station) ≡ true) (places : length (m .records) ≡ 64) (cells : length (m .store) ≡ 16384) (size : length block ≡ 34) where
   first : FirstYes 3 (buildQuestions m block)
   first = (((tt, sound), right-lengths m places cells), eq-eqb _ _ size)
-
-  pub unsound-answered : (a : BuildCoreAnswer) → soundQueue (m .station .queued) (m .records) (m .store) ≡ false → a ≡ nothing (BuildReply.Refused Refusal.Unsound) m
-      → BuildAnswered (buildCall m block) a (m .store) block
-  unfolding buildCall
-  unsound-answered a bad e = rw e (subst (λ o. BuildAnswered o (nothing (BuildReply.Refused Refusal.Unsound) m) (m .store) block) (first-no _ _ 3 (buildQuestions m block) first bad) (nothing-answered (BuildReply.Refused Refusal.Unsound) m block))
 
   module _ (queue : soundQueue (m .station .queued) (m .records) (m .store) ≡ true) where
     pub all-yes : cond (buildsNow (m .station)) (blockBuilt m (current (m .station)) (builtNow m)) (notBuilt BuildReply.NoBlock m block) ≡ buildCall m block

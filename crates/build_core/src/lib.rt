@@ -2,7 +2,6 @@
 use dl_record::Record;
 use sched_core::BuildCoreAnswer;
 use sched_core::BuildReply;
-use sched_core::Refusal;
 use sched_core::Station;
 use tdma_time::TdmaTime;
 ghost use mathlib.Core.Path.{_≡_};
@@ -34,19 +33,6 @@ pub fn builds_now(station: Station) -> bool
     let time = station.time;
     let queued = station.queued;
     builds_at(time, queued)
-}
-
-// A build that is refused: the station and the records as they came in.
-fn build_refused(refusal: Refusal, station: Station, records: [Record; 64]) -> BuildCoreAnswer
-    ensures { λ r. ⌜ r ≡ record { reply = BuildReply.Refused refusal; tags = replicate 16 0; «tag_count» = 0; station = station; records = records } ⌝ }
-{
-    BuildCoreAnswer {
-        reply: BuildReply::Refused(refusal),
-        tags: [0u16; 16],
-        tag_count: 0,
-        station: station,
-        records: records,
-    }
 }
 
 // A build that has nothing to build.
@@ -91,21 +77,4 @@ pub fn build_sound(
         station: next,
         records: after,
     }
-}
-
-// The body of a build, after questions 1 for the state and 2.
-pub fn build_core(
-    station: Station,
-    records: [Record; 64],
-    store: &mut [u8],
-    block: &mut [u8],
-) -> BuildCoreAnswer
-    requires { ⌜ (soundStation station ≡ true) × (length (now store) ≡ 16384) × (length (now block) ≡ 34) ⌝ }
-    ensures { λ r. ⌜ BuildAnswered (buildCall (memory station records (now (store .entry))) (now (block .entry))) r (now (store .exit)) (now (block .exit)) ⌝ }
-{
-    let queued = station.queued;
-    if !dl_queue::queue_is_sound(queued, records, store) {
-        return build_refused(Refusal::Unsound, station, records);
-    }
-    build_sound(station, records, store, block)
 }

@@ -1,11 +1,6 @@
-// Queues of records with SDUs of many lengths, alone and sixteen at a time, built into blocks until nothing is left. Each block is
-// printed as `slotrun` prints it; the file `stdout` holds what the Rust printed for the same queues.
-use dl_build::Built;
-use dl_record::Record;
-use optional::OptU16;
-ghost use mathlib.Core.Path.{_≡_};
-ghost use Prim.Native.Nat.{_≤_};
-ghost use lib.ListN.{length};
+// Queues of records with SDUs of many lengths, alone and sixteen at a time, built into blocks until nothing is left, by the calls of C
+// and Rust programs. Each block is printed as `slotrun` prints it; the file `stdout` holds what the Rust printed for the same queues.
+use bs_sched_c::reply::BsSchedBuilt;
 
 // The lengths of the SDUs, in bits.
 const LENGTHS: [u16; 12] = [0, 1, 221, 222, 223, 224, 225, 226, 476, 477, 2047, 2048];
@@ -19,13 +14,20 @@ fn octets() -> [u8; 256] {
     s
 }
 
-// A record with an address, a tag and so many SDU bits.
-fn record(number: u32, tag: u16, bits: u16) -> Record
-    ensures { λ r. ⌜ r .bits ≡ bits ⌝ }
-{
-    let empty = dl_record::empty();
-    let header = empty.header;
-    dl_record::offered_record(0, number, OptU16::Of(tag), header, bits)
+// The words of a record with an address, a tag and so many SDU bits.
+fn record(number: u32, tag: u16, bits: u16) -> [u32; 23] {
+    let mut r = [0u32; 23];
+    r[2] = number;
+    r[3] = tag as u32 + 1;
+    r[21] = bits as u32;
+    r
+}
+
+// The words of a new station at 0/1/1/1.
+fn new_station() -> [u32; 228] {
+    let mut station = [0u32; 228];
+    let _new = bs_sched_c::bs_sched_new(&mut station, 0, 1, 1, 1);
+    station
 }
 
 // A tag that comes back.
@@ -34,7 +36,7 @@ fn tag(t: u16) {
 }
 
 // A block and the tags that come back with it.
-fn line(block: &[u8], b: Built) {
+fn line(block: &[u8], b: BsSchedBuilt) {
     show::word(b"B 0");
     show::octets(block);
     let tags = b.tags;
@@ -49,74 +51,51 @@ fn line(block: &[u8], b: Built) {
     show::end();
 }
 
-// Builds until nothing is queued for the first timeslot.
-fn build_all(counts: [u8; 4], records: [Record; 64], store: &mut [u8])
-    requires { ⌜ length (now store) ≡ 16384 ⌝ }
-{
-    let mut c = counts;
-    let mut q = records;
+// Builds until nothing is queued.
+fn build_all(station: &mut [u32], queue: &mut [u32], store: &mut [u8]) {
     let mut left: usize = 200;
     while 0 < left {
         left -= 1;
-        if c[0] == 0 {
-            return;
-        }
-        if !dl_queue::queue_is_sound(c, q, store) {
-            show::word(b"unsound\n");
-            return;
-        }
         let mut block = [0u8; 34];
-        let b = dl_build::dl_build_block_from_signalling_schedule(c, q, store, &mut block, 0);
+        let b = bs_sched_c::bs_sched_build(station, queue, store, &mut block);
+        if b.built == 0 {
+            return;
+        }
         line(&block, b);
-        c = b.counts;
-        q = b.records;
     }
 }
 
 // One record, sent in as many blocks as it takes.
-fn alone(bits: u16)
-    requires { ⌜ bits ≤ 2048 ⌝ }
-{
+fn alone(bits: u16) {
     let sdu = octets();
+    let mut station = new_station();
+    let mut queue = [0u32; 1472];
     let mut store = [0u8; 16384];
     let r = record(1000 + bits as u32, bits, bits);
-    let q = dl_queue::enqueue_tma([0u8; 4], [Record::EMPTY; 64], &mut store, 0, r, &sdu);
-    let c = q.counts;
-    let records = q.records;
-    build_all(c, records, &mut store);
+    let _n = bs_sched_c::bs_sched_enqueue(&mut station, &mut queue, &mut store, 1, &r, &sdu);
+    build_all(&mut station, &mut queue, &mut store);
 }
 
 // Sixteen records of one length.
-fn sixteen(bits: u16)
-    requires { ⌜ bits ≤ 2048 ⌝ }
-{
+fn sixteen(bits: u16) {
     let sdu = octets();
+    let mut station = new_station();
+    let mut queue = [0u32; 1472];
     let mut store = [0u8; 16384];
-    let mut c = [0u8; 4];
-    let mut q = [Record::EMPTY; 64];
     for j in 0..16 {
-        if 16 <= c[0] {
-            return;
-        }
         let r = record(2000 + j, 16 * (j as u16) + bits % 16, bits);
-        let after = dl_queue::enqueue_tma(c, q, &mut store, 0, r, &sdu);
-        c = after.counts;
-        q = after.records;
+        let _n = bs_sched_c::bs_sched_enqueue(&mut station, &mut queue, &mut store, 1, &r, &sdu);
     }
-    build_all(c, q, &mut store);
+    build_all(&mut station, &mut queue, &mut store);
 }
 
 fn main() {
     for i in 0..12 {
         let bits = LENGTHS[i];
-        if bits <= 2048 {
-            alone(bits);
-        }
+        alone(bits);
     }
     for k in 0..12 {
         let bits = LENGTHS[k];
-        if bits <= 2048 {
-            sixteen(bits);
-        }
+        sixteen(bits);
     }
 }

@@ -3,7 +3,6 @@
 use dl_record::QueuedHeader;
 use dl_record::Record;
 use optional::OptU16;
-use sched_core::CoreAnswer;
 use sched_core::Refusal;
 use sched_core::Reply;
 use sched_core::Station;
@@ -11,12 +10,12 @@ ghost use mathlib.Core.Path.{_≡_};
 ghost use mathlib.Core.Bool.{true};
 ghost use mathlib.Core.List.{List};
 ghost use Prim.Native.Nat.{ℕ, _-_, _≤_, _<_};
-ghost use lib.ListN.{length, getD, set};
+ghost use lib.ListN.{length, getD};
 ghost use Rattle.dl_queue.specs.Queue.{nextPlace};
 ghost use Rattle.sched_core.specs.declared.Refusal.{Refusal};
 ghost use Rattle.sched_core.specs.declared.Reply.{Reply};
-ghost use Rattle.sched_core.specs.Questions.{soundStation, memory};
-ghost use Rattle.sched_core.specs.Calls.{ackCall, tmaCall, queueOutcome};
+ghost use Rattle.sched_core.specs.Questions.{soundStation};
+ghost use Rattle.sched_core.specs.Calls.{ackCall, tmaCall};
 ghost use Rattle.sched_core.specs.Invariant.{oneMore};
 ghost use Rattle.enqueue_core.specs.Plan.{refusedPlan, joinedPlan, QueuePlanned};
 
@@ -48,18 +47,6 @@ pub fn one_more(queued: [u8; 4], timeslot: u8) -> [u8; 4]
     let mut counts = queued;
     counts[t] = n + 1;
     counts
-}
-
-// The records with one stored; past the queue none is.
-pub fn with_record(records: [Record; 64], place: usize, r: Record) -> [Record; 64]
-    ensures { λ q. ⌜ q ≡ set records place r ⌝ }
-{
-    if 64 <= place {
-        return records;
-    }
-    let mut q = records;
-    q[place] = r;
-    q
 }
 
 fn refused(refusal: Refusal, station: Station) -> QueuePlan
@@ -147,86 +134,4 @@ pub fn tma_plan(
     let place = p.place;
     sdu_store::write_cell(store, 256 * place, sdu, bits as usize);
     p
-}
-
-// Records or cells that are not sound: nothing is altered.
-fn unsound(station: Station, records: [Record; 64]) -> CoreAnswer
-    ensures { λ r. ⌜ r ≡ record { reply = Reply.Refused Refusal.Unsound; station = station; records = records } ⌝ }
-{
-    CoreAnswer {
-        reply: Reply::Refused(Refusal::Unsound),
-        station: station,
-        records: records,
-    }
-}
-
-// The plan carried out on the caller's records.
-fn stored(p: QueuePlan, records: [Record; 64]) -> CoreAnswer
-    ensures { λ r. ⌜ r ≡ record { reply = p .reply; station = p .station; records = set records (p .place) (p .«record») } ⌝ }
-{
-    let reply = p.reply;
-    let station = p.station;
-    let r = p.record;
-    let after = with_record(records, p.place, r);
-    CoreAnswer {
-        reply: reply,
-        station: station,
-        records: after,
-    }
-}
-
-// The body of queueing an acknowledgement, after questions 1 for the state and 2.
-pub fn ack_core(
-    station: Station,
-    records: [Record; 64],
-    store: &[u8],
-    timeslot: u8,
-    kind: u8,
-    number: u32,
-) -> CoreAnswer
-    requires { ⌜ soundStation station ≡ true ⌝ }
-    requires { ⌜ length (now store) ≡ 16384 ⌝ }
-    ensures { λ r. ⌜ queueOutcome r (now (store .entry)) ≡ ackCall (memory station records (now (store .entry))) timeslot kind number ⌝ }
-{
-    let queued = station.queued;
-    if !dl_queue::queue_is_sound(queued, records, store) {
-        return unsound(station, records);
-    }
-    let p = ack_plan(station, timeslot, kind, number);
-    stored(p, records)
-}
-
-// The body of queueing a record with its SDU, after questions 1 for the state and 2.
-pub fn tma_core(
-    station: Station,
-    records: [Record; 64],
-    store: &mut [u8],
-    timeslot: u8,
-    kind: u8,
-    number: u32,
-    tag: OptU16,
-    header: QueuedHeader,
-    bits: u16,
-    sdu: &[u8],
-) -> CoreAnswer
-    requires { ⌜ soundStation station ≡ true ⌝ }
-    requires { ⌜ length (now store) ≡ 16384 ⌝ }
-    ensures { λ r. ⌜ queueOutcome r (now (store .exit)) ≡ tmaCall (memory station records (now (store .entry))) timeslot kind number tag header bits (now (sdu .entry)) ⌝ }
-{
-    let queued = station.queued;
-    if !dl_queue::queue_is_sound(queued, records, store) {
-        return unsound(station, records);
-    }
-    let p = tma_plan(
-        station,
-        store,
-        timeslot,
-        kind,
-        number,
-        tag,
-        header,
-        bits,
-        sdu,
-    );
-    stored(p, records)
 }

@@ -3,7 +3,6 @@
 use dl_record::Record;
 use optional::OptU8;
 use sched_core::Refusal;
-use sched_core::RequestCoreAnswer;
 use sched_core::RequestReply;
 use sched_core::Station;
 use uplink::CapAnswer;
@@ -11,13 +10,13 @@ use uplink::CapReply;
 ghost use mathlib.Core.Path.{_≡_};
 ghost use mathlib.Core.Bool.{true};
 ghost use Prim.Native.Nat.{_-_, _≤_, _<_};
-ghost use lib.ListN.{length, getD};
+ghost use lib.ListN.{getD};
 ghost use Rattle.tdma_time.specs.Time.{Valid};
 ghost use Rattle.uplink.specs.declared.CapReply.{CapReply};
 ghost use Rattle.sched_core.specs.declared.Refusal.{Refusal};
 ghost use Rattle.sched_core.specs.declared.RequestReply.{RequestReply};
-ghost use Rattle.sched_core.specs.Questions.{soundStation, memory};
-ghost use Rattle.sched_core.specs.Calls.{grantQueued, requestCall, requestOutcome};
+ghost use Rattle.sched_core.specs.Questions.{soundStation};
+ghost use Rattle.sched_core.specs.Calls.{grantQueued, requestCall};
 ghost use Rattle.request_core.specs.RequestPlan.{refusedRequest, Grants, requestLeaves, RequestPlanned};
 
 // The reply, the station after the request, and the grant that joins the queue with its place; where none joins, the place is 64,
@@ -137,45 +136,4 @@ pub fn request_plan(station: Station, timeslot: u8, code: u8, kind: u8, number: 
         return request_refused(Refusal::QueueFull, station);
     }
     request_answered(station, timeslot, code, kind, number)
-}
-
-// Records or cells that are not sound: nothing is altered.
-fn unsound(station: Station, records: [Record; 64]) -> RequestCoreAnswer
-    ensures { λ r. ⌜ r ≡ record { reply = RequestReply.Refused Refusal.Unsound; station = station; records = records } ⌝ }
-{
-    RequestCoreAnswer {
-        reply: RequestReply::Refused(Refusal::Unsound),
-        station: station,
-        records: records,
-    }
-}
-
-// The body of a request for capacity, after questions 1 for the state and 2.
-pub fn request_core(
-    station: Station,
-    records: [Record; 64],
-    store: &[u8],
-    timeslot: u8,
-    code: u8,
-    kind: u8,
-    number: u32,
-) -> RequestCoreAnswer
-    requires { ⌜ soundStation station ≡ true ⌝ }
-    requires { ⌜ length (now store) ≡ 16384 ⌝ }
-    ensures { λ r. ⌜ requestOutcome r (now (store .entry)) ≡ requestCall (memory station records (now (store .entry))) timeslot code kind number ⌝ }
-{
-    let queued = station.queued;
-    if !dl_queue::queue_is_sound(queued, records, store) {
-        return unsound(station, records);
-    }
-    let p = request_plan(station, timeslot, code, kind, number);
-    let reply = p.reply;
-    let next = p.station;
-    let r = p.record;
-    let after = enqueue_core::with_record(records, p.place, r);
-    RequestCoreAnswer {
-        reply: reply,
-        station: next,
-        records: after,
-    }
 }

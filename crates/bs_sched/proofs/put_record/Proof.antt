@@ -3,7 +3,7 @@ mod Lts
 mod Tie
 use mathlib.Core.Path.{sym}
 use borrow.Author.Needs.{needs}
-use Rattle.bs_sched.proofs.QueueLaws.{set-past}
+use Rattle.enqueue_core.proofs.PlanLaws.{set-past}
 use Rattle.bs_sched.proofs.put_record.Statement.{statement}
 use Rattle.bs_sched.proofs.put_record.Proof.Tie as tie
 
