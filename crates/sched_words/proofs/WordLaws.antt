@@ -1,6 +1,6 @@
 -- Words one after another, as the loops read and store them; and single words. Assumes nothing.
 use mathlib.Core.Path.{_≡_, refl, sym, ap, _∙_}
-use mathlib.Core.Bool.{Bool, true, false, not, _&&_, cond}
+use mathlib.Core.Bool.{Bool, true, false, not, cond}
 use mathlib.Core.List.{List, [], _∷_, _++_, append-nil}
 use Prim.Native.Nat.{ℕ, zero, suc, _+_, _-_, _*_, _%_, _≤_, _<_}
 use native.Mathlib.Nat.{not-suc-le-zero, le-of-suc-le-suc, add-zero}
@@ -8,13 +8,11 @@ use native.Mathlib.Numerals.{add-one, sub-one}
 use native.Mathlib.Omega.{arith}
 use lib.ListN.{length, getD, set, take, drop, length-append, length-drop, drop-of-length-le}
 use lib.Seq.{sets, sets-eq, drop-cons, drop-drop, take-all}
-use lib.Dec.{eqb}
 use borrow.Author.Tests.{not-true, not-false}
 use Rattle.optional.specs.declared.OptU8.{OptU8}
 use Rattle.optional.specs.declared.OptU16.{OptU16}
 use Rattle.optional.specs.declared.OptU32.{OptU32}
 use Rattle.mac_pdus.specs.declared.OptChanAlloc.{OptChanAlloc}
-use Rattle.dl_record.proofs.Tests.{and-assoc, and-true}
 use Rattle.dl_record.specs.declared.Kind.{Kind}
 use Rattle.dl_record.specs.declared.Record.{Record}
 use Rattle.sched_words.specs.Words.{Stored, optU8, optU16, optU32, kindOf, joined, parts, sameWords, allocWords, allocFields, allocFrom, recordWords}
@@ -73,20 +71,6 @@ alloc-present zero ws h = absurd (h refl)
 alloc-present (suc w) ws h = refl
 
 -- ---- words compared
-
-pub same-turn : (v w : List ℕ) (b : Bool) (i : ℕ) → i < length v → i < length w
-    → b && eqb (getD v i 0) (getD w i 0) && sameWords (drop (i + 1) v) (drop (i + 1) w) ≡ b && sameWords (drop i v) (drop i w)
-unfolding sameWords
-same-turn v w b i h k = rw (add-one, drop-cons v i 0 h, drop-cons w i 0 k) (and-assoc b _ _)
-
-pub same-done : (v w : List ℕ) (b : Bool) (i : ℕ) → length v ≤ i → length w ≤ i → b ≡ b && sameWords (drop i v) (drop i w)
-unfolding sameWords
-same-done v w b i h k = rw (drop-of-length-le v {i = i} h, drop-of-length-le w {i = i} k) (sym (and-true b))
-
--- words are read, and what is read is stored again and compared with them
-pub again-told : {A : Type 0} (write : A → List ℕ) (read : List ℕ → A) (x : A) (ws again : List ℕ) (b : Bool) → x ≡ read ws → again ≡ write x → b ≡ sameWords again ws
-    → b ≡ sameWords (write (read ws)) ws
-again-told write read x ws again b is-read written same = same ∙ rw (written, is-read)
 
 -- words count if they are those of what is read from them
 module _ {A : Type 0} (write : A → List ℕ) (read : List ℕ → A) (none x : A) (ws : List ℕ) (b : Bool) (told : b ≡ sameWords (write (read ws)) ws) where

@@ -171,18 +171,6 @@ pub fn records_read(words: &[u32]) -> [Record; 64]
     records
 }
 
-// Stores the words of 64 records.
-pub fn put_records(words: &mut [u32], records: [Record; 64])
-    requires { ⌜ length (now words) ≡ 1472 ⌝ }
-    ensures { λ _. ⌜ now (words .exit) ≡ queueWords records ⌝ }
-{
-    for i in 0..64 {
-        let r = records[i];
-        let w = record_words(r);
-        word::put(words, 23 * i, &w);
-    }
-}
-
 // A record that no place may hold.
 fn no_record() -> Record
     ensures { λ r. ⌜ r ≡ noRecord ⌝ }
@@ -251,21 +239,6 @@ pub fn record_from(words: &[u32]) -> Record
         return no_record();
     }
     record_read(words)
-}
-
-// The 64 records of 1,472 words.
-pub fn queue_from(words: &[u32]) -> [Record; 64]
-    requires { ⌜ length (now words) ≡ 1472 ⌝ }
-    ensures { λ r. ⌜ r ≡ queueFrom (now (words .entry)) ⌝ }
-{
-    let records = records_read(words);
-    let mut again = [0u32; 1472];
-    put_records(&mut again, records);
-    if !word::same_words(&again, words) {
-        let none = no_record();
-        return [none; 64];
-    }
-    records
 }
 
 // ---- question 1 for the words of the queue and the cells

@@ -10,7 +10,7 @@ ghost use lib.Dec.{eqb};
 ghost use lib.ListN.{length};
 ghost use lib.Seq.{sets};
 ghost use Rattle.sdu_store.specs.Cells.{allZero};
-ghost use Rattle.sched_words.specs.Words.{wordOf8, wordOf16, wordOf32, optU8, optU16, optU32, kindWord, kindOf, sameWords};
+ghost use Rattle.sched_words.specs.Words.{wordOf8, wordOf16, wordOf32, optU8, optU16, optU32, kindWord, kindOf};
 
 // The low 8 bits of a word.
 pub fn low8(w: u32) -> u8
@@ -111,18 +111,6 @@ pub fn kind_of(w: u32) -> Kind
 }
 
 // ---- words
-
-// Are two runs of words the same? No branch for a word.
-pub fn same_words(a: &[u32], b: &[u32]) -> bool
-    requires { ⌜ length (now a) ≡ length (now b) ⌝ }
-    ensures { λ r. ⌜ r ≡ sameWords (now (a .entry)) (now (b .entry)) ⌝ }
-{
-    let mut same = true;
-    for i in 0..a.len() {
-        same = same & (a[i] == b[i]);
-    }
-    same
-}
 
 // The words, one or-ed to another: 0 exactly if each is 0.
 pub fn any_word(words: &[u32]) -> u32
