@@ -20,7 +20,7 @@ STANDS = {
 LEAVES = ['put_record', 'load_64', 'queue_is_sound']
 
 # What the leaves call, of this crate: its body in their twin, any value of its type.
-LEAF_CALLS = {'empty_record': '[0u16; 22]', 'place_is_sound': 'filled'}
+LEAF_CALLS = {'empty_record': '[0u16; 22]', 'filled_is_sound': 'true', 'unfilled_is_sound': 'true'}
 
 # Their callers, by level: each calls covered functions and derived ones of lower levels, and of a reference to such structs it takes
 # nothing else but the length.

@@ -14,6 +14,7 @@ use sched_core::UsageReply;
 use tdma_time::TdmaTime;
 use uplink::PhyBlockNum;
 ghost use mathlib.Core.Path.{_≡_};
+ghost use mathlib.Core.Bool.{true, false};
 ghost use mathlib.Core.List.{[]};
 ghost use lib.ListN.{set, length};
 ghost use Rattle.dl_record.specs.Record.{emptyRecord};
@@ -50,10 +51,16 @@ pub fn put_record(queue: &mut [Record], i: usize, r: Record)
     }
 }
 
-fn place_is_sound(filled: bool, r: Record, cell: &[u8]) -> bool
-    ensures { λ b. ⌜ b ≡ soundPlace filled r (now (cell .entry)) ⌝ }
+fn filled_is_sound(r: Record, cell: &[u8]) -> bool
+    ensures { λ b. ⌜ b ≡ soundPlace true r (now (cell .entry)) ⌝ }
 {
-    dl_queue::place_is_sound(filled, r, cell)
+    dl_queue::filled_is_sound(r, cell)
+}
+
+fn unfilled_is_sound(r: Record, cell: &[u8]) -> bool
+    ensures { λ b. ⌜ b ≡ soundPlace false r (now (cell .entry)) ⌝ }
+{
+    dl_queue::unfilled_is_sound(r, cell)
 }
 
 // Question 1 for the records and the cells. A timeslot's filled places come first, so each kind of place has a loop of its own.
@@ -71,7 +78,7 @@ pub fn queue_is_sound(counts: [u8; 4], queue: &[Record], store: &[u8]) -> bool
             let r = queue[p];
             let from = 256 * p;
             let to = from + 256;
-            if !place_is_sound(true, r, &store[from..to]) {
+            if !filled_is_sound(r, &store[from..to]) {
                 return false;
             }
         }
@@ -80,7 +87,7 @@ pub fn queue_is_sound(counts: [u8; 4], queue: &[Record], store: &[u8]) -> bool
             let r = queue[p];
             let from = 256 * p;
             let to = from + 256;
-            if !place_is_sound(false, r, &store[from..to]) {
+            if !unfilled_is_sound(r, &store[from..to]) {
                 return false;
             }
         }

@@ -1,6 +1,7 @@
 // The queue: 64 records, sixteen to a timeslot, with the store of 64 cells. Timeslots are counted from 0.
 use dl_record::Record;
 ghost use mathlib.Core.Path.{_≡_};
+ghost use mathlib.Core.Bool.{true, false};
 ghost use Rattle.dl_queue.specs.Questions.{soundPlace};
 
 // The number of records queued for each timeslot, and the places.
@@ -9,13 +10,16 @@ pub struct Queue {
     pub records: [Record; 64],
 }
 
-// Question 1 for a place and its cell.
-pub fn place_is_sound(filled: bool, r: Record, cell: &[u8]) -> bool
-    ensures { λ b. ⌜ b ≡ soundPlace filled r (now (cell .entry)) ⌝ }
+// Question 1 for a place that is filled, and its cell.
+pub fn filled_is_sound(r: Record, cell: &[u8]) -> bool
+    ensures { λ b. ⌜ b ≡ soundPlace true r (now (cell .entry)) ⌝ }
 {
-    if filled {
-        record_sound::record_is_sound(r) & sdu_store::cell_is_clean(cell, r.bits)
-    } else {
-        record_sound::record_is_empty(r) & sdu_store::cell_is_zero(cell)
-    }
+    record_sound::record_is_sound(r) & sdu_store::cell_is_clean(cell, r.bits)
+}
+
+// Question 1 for a place that is not filled, and its cell.
+pub fn unfilled_is_sound(r: Record, cell: &[u8]) -> bool
+    ensures { λ b. ⌜ b ≡ soundPlace false r (now (cell .entry)) ⌝ }
+{
+    record_sound::record_is_empty(r) & sdu_store::cell_is_zero(cell)
 }

@@ -105,7 +105,7 @@ returns-2 c =
     let i : ℕ = k .loop2 .i in
     let h : i < 16 = omega (arith, k .loop2 .inv .2 .2) in
     fails (a .t1) (a .queue .now) (a .store .now) (l .loop .t) n i h (k .loop2 .inv .1) (k .loop2 .inv .2)
-    (seen (a .t1) (a .queue .now) (a .store .now) (l .loop .t) n i h (k .loop2 .inv .1) (k .loop2 .inv .2) true (lt-ltb i n (omega arith)) _ _ (c .before .place-is-sound .ensures)
+    (seen (a .t1) (a .queue .now) (a .store .now) (l .loop .t) n i h (k .loop2 .inv .1) (k .loop2 .inv .2) true (lt-ltb i n (omega arith)) _ _ (c .before .filled-is-sound .ensures)
     ∙ not-true _ (c .if2 .taken))
 
 loop2-again : tie.Need-loop2-again Inv-loop2 μ-loop2 Inv-loop3 μ-loop3 Inv-loop μ-loop
@@ -119,7 +119,7 @@ loop2-again c =
       omega arith,
       k .loop2 .inv .1,
       goes-on (a .t1) (a .queue .now) (a .store .now) (l .loop .t) n i h (k .loop2 .inv .1) (k .loop2 .inv .2)
-          (seen (a .t1) (a .queue .now) (a .store .now) (l .loop .t) n i h (k .loop2 .inv .1) (k .loop2 .inv .2) true (lt-ltb i n (omega arith)) _ _ (c .before .place-is-sound .ensures)
+          (seen (a .t1) (a .queue .now) (a .store .now) (l .loop .t) n i h (k .loop2 .inv .1) (k .loop2 .inv .2) true (lt-ltb i n (omega arith)) _ _ (c .before .filled-is-sound .ensures)
           ∙ not-false _ (c .if2 .left)),
     )
 
@@ -141,7 +141,7 @@ returns-3 c =
     let j : ℕ = k .loop3 .j in
     let h : j < 16 = omega arith in
     fails (a .t1) (a .queue .now) (a .store .now) (l .loop .t) n j h (k .loop3 .inv .1) (k .loop3 .inv .2)
-    (seen (a .t1) (a .queue .now) (a .store .now) (l .loop .t) n j h (k .loop3 .inv .1) (k .loop3 .inv .2) false (le-ltb j n (k .loop3 .inv .0 .0)) _ _ (c .before .place-is-sound2 .ensures)
+    (seen (a .t1) (a .queue .now) (a .store .now) (l .loop .t) n j h (k .loop3 .inv .1) (k .loop3 .inv .2) false (le-ltb j n (k .loop3 .inv .0 .0)) _ _ (c .before .unfilled-is-sound .ensures)
     ∙ not-true _ (c .if3 .taken))
 
 loop3-again : tie.Need-loop3-again Inv-loop2 μ-loop2 Inv-loop3 μ-loop3 Inv-loop μ-loop
@@ -155,7 +155,7 @@ loop3-again c =
       (omega (arith, k .loop3 .inv .0 .0), omega arith),
       k .loop3 .inv .1,
       goes-on (a .t1) (a .queue .now) (a .store .now) (l .loop .t) n j h (k .loop3 .inv .1) (k .loop3 .inv .2)
-          (seen (a .t1) (a .queue .now) (a .store .now) (l .loop .t) n j h (k .loop3 .inv .1) (k .loop3 .inv .2) false (le-ltb j n (k .loop3 .inv .0 .0)) _ _ (c .before .place-is-sound2 .ensures)
+          (seen (a .t1) (a .queue .now) (a .store .now) (l .loop .t) n j h (k .loop3 .inv .1) (k .loop3 .inv .2) false (le-ltb j n (k .loop3 .inv .0 .0)) _ _ (c .before .unfilled-is-sound .ensures)
           ∙ not-false _ (c .if3 .left)),
     )
 

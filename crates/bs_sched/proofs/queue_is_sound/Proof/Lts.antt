@@ -319,10 +319,16 @@ abbrev pub m : Nat.ℕ
 m = 0
 
 abbrev pub ps·0 : List.List (Kinds.PK 1)
-ps·0 = Bool.pBool ∷ in-Record.p ∷ (ShrSlice.pShrS (Referent.rtF (Referent.fInt Syntax.w8)) 0 tt) ∷ []
+ps·0 = in-Record.p ∷ (ShrSlice.pShrS (Referent.rtF (Referent.fInt Syntax.w8)) 0 tt) ∷ []
 
 abbrev pub r·0 : Kinds.RK 1
 r·0 = Bool.rBool
+
+abbrev pub ps·1 : List.List (Kinds.PK 1)
+ps·1 = in-Record.p ∷ (ShrSlice.pShrS (Referent.rtF (Referent.fInt Syntax.w8)) 0 tt) ∷ []
+
+abbrev pub r·1 : Kinds.RK 1
+r·1 = Bool.rBool
 
 abbrev pub hs : List.List Syntax.Home
 hs = Syntax.valueLocal ∷ Syntax.valueLocal ∷ Syntax.valueLocal ∷ Syntax.valueLocal ∷ Syntax.memorySlot ∷ Syntax.valueLocal ∷ Syntax.valueLocal ∷
@@ -435,8 +441,7 @@ abbrev b32 : Syntax.Body
 b32 = Syntax.assign (Syntax.place 27 []) (Syntax.aggregate ((Syntax.copy (Syntax.place 26 [])) ∷ (Syntax.copy (Syntax.place 22 [])) ∷ []))
 
 abbrev b33 : Syntax.Body
-b33 = Syntax.call "bs_sched::place_is_sound" (Syntax.opdTrue ∷ (Syntax.copy (Syntax.place 9 [])) ∷ (Syntax.copy (Syntax.place 27 [])) ∷ [])
-    (Syntax.place 21 [])
+b33 = Syntax.call "bs_sched::filled_is_sound" ((Syntax.copy (Syntax.place 9 [])) ∷ (Syntax.copy (Syntax.place 27 [])) ∷ []) (Syntax.place 21 [])
 
 abbrev b34 : Syntax.Body
 b34 = Syntax.assign (Syntax.place 28 []) (Syntax.op1 Syntax.bitNot (Syntax.copy (Syntax.place 21 [])))
@@ -572,8 +577,7 @@ abbrev b76 : Syntax.Body
 b76 = Syntax.assign (Syntax.place 35 []) (Syntax.aggregate ((Syntax.copy (Syntax.place 34 [])) ∷ (Syntax.copy (Syntax.place 30 [])) ∷ []))
 
 abbrev b77 : Syntax.Body
-b77 = Syntax.call "bs_sched::place_is_sound" (Syntax.opdFalse ∷ (Syntax.copy (Syntax.place 14 [])) ∷ (Syntax.copy (Syntax.place 35 [])) ∷ [])
-    (Syntax.place 29 [])
+b77 = Syntax.call "bs_sched::unfilled_is_sound" ((Syntax.copy (Syntax.place 14 [])) ∷ (Syntax.copy (Syntax.place 35 [])) ∷ []) (Syntax.place 29 [])
 
 abbrev b78 : Syntax.Body
 b78 = Syntax.assign (Syntax.place 36 []) (Syntax.op1 Syntax.bitNot (Syntax.copy (Syntax.place 29 [])))
@@ -720,7 +724,7 @@ abbrev pub body : Syntax.Body
 body = b124
 
 abbrev pub Claims : Type 1
-Claims = Kinds.In 1 ps·0 × Kinds.Out 1 ps·0 r·0
+Claims = Kinds.In 1 ps·0 × Kinds.Out 1 ps·0 r·0 × Kinds.In 1 ps·1 × Kinds.Out 1 ps·1 r·1
 
 abbrev pub t0 : List.List Row.Entry
 t0 = ε32 ∷ ε62 ∷ ε44 ∷ ε64 ∷ ε3 ∷ ε4 ∷ ε5 ∷ ε6 ∷ ε7 ∷ ε50 ∷ ε9 ∷ ε10 ∷ ε11 ∷ ε12 ∷ ε59 ∷ ε13 ∷ []
@@ -1544,18 +1548,15 @@ module _ (claims· : Claims) where
 
   abbrev s46 : (bs : List.List Nat.ℕ) → Typed.Both T52 T53
   s46 = λ bs. Call.callB ps·0 r·0 (claims· .0) (claims· .1) T52 (
-    Bool.bLit Bool'.true,
+    record { pos = 9; st = []; d = 0; at = λ x. x },
     (
-      record { pos = 9; st = []; d = 0; at = λ x. x },
-      (
-        record {
-          pos
-              = 27;
-          ty = Syntax.tyRef Syntax.erased Syntax.imm τ0;
-          ref = λ x. x;
-        },
-        tt,
-      ),
+      record {
+        pos = 27;
+        ty =
+            Syntax.tyRef Syntax.erased Syntax.imm τ0;
+        ref = λ x. x;
+      },
+      tt,
     ),
   ) 21 (1 ∷ []) Syntax.tyBool
 
@@ -1699,18 +1700,16 @@ module _ (claims· : Claims) where
   s88 = λ bs. Scalar.n-room T97 30 τ1
 
   abbrev s89 : (bs : List.List Nat.ℕ) → Typed.Both T98 T99
-  s89 = λ bs. Call.callB ps·0 r·0 (claims· .0) (claims· .1) T98 (
-    Bool.bLit Bool'.false,
+  s89 = λ bs. Call.callB ps·1 r·1 (claims· .2) (claims· .3) T98 (
+    record { pos = 14; st = []; d = 0; at = λ x. x },
     (
-      record { pos = 14; st = []; d = 0; at = λ x. x },
-      (
-        record {
-          pos = 35;
-          ty = Syntax.tyRef Syntax.erased Syntax.imm τ0;
-          ref = λ x. x;
-        },
-        tt,
-      ),
+      record {
+        pos = 35;
+        ty =
+            Syntax.tyRef Syntax.erased Syntax.imm τ0;
+        ref = λ x. x;
+      },
+      tt,
     ),
   ) 29 (1 ∷ []) Syntax.tyBool
 
@@ -1790,8 +1789,9 @@ module _ (claims· : Claims) where
     module _ (M : Type 1) where
       abbrev pub Closed : Type 2
       Closed = (𝓤 : URA.URA M) (H : Wp.Heap 𝓤) (A : Atoms.Atoms 𝓤) (W : Kit.Given 𝓤 H A) (𝓣 : Wp.Tables 𝓤 H) (known0 : Plain.Known 𝓤 H A W 𝓣 1 ps·0
-          r·0 (claims· .0) (claims· .1) "bs_sched::place_is_sound") → Statement.Triple 𝓤 (Wp.WpFn 𝓤 H (𝓣 .C) (𝓣 .Λ) (Function.fnOf 2 ps r xs m hs
-          body)) (Function.plainOf 𝓤 H A 2 ps r Pre· Post·)
+          r·0 (claims· .0) (claims· .1) "bs_sched::filled_is_sound") (known1 : Plain.Known 𝓤 H A W 𝓣 1 ps·1 r·1 (claims· .2) (claims· .3)
+          "bs_sched::unfilled_is_sound") → Statement.Triple 𝓤 (Wp.WpFn 𝓤 H (𝓣 .C) (𝓣 .Λ) (Function.fnOf 2 ps r xs m hs body)) (Function.plainOf 𝓤 H A
+          2 ps r Pre· Post·)
 
     module _ (Inv·0 : InvT-loop2) (μ·0 : MeasureT-loop2) (Inv·1 : InvT-loop3) (μ·1 : MeasureT-loop3) (Inv·2 : InvT-loop) (μ·2 : MeasureT-loop) where
       abbrev at0 : (bs : List.List Nat.ℕ) → Typed.TF T9 O4
@@ -2239,7 +2239,8 @@ module _ (claims· : Claims) where
 
       module _ {M : Type 1} (𝓤 : URA.URA M) (H : Wp.Heap 𝓤) (A : Atoms.Atoms 𝓤) (W : Kit.Given 𝓤 H A) (𝓣 : Wp.Tables 𝓤 H) where
         abbrev Knowns : Type 1
-        Knowns = Plain.Known 𝓤 H A W 𝓣 1 ps·0 r·0 (claims· .0) (claims· .1) "bs_sched::place_is_sound"
+        Knowns = Plain.Known 𝓤 H A W 𝓣 1 ps·0 r·0 (claims· .0) (claims· .1) "bs_sched::filled_is_sound" × Plain.Known 𝓤 H A W 𝓣 1 ps·1 r·1 (claims·
+            .2) (claims· .3) "bs_sched::unfilled_is_sound"
 
       module _ (κs : Lifetimes.Lfts 2) (qs : Lifetimes.Shares 2) where
         abbrev G0 : Row.Cx
@@ -2830,28 +2831,24 @@ module _ (claims· : Claims) where
 
           d44 : Typed.Typed 𝓤 H A 𝓣 E G52 b43 Δ8 (at44 bs)
           d44 = Typed.s-seq 𝓤 H A W 𝓣 E G52 G53 b33 b42 Δ8 (Typed.both (s46 bs)) (at43 bs) (Plain.t-call-plain 𝓤 H A W 𝓣 1 ps·0 r·0 (claims· .0)
-              (claims· .1) "bs_sched::place_is_sound" known E (λ pos β. β) G52 (
-                Bool.bLit Bool'.true,
+              (claims· .1) "bs_sched::filled_is_sound" (known .0) E (λ pos β. β) G52 (
+                record { pos = 9; st = []; d = 0; at = λ x. x },
                 (
                   record {
-                    pos = 9;
-                    st = [];
-                    d = 0;
-                    at = λ x. x;
+                    pos =
+                        27;
+                    ty = Syntax.tyRef Syntax.erased Syntax.imm τ0;
+                    ref = λ x. x;
                   },
-                  (record { pos = 27; ty = Syntax.tyRef Syntax.erased Syntax.imm τ0; ref = λ x. x }, tt),
+                  tt,
                 ),
-              ) 21 (1 ∷ []) (Call.sub-id 𝓤 H A W (G52
-              .slots)) (
-                tt,
+              ) 21 (1 ∷ []) (Call.sub-id 𝓤 H A W (G52 .slots)) (
+                (in-Record.yields 𝓤 H A W, Path'.refl),
                 (
-                  (in-Record.yields 𝓤 H A W, Path'.refl),
-                  (
-                    ShrSlice.spares-sslice 𝓤 H A W (Referent.rtF (Referent.fInt Syntax.w8)) τ4 1,
-                    Shared.reads-sslice 𝓤 H A W (Referent.rtF (Referent.fInt Syntax.w8)) τ4 1,
-                    Path'.refl,
-                    tt,
-                  ),
+                  ShrSlice.spares-sslice 𝓤 H A W (Referent.rtF (Referent.fInt Syntax.w8)) τ4 1,
+                  Shared.reads-sslice 𝓤 H A W (Referent.rtF (Referent.fInt Syntax.w8)) τ4 1,
+                  Path'.refl,
+                  tt,
                 ),
               ) (Reads.room-gone 𝓤 H A Syntax.tyBool) (
                 tt,
@@ -3114,29 +3111,24 @@ module _ (claims· : Claims) where
               (Shared.room-sslice 𝓤 H A W (Referent.rtF (Referent.fInt Syntax.w8)) τ4 1)) d94
 
           d96 : Typed.Typed 𝓤 H A 𝓣 E G98 b87 Δ13 (at96 bs)
-          d96 = Typed.s-seq 𝓤 H A W 𝓣 E G98 G99 b77 b86 Δ13 (Typed.both (s89 bs)) (at95 bs) (Plain.t-call-plain 𝓤 H A W 𝓣 1 ps·0 r·0 (claims· .0)
-              (claims· .1) "bs_sched::place_is_sound" known E (λ pos β. β) G98 (
-                Bool.bLit Bool'.false,
+          d96 = Typed.s-seq 𝓤 H A W 𝓣 E G98 G99 b77 b86 Δ13 (Typed.both (s89 bs)) (at95 bs) (Plain.t-call-plain 𝓤 H A W 𝓣 1 ps·1 r·1 (claims· .2)
+              (claims· .3) "bs_sched::unfilled_is_sound" (known .1) E (λ pos β. β) G98 (
+                record { pos = 14; st = []; d = 0; at = λ x. x },
                 (
                   record {
-                    pos = 14;
-                    st = [];
-                    d = 0;
-                    at = λ x. x;
+                    pos = 35;
+                    ty = Syntax.tyRef Syntax.erased Syntax.imm τ0;
+                    ref = λ x. x;
                   },
-                  (record { pos = 35; ty = Syntax.tyRef Syntax.erased Syntax.imm τ0; ref = λ x. x }, tt),
+                  tt,
                 ),
-              ) 29 (1 ∷ []) (Call.sub-id 𝓤 H A W (G98
-              .slots)) (
-                tt,
+              ) 29 (1 ∷ []) (Call.sub-id 𝓤 H A W (G98 .slots)) (
+                (in-Record.yields 𝓤 H A W, Path'.refl),
                 (
-                  (in-Record.yields 𝓤 H A W, Path'.refl),
-                  (
-                    ShrSlice.spares-sslice 𝓤 H A W (Referent.rtF (Referent.fInt Syntax.w8)) τ4 1,
-                    Shared.reads-sslice 𝓤 H A W (Referent.rtF (Referent.fInt Syntax.w8)) τ4 1,
-                    Path'.refl,
-                    tt,
-                  ),
+                  ShrSlice.spares-sslice 𝓤 H A W (Referent.rtF (Referent.fInt Syntax.w8)) τ4 1,
+                  Shared.reads-sslice 𝓤 H A W (Referent.rtF (Referent.fInt Syntax.w8)) τ4 1,
+                  Path'.refl,
+                  tt,
                 ),
               ) (Reads.room-gone 𝓤 H A Syntax.tyBool) (
                 tt,
@@ -3734,20 +3726,20 @@ module _ (claims· : Claims) where
           .before))) → Typed.Mo T47
       m43 = λ before given. s40 (before .before .before .before .before .before .before .blocks) .next (m42 before given)
 
-      abbrev pub Need-sub-place-is-sound : Type 0
-      Need-sub-place-is-sound = (c : After-r) → s41 (c .before .before .before .before .before .before .before .blocks) .asks (m43 (c .before) (c .r
+      abbrev pub Need-sub-filled-is-sound : Type 0
+      Need-sub-filled-is-sound = (c : After-r) → s41 (c .before .before .before .before .before .before .before .blocks) .asks (m43 (c .before) (c .r
           .given))
 
       abbrev pub m44 : (before : In-loop2) → (given : s33 (before .before .before .before .before .before .before .blocks) .gives (m35 (before
           .before))) → Typed.Mo T48
       m44 = λ before given. s41 (before .before .before .before .before .before .before .blocks) .next (m43 before given)
 
-      abbrev pub Need-part-place-is-sound-start : Type 0
-      Need-part-place-is-sound-start = (c : After-r) → PartAt.PartFrom T48 (λ u. u .1 .1 .1 .1 .1 .1 .1 .1 .1 .1 .0) (λ u. u .1 .1 .1 .1 .1 .1 .1 .1
+      abbrev pub Need-part-filled-is-sound-start : Type 0
+      Need-part-filled-is-sound-start = (c : After-r) → PartAt.PartFrom T48 (λ u. u .1 .1 .1 .1 .1 .1 .1 .1 .1 .1 .0) (λ u. u .1 .1 .1 .1 .1 .1 .1 .1
           .1 .1 .1 .0) (m44 (c .before) (c .r .given))
 
-      abbrev pub Need-part-place-is-sound-end : Type 0
-      Need-part-place-is-sound-end = (c : After-r) → PartAt.PartTo T48 3 25 (λ x. x) (λ u. u .1 .1 .1 .1 .1 .1 .1 .1 .1 .1 .1 .0) (m44 (c .before) (c
+      abbrev pub Need-part-filled-is-sound-end : Type 0
+      Need-part-filled-is-sound-end = (c : After-r) → PartAt.PartTo T48 3 25 (λ x. x) (λ u. u .1 .1 .1 .1 .1 .1 .1 .1 .1 .1 .1 .0) (m44 (c .before) (c
           .r .given))
 
       abbrev pub m45 : (before : After-r) → (given : s42 (before .before .before .before .before .before .before .before .blocks) .gives (m44 (before
@@ -3768,104 +3760,112 @@ module _ (claims· : Claims) where
       m48 = λ before given. s45 (before .before .before .before .before .before .before .before .blocks) (m47 before given)
 
       module _ (before· : After-r) where
-        pub record After-place-is-sound-arg·own : Type 0 where
+        pub record After-filled-is-sound-arg·own : Type 0 where
           pub given : s42 (before· .before .before .before .before .before .before .before .blocks) .gives (m44 (before· .before) (before· .r .given))
 
-      pub record After-place-is-sound-arg : Type 0 where
+      pub record After-filled-is-sound-arg : Type 0 where
         pub before : After-r
-        pub place-is-sound-arg : After-place-is-sound-arg·own before
+        pub filled-is-sound-arg : After-filled-is-sound-arg·own before
 
-      abbrev pub Need-place-is-sound-requires : Type 0
-      Need-place-is-sound-requires = (c : After-place-is-sound-arg) → s46 (c .before .before .before .before .before .before .before .before .blocks)
-          .asks (m48 (c .before) (c .place-is-sound-arg .given))
+      abbrev pub Need-filled-is-sound-requires : Type 0
+      Need-filled-is-sound-requires = (c : After-filled-is-sound-arg) → s46 (c .before .before .before .before .before .before .before .before
+          .blocks) .asks (m48 (c .before) (c .filled-is-sound-arg .given))
 
-      abbrev pub m49 : (before : After-place-is-sound-arg) → (given : s46 (before .before .before .before .before .before .before .before .before
-          .blocks) .gives (m48 (before .before) (before .place-is-sound-arg .given))) → Typed.Mo T53
+      abbrev pub m49 : (before : After-filled-is-sound-arg) → (given : s46 (before .before .before .before .before .before .before .before .before
+          .blocks) .gives (m48 (before .before) (before .filled-is-sound-arg .given))) → Typed.Mo T53
       m49 = λ before given. s46 (before .before .before .before .before .before .before .before .before .blocks) .next (m48 (before .before) (before
-          .place-is-sound-arg .given)) given
+          .filled-is-sound-arg .given)) given
 
-      module _ (before· : After-place-is-sound-arg) where
-        abbrev pub After-place-is-sound·own : Type 0
-        After-place-is-sound·own = Called.Called ps·0 r·0 (claims· .1) T52 (
-          Bool.bLit Bool'.true,
-          (
-            record { pos = 9; st = []; d = 0; at = λ x. x },
-            (record { pos = 27; ty = Syntax.tyRef Syntax.erased Syntax.imm τ0; ref = λ x. x }, tt),
-          ),
-        ) (m48 (before· .before) (before·
-            .place-is-sound-arg .given))
-
-      pub record After-place-is-sound : Type 0 where
-        pub before : After-place-is-sound-arg
-        pub place-is-sound : After-place-is-sound·own before
-
-      abbrev pub After-place-is-sound·gave : (c : After-place-is-sound) → s46 (c .before .before .before .before .before .before .before .before
-          .before .blocks) .gives (m48 (c .before .before) (c .before .place-is-sound-arg .given))
-      After-place-is-sound·gave = λ c. Called.given ps·0 r·0 (claims· .1) T52 (
-        Bool.bLit Bool'.true,
-        (
+      module _ (before· : After-filled-is-sound-arg) where
+        abbrev pub After-filled-is-sound·own : Type 0
+        After-filled-is-sound·own = Called.Called ps·0 r·0 (claims· .1) T52 (
           record { pos = 9; st = []; d = 0; at = λ x. x },
-          (record { pos = 27; ty = Syntax.tyRef Syntax.erased Syntax.imm τ0; ref = λ x. x }, tt),
-        ),
-      ) (m48 (c .before .before) (c .before
-          .place-is-sound-arg .given)) (c .place-is-sound)
+          (
+            record {
+              pos = 27;
+              ty =
+                  Syntax.tyRef Syntax.erased Syntax.imm τ0;
+              ref = λ x. x;
+            },
+            tt,
+          ),
+        ) (m48 (before· .before) (before· .filled-is-sound-arg .given))
 
-      abbrev pub m50 : (before : After-place-is-sound-arg) → (given : s46 (before .before .before .before .before .before .before .before .before
-          .blocks) .gives (m48 (before .before) (before .place-is-sound-arg .given))) → Typed.Mo T54
+      pub record After-filled-is-sound : Type 0 where
+        pub before : After-filled-is-sound-arg
+        pub filled-is-sound : After-filled-is-sound·own before
+
+      abbrev pub After-filled-is-sound·gave : (c : After-filled-is-sound) → s46 (c .before .before .before .before .before .before .before .before
+          .before .blocks) .gives (m48 (c .before .before) (c .before .filled-is-sound-arg .given))
+      After-filled-is-sound·gave = λ c. Called.given ps·0 r·0 (claims· .1) T52 (
+        record { pos = 9; st = []; d = 0; at = λ x. x },
+        (
+          record {
+            pos = 27;
+            ty = Syntax.tyRef Syntax.erased Syntax.imm τ0;
+            ref = λ x. x;
+          },
+          tt,
+        ),
+      ) (m48 (c .before .before) (c .before .filled-is-sound-arg .given)) (c
+          .filled-is-sound)
+
+      abbrev pub m50 : (before : After-filled-is-sound-arg) → (given : s46 (before .before .before .before .before .before .before .before .before
+          .blocks) .gives (m48 (before .before) (before .filled-is-sound-arg .given))) → Typed.Mo T54
       m50 = λ before given. s47 (before .before .before .before .before .before .before .before .before .blocks) (m49 before given)
 
-      abbrev pub m51 : (before : After-place-is-sound-arg) → (given : s46 (before .before .before .before .before .before .before .before .before
-          .blocks) .gives (m48 (before .before) (before .place-is-sound-arg .given))) → Typed.Mo T55
+      abbrev pub m51 : (before : After-filled-is-sound-arg) → (given : s46 (before .before .before .before .before .before .before .before .before
+          .blocks) .gives (m48 (before .before) (before .filled-is-sound-arg .given))) → Typed.Mo T55
       m51 = λ before given. s48 (before .before .before .before .before .before .before .before .before .blocks) (m50 before given)
 
-      abbrev pub m52 : (before : After-place-is-sound-arg) → (given : s46 (before .before .before .before .before .before .before .before .before
-          .blocks) .gives (m48 (before .before) (before .place-is-sound-arg .given))) → Typed.Mo T56
+      abbrev pub m52 : (before : After-filled-is-sound-arg) → (given : s46 (before .before .before .before .before .before .before .before .before
+          .blocks) .gives (m48 (before .before) (before .filled-is-sound-arg .given))) → Typed.Mo T56
       m52 = λ before given. s49 (before .before .before .before .before .before .before .before .before .blocks) .next (m51 before given)
 
-      abbrev W10 : (before : After-place-is-sound-arg) → (given : s46 (before .before .before .before .before .before .before .before .before .blocks)
-          .gives (m48 (before .before) (before .place-is-sound-arg .given))) → Typed.Want O10
+      abbrev W10 : (before : After-filled-is-sound-arg) → (given : s46 (before .before .before .before .before .before .before .before .before
+          .blocks) .gives (m48 (before .before) (before .filled-is-sound-arg .given))) → Typed.Want O10
       W10 = λ before given. Typed.wantNext T57 O8 (at39 (before .before .before .before .before .before .before .before .before .blocks) (W8 (before
           .before .before .before .before) (before .before .before .before .loop2 .i))) (W8 (before .before .before .before .before) (before .before
           .before .before .loop2 .i))
 
-      abbrev pub m53 : (before : After-place-is-sound-arg) → (given : s46 (before .before .before .before .before .before .before .before .before
-          .blocks) .gives (m48 (before .before) (before .place-is-sound-arg .given))) → Typed.Mo T58
+      abbrev pub m53 : (before : After-filled-is-sound-arg) → (given : s46 (before .before .before .before .before .before .before .before .before
+          .blocks) .gives (m48 (before .before) (before .filled-is-sound-arg .given))) → Typed.Mo T58
       m53 = λ before given. s50 (before .before .before .before .before .before .before .before .before .blocks) (m52 before given)
 
-      abbrev pub m54 : (before : After-place-is-sound) → Typed.Mo T59
+      abbrev pub m54 : (before : After-filled-is-sound) → Typed.Mo T59
       m54 = λ before. s51 (before .before .before .before .before .before .before .before .before .before .blocks) (m53 (before .before)
-          (After-place-is-sound·gave before))
+          (After-filled-is-sound·gave before))
 
-      abbrev pub m55 : (before : After-place-is-sound) → Typed.Mo T60
+      abbrev pub m55 : (before : After-filled-is-sound) → Typed.Mo T60
       m55 = λ before. s52 (before .before .before .before .before .before .before .before .before .before .blocks) (m54 before)
 
-      abbrev pub m56 : (before : After-place-is-sound) → Typed.Mo T61
+      abbrev pub m56 : (before : After-filled-is-sound) → Typed.Mo T61
       m56 = λ before. s53 (before .before .before .before .before .before .before .before .before .before .blocks) (m55 before)
 
-      abbrev pub m57 : (before : After-place-is-sound) → Typed.Mo T62
+      abbrev pub m57 : (before : After-filled-is-sound) → Typed.Mo T62
       m57 = λ before. s54 (before .before .before .before .before .before .before .before .before .before .blocks) (m56 before)
 
-      abbrev pub m58 : (before : After-place-is-sound) → Typed.Mo T63
+      abbrev pub m58 : (before : After-filled-is-sound) → Typed.Mo T63
       m58 = λ before. s55 (before .before .before .before .before .before .before .before .before .before .blocks) (m57 before)
 
-      abbrev pub m59 : (before : After-place-is-sound) → Typed.Mo T64
+      abbrev pub m59 : (before : After-filled-is-sound) → Typed.Mo T64
       m59 = λ before. s56 (before .before .before .before .before .before .before .before .before .before .blocks) (m58 before)
 
-      abbrev pub m60 : (before : After-place-is-sound) → Typed.Mo T65
+      abbrev pub m60 : (before : After-filled-is-sound) → Typed.Mo T65
       m60 = λ before. s57 (before .before .before .before .before .before .before .before .before .before .blocks) (m59 before)
 
-      abbrev pub m61 : (before : After-place-is-sound) → Typed.Mo T66
+      abbrev pub m61 : (before : After-filled-is-sound) → Typed.Mo T66
       m61 = λ before. s58 (before .before .before .before .before .before .before .before .before .before .blocks) (m60 before)
 
-      abbrev pub m62 : (before : After-place-is-sound) → Typed.Mo T67
+      abbrev pub m62 : (before : After-filled-is-sound) → Typed.Mo T67
       m62 = λ before. s59 (before .before .before .before .before .before .before .before .before .before .blocks) (m61 before)
 
-      module _ (before· : After-place-is-sound) where
+      module _ (before· : After-filled-is-sound) where
         pub record Then2·own : Type 0 where
-          pub taken : Path'._≡_ (Row.get 28 (T58 .locals) (m53 (before· .before) (After-place-is-sound·gave before·))) Bool'.true
+          pub taken : Path'._≡_ (Row.get 28 (T58 .locals) (m53 (before· .before) (After-filled-is-sound·gave before·))) Bool'.true
 
       pub record Then2 : Type 0 where
-        pub before : After-place-is-sound
+        pub before : After-filled-is-sound
         pub if2 : Then2·own before
 
       abbrev pub Need-returns-2 : Type 0
@@ -3878,32 +3878,32 @@ module _ (claims· : Claims) where
           .before .before .before .κs) 1 ps xs (dens (c .before .before .before .before .before .before .before .before .before .before .κs) (c
           .before .before .before .before .before .before .before .before .before .before .args)) (m62 (c .before) .1)))
 
-      abbrev pub m63 : (before : After-place-is-sound) → Typed.Mo T68
+      abbrev pub m63 : (before : After-filled-is-sound) → Typed.Mo T68
       m63 = λ before. s60 (before .before .before .before .before .before .before .before .before .before .blocks) (m53 (before .before)
-          (After-place-is-sound·gave before))
+          (After-filled-is-sound·gave before))
 
-      abbrev pub m64 : (before : After-place-is-sound) → Typed.Mo T69
+      abbrev pub m64 : (before : After-filled-is-sound) → Typed.Mo T69
       m64 = λ before. s61 (before .before .before .before .before .before .before .before .before .before .blocks) (m63 before)
 
-      abbrev pub m65 : (before : After-place-is-sound) → Typed.Mo T70
+      abbrev pub m65 : (before : After-filled-is-sound) → Typed.Mo T70
       m65 = λ before. s62 (before .before .before .before .before .before .before .before .before .before .blocks) (m64 before)
 
-      abbrev pub m66 : (before : After-place-is-sound) → Typed.Mo T71
+      abbrev pub m66 : (before : After-filled-is-sound) → Typed.Mo T71
       m66 = λ before. s63 (before .before .before .before .before .before .before .before .before .before .blocks) (m65 before)
 
-      module _ (before· : After-place-is-sound) where
+      module _ (before· : After-filled-is-sound) where
         pub record Else2·own : Type 0 where
-          pub left : Path'._≡_ (Row.get 28 (T58 .locals) (m53 (before· .before) (After-place-is-sound·gave before·))) Bool'.false
+          pub left : Path'._≡_ (Row.get 28 (T58 .locals) (m53 (before· .before) (After-filled-is-sound·gave before·))) Bool'.false
 
       pub record Else2 : Type 0 where
-        pub before : After-place-is-sound
+        pub before : After-filled-is-sound
         pub if2 : Else2·own before
 
       abbrev pub Need-add-i : Type 0
       Need-add-i = (c : Else2) → s64 (c .before .before .before .before .before .before .before .before .before .before .blocks) .asks (m66 (c
           .before))
 
-      abbrev pub m67 : (before : After-place-is-sound) → Typed.Mo T72
+      abbrev pub m67 : (before : After-filled-is-sound) → Typed.Mo T72
       m67 = λ before. s64 (before .before .before .before .before .before .before .before .before .before .blocks) .next (m66 before)
 
       abbrev pub Need-loop2-less : Type 0
@@ -4071,20 +4071,20 @@ module _ (claims· : Claims) where
           (before .before))) → Typed.Mo T93
       m87 = λ before given. s83 (before .before .before .before .before .before .before .before .before .blocks) .next (m86 before given)
 
-      abbrev pub Need-sub-place-is-sound-2 : Type 0
-      Need-sub-place-is-sound-2 = (c : After-r2) → s84 (c .before .before .before .before .before .before .before .before .before .blocks) .asks (m87
+      abbrev pub Need-sub-unfilled-is-sound : Type 0
+      Need-sub-unfilled-is-sound = (c : After-r2) → s84 (c .before .before .before .before .before .before .before .before .before .blocks) .asks (m87
           (c .before) (c .r2 .given))
 
       abbrev pub m88 : (before : In-loop3) → (given : s76 (before .before .before .before .before .before .before .before .before .blocks) .gives (m79
           (before .before))) → Typed.Mo T94
       m88 = λ before given. s84 (before .before .before .before .before .before .before .before .before .blocks) .next (m87 before given)
 
-      abbrev pub Need-part-place-is-sound-start-2 : Type 0
-      Need-part-place-is-sound-start-2 = (c : After-r2) → PartAt.PartFrom T94 (λ u. u .1 .1 .1 .1 .1 .1 .1 .1 .1 .1 .1 .1 .1 .1 .1 .0) (λ u. u .1 .1
+      abbrev pub Need-part-unfilled-is-sound-start : Type 0
+      Need-part-unfilled-is-sound-start = (c : After-r2) → PartAt.PartFrom T94 (λ u. u .1 .1 .1 .1 .1 .1 .1 .1 .1 .1 .1 .1 .1 .1 .1 .0) (λ u. u .1 .1
           .1 .1 .1 .1 .1 .1 .1 .1 .1 .1 .1 .1 .1 .1 .0) (m88 (c .before) (c .r2 .given))
 
-      abbrev pub Need-part-place-is-sound-end-2 : Type 0
-      Need-part-place-is-sound-end-2 = (c : After-r2) → PartAt.PartTo T94 3 33 (λ x. x) (λ u. u .1 .1 .1 .1 .1 .1 .1 .1 .1 .1 .1 .1 .1 .1 .1 .1 .0)
+      abbrev pub Need-part-unfilled-is-sound-end : Type 0
+      Need-part-unfilled-is-sound-end = (c : After-r2) → PartAt.PartTo T94 3 33 (λ x. x) (λ u. u .1 .1 .1 .1 .1 .1 .1 .1 .1 .1 .1 .1 .1 .1 .1 .1 .0)
           (m88 (c .before) (c .r2 .given))
 
       abbrev pub m89 : (before : After-r2) → (given : s85 (before .before .before .before .before .before .before .before .before .before .blocks)
@@ -4105,111 +4105,114 @@ module _ (claims· : Claims) where
       m92 = λ before given. s88 (before .before .before .before .before .before .before .before .before .before .blocks) (m91 before given)
 
       module _ (before· : After-r2) where
-        pub record After-place-is-sound-arg2·own : Type 0 where
+        pub record After-unfilled-is-sound-arg·own : Type 0 where
           pub given : s85 (before· .before .before .before .before .before .before .before .before .before .blocks) .gives (m88 (before· .before)
               (before· .r2 .given))
 
-      pub record After-place-is-sound-arg2 : Type 0 where
+      pub record After-unfilled-is-sound-arg : Type 0 where
         pub before : After-r2
-        pub place-is-sound-arg2 : After-place-is-sound-arg2·own before
+        pub unfilled-is-sound-arg : After-unfilled-is-sound-arg·own before
 
-      abbrev pub Need-place-is-sound-requires-2 : Type 0
-      Need-place-is-sound-requires-2 = (c : After-place-is-sound-arg2) → s89 (c .before .before .before .before .before .before .before .before
-          .before .before .blocks) .asks (m92 (c .before) (c .place-is-sound-arg2 .given))
+      abbrev pub Need-unfilled-is-sound-requires : Type 0
+      Need-unfilled-is-sound-requires = (c : After-unfilled-is-sound-arg) → s89 (c .before .before .before .before .before .before .before .before
+          .before .before .blocks) .asks (m92 (c .before) (c .unfilled-is-sound-arg .given))
 
-      abbrev pub m93 : (before : After-place-is-sound-arg2) → (given : s89 (before .before .before .before .before .before .before .before .before
-          .before .before .blocks) .gives (m92 (before .before) (before .place-is-sound-arg2 .given))) → Typed.Mo T99
+      abbrev pub m93 : (before : After-unfilled-is-sound-arg) → (given : s89 (before .before .before .before .before .before .before .before .before
+          .before .before .blocks) .gives (m92 (before .before) (before .unfilled-is-sound-arg .given))) → Typed.Mo T99
       m93 = λ before given. s89 (before .before .before .before .before .before .before .before .before .before .before .blocks) .next (m92 (before
-          .before) (before .place-is-sound-arg2 .given)) given
+          .before) (before .unfilled-is-sound-arg .given)) given
 
-      module _ (before· : After-place-is-sound-arg2) where
-        abbrev pub After-place-is-sound2·own : Type 0
-        After-place-is-sound2·own = Called.Called ps·0 r·0 (claims· .1) T98 (
-          Bool.bLit Bool'.false,
+      module _ (before· : After-unfilled-is-sound-arg) where
+        abbrev pub After-unfilled-is-sound·own : Type 0
+        After-unfilled-is-sound·own = Called.Called ps·1 r·1 (claims· .3) T98 (
+          record { pos = 14; st = []; d = 0; at = λ x. x },
           (
-            record { pos = 14; st = []; d = 0; at = λ x. x },
-            (record { pos = 35; ty = Syntax.tyRef Syntax.erased Syntax.imm τ0; ref = λ x. x }, tt),
+            record {
+              pos = 35;
+              ty = Syntax.tyRef Syntax.erased Syntax.imm τ0;
+              ref = λ x. x;
+            },
+            tt,
           ),
-        ) (m92 (before· .before) (before·
-            .place-is-sound-arg2 .given))
+        ) (m92 (before· .before) (before· .unfilled-is-sound-arg .given))
 
-      pub record After-place-is-sound2 : Type 0 where
-        pub before : After-place-is-sound-arg2
-        pub place-is-sound2 : After-place-is-sound2·own before
+      pub record After-unfilled-is-sound : Type 0 where
+        pub before : After-unfilled-is-sound-arg
+        pub unfilled-is-sound : After-unfilled-is-sound·own before
 
-      abbrev pub After-place-is-sound2·gave : (c : After-place-is-sound2) → s89 (c .before .before .before .before .before .before .before .before
-          .before .before .before .blocks) .gives (m92 (c .before .before) (c .before .place-is-sound-arg2 .given))
-      After-place-is-sound2·gave = λ c. Called.given ps·0 r·0 (claims· .1) T98 (
-        Bool.bLit Bool'.false,
+      abbrev pub After-unfilled-is-sound·gave : (c : After-unfilled-is-sound) → s89 (c .before .before .before .before .before .before .before .before
+          .before .before .before .blocks) .gives (m92 (c .before .before) (c .before .unfilled-is-sound-arg .given))
+      After-unfilled-is-sound·gave = λ c. Called.given ps·1 r·1 (claims· .3) T98 (
+        record { pos = 14; st = []; d = 0; at = λ x. x },
         (
           record {
-            pos = 14;
-            st = [];
-            d = 0;
-            at = λ x. x;
+            pos =
+                35;
+            ty = Syntax.tyRef Syntax.erased Syntax.imm τ0;
+            ref = λ x. x;
           },
-          (record { pos = 35; ty = Syntax.tyRef Syntax.erased Syntax.imm τ0; ref = λ x. x }, tt),
+          tt,
         ),
-      ) (m92 (c .before .before) (c .before
-          .place-is-sound-arg2 .given)) (c .place-is-sound2)
+      ) (m92 (c .before .before) (c .before .unfilled-is-sound-arg .given))
+          (c .unfilled-is-sound)
 
-      abbrev pub m94 : (before : After-place-is-sound-arg2) → (given : s89 (before .before .before .before .before .before .before .before .before
-          .before .before .blocks) .gives (m92 (before .before) (before .place-is-sound-arg2 .given))) → Typed.Mo T100
+      abbrev pub m94 : (before : After-unfilled-is-sound-arg) → (given : s89 (before .before .before .before .before .before .before .before .before
+          .before .before .blocks) .gives (m92 (before .before) (before .unfilled-is-sound-arg .given))) → Typed.Mo T100
       m94 = λ before given. s90 (before .before .before .before .before .before .before .before .before .before .before .blocks) (m93 before given)
 
-      abbrev pub m95 : (before : After-place-is-sound-arg2) → (given : s89 (before .before .before .before .before .before .before .before .before
-          .before .before .blocks) .gives (m92 (before .before) (before .place-is-sound-arg2 .given))) → Typed.Mo T101
+      abbrev pub m95 : (before : After-unfilled-is-sound-arg) → (given : s89 (before .before .before .before .before .before .before .before .before
+          .before .before .blocks) .gives (m92 (before .before) (before .unfilled-is-sound-arg .given))) → Typed.Mo T101
       m95 = λ before given. s91 (before .before .before .before .before .before .before .before .before .before .before .blocks) (m94 before given)
 
-      abbrev pub m96 : (before : After-place-is-sound-arg2) → (given : s89 (before .before .before .before .before .before .before .before .before
-          .before .before .blocks) .gives (m92 (before .before) (before .place-is-sound-arg2 .given))) → Typed.Mo T102
+      abbrev pub m96 : (before : After-unfilled-is-sound-arg) → (given : s89 (before .before .before .before .before .before .before .before .before
+          .before .before .blocks) .gives (m92 (before .before) (before .unfilled-is-sound-arg .given))) → Typed.Mo T102
       m96 = λ before given. s92 (before .before .before .before .before .before .before .before .before .before .before .blocks) .next (m95 before
           given)
 
-      abbrev W15 : (before : After-place-is-sound-arg2) → (given : s89 (before .before .before .before .before .before .before .before .before .before
-          .before .blocks) .gives (m92 (before .before) (before .place-is-sound-arg2 .given))) → Typed.Want O15
+      abbrev W15 : (before : After-unfilled-is-sound-arg) → (given : s89 (before .before .before .before .before .before .before .before .before
+          .before .before .blocks) .gives (m92 (before .before) (before .unfilled-is-sound-arg .given))) → Typed.Want O15
       W15 = λ before given. Typed.wantNext T103 O13 (at91 (before .before .before .before .before .before .before .before .before .before .before
           .blocks) (W13 (before .before .before .before .before) (before .before .before .before .loop3 .j))) (W13 (before .before .before .before
           .before) (before .before .before .before .loop3 .j))
 
-      abbrev pub m97 : (before : After-place-is-sound-arg2) → (given : s89 (before .before .before .before .before .before .before .before .before
-          .before .before .blocks) .gives (m92 (before .before) (before .place-is-sound-arg2 .given))) → Typed.Mo T104
+      abbrev pub m97 : (before : After-unfilled-is-sound-arg) → (given : s89 (before .before .before .before .before .before .before .before .before
+          .before .before .blocks) .gives (m92 (before .before) (before .unfilled-is-sound-arg .given))) → Typed.Mo T104
       m97 = λ before given. s93 (before .before .before .before .before .before .before .before .before .before .before .blocks) (m96 before given)
 
-      abbrev pub m98 : (before : After-place-is-sound2) → Typed.Mo T105
+      abbrev pub m98 : (before : After-unfilled-is-sound) → Typed.Mo T105
       m98 = λ before. s94 (before .before .before .before .before .before .before .before .before .before .before .before .blocks) (m97 (before
-          .before) (After-place-is-sound2·gave before))
+          .before) (After-unfilled-is-sound·gave before))
 
-      abbrev pub m99 : (before : After-place-is-sound2) → Typed.Mo T106
+      abbrev pub m99 : (before : After-unfilled-is-sound) → Typed.Mo T106
       m99 = λ before. s95 (before .before .before .before .before .before .before .before .before .before .before .before .blocks) (m98 before)
 
-      abbrev pub m100 : (before : After-place-is-sound2) → Typed.Mo T107
+      abbrev pub m100 : (before : After-unfilled-is-sound) → Typed.Mo T107
       m100 = λ before. s96 (before .before .before .before .before .before .before .before .before .before .before .before .blocks) (m99 before)
 
-      abbrev pub m101 : (before : After-place-is-sound2) → Typed.Mo T108
+      abbrev pub m101 : (before : After-unfilled-is-sound) → Typed.Mo T108
       m101 = λ before. s97 (before .before .before .before .before .before .before .before .before .before .before .before .blocks) (m100 before)
 
-      abbrev pub m102 : (before : After-place-is-sound2) → Typed.Mo T109
+      abbrev pub m102 : (before : After-unfilled-is-sound) → Typed.Mo T109
       m102 = λ before. s98 (before .before .before .before .before .before .before .before .before .before .before .before .blocks) (m101 before)
 
-      abbrev pub m103 : (before : After-place-is-sound2) → Typed.Mo T110
+      abbrev pub m103 : (before : After-unfilled-is-sound) → Typed.Mo T110
       m103 = λ before. s99 (before .before .before .before .before .before .before .before .before .before .before .before .blocks) (m102 before)
 
-      abbrev pub m104 : (before : After-place-is-sound2) → Typed.Mo T111
+      abbrev pub m104 : (before : After-unfilled-is-sound) → Typed.Mo T111
       m104 = λ before. s100 (before .before .before .before .before .before .before .before .before .before .before .before .blocks) (m103 before)
 
-      abbrev pub m105 : (before : After-place-is-sound2) → Typed.Mo T112
+      abbrev pub m105 : (before : After-unfilled-is-sound) → Typed.Mo T112
       m105 = λ before. s101 (before .before .before .before .before .before .before .before .before .before .before .before .blocks) (m104 before)
 
-      abbrev pub m106 : (before : After-place-is-sound2) → Typed.Mo T113
+      abbrev pub m106 : (before : After-unfilled-is-sound) → Typed.Mo T113
       m106 = λ before. s102 (before .before .before .before .before .before .before .before .before .before .before .before .blocks) (m105 before)
 
-      module _ (before· : After-place-is-sound2) where
+      module _ (before· : After-unfilled-is-sound) where
         pub record Then3·own : Type 0 where
-          pub taken : Path'._≡_ (Row.get 36 (T104 .locals) (m97 (before· .before) (After-place-is-sound2·gave before·))) Bool'.true
+          pub taken : Path'._≡_ (Row.get 36 (T104 .locals) (m97 (before· .before) (After-unfilled-is-sound·gave before·))) Bool'.true
 
       pub record Then3 : Type 0 where
-        pub before : After-place-is-sound2
+        pub before : After-unfilled-is-sound
         pub if3 : Then3·own before
 
       abbrev pub Need-returns-3 : Type 0
@@ -4223,32 +4226,32 @@ module _ (claims· : Claims) where
           .before .before .κs) 1 ps xs (dens (c .before .before .before .before .before .before .before .before .before .before .before .before .κs)
           (c .before .before .before .before .before .before .before .before .before .before .before .before .args)) (m106 (c .before) .1)))
 
-      abbrev pub m107 : (before : After-place-is-sound2) → Typed.Mo T114
+      abbrev pub m107 : (before : After-unfilled-is-sound) → Typed.Mo T114
       m107 = λ before. s103 (before .before .before .before .before .before .before .before .before .before .before .before .blocks) (m97 (before
-          .before) (After-place-is-sound2·gave before))
+          .before) (After-unfilled-is-sound·gave before))
 
-      abbrev pub m108 : (before : After-place-is-sound2) → Typed.Mo T115
+      abbrev pub m108 : (before : After-unfilled-is-sound) → Typed.Mo T115
       m108 = λ before. s104 (before .before .before .before .before .before .before .before .before .before .before .before .blocks) (m107 before)
 
-      abbrev pub m109 : (before : After-place-is-sound2) → Typed.Mo T116
+      abbrev pub m109 : (before : After-unfilled-is-sound) → Typed.Mo T116
       m109 = λ before. s105 (before .before .before .before .before .before .before .before .before .before .before .before .blocks) (m108 before)
 
-      abbrev pub m110 : (before : After-place-is-sound2) → Typed.Mo T117
+      abbrev pub m110 : (before : After-unfilled-is-sound) → Typed.Mo T117
       m110 = λ before. s106 (before .before .before .before .before .before .before .before .before .before .before .before .blocks) (m109 before)
 
-      module _ (before· : After-place-is-sound2) where
+      module _ (before· : After-unfilled-is-sound) where
         pub record Else3·own : Type 0 where
-          pub left : Path'._≡_ (Row.get 36 (T104 .locals) (m97 (before· .before) (After-place-is-sound2·gave before·))) Bool'.false
+          pub left : Path'._≡_ (Row.get 36 (T104 .locals) (m97 (before· .before) (After-unfilled-is-sound·gave before·))) Bool'.false
 
       pub record Else3 : Type 0 where
-        pub before : After-place-is-sound2
+        pub before : After-unfilled-is-sound
         pub if3 : Else3·own before
 
       abbrev pub Need-add-j : Type 0
       Need-add-j = (c : Else3) → s107 (c .before .before .before .before .before .before .before .before .before .before .before .before .blocks)
           .asks (m110 (c .before))
 
-      abbrev pub m111 : (before : After-place-is-sound2) → Typed.Mo T118
+      abbrev pub m111 : (before : After-unfilled-is-sound) → Typed.Mo T118
       m111 = λ before. s107 (before .before .before .before .before .before .before .before .before .before .before .before .blocks) .next (m110
           before)
 
@@ -4312,15 +4315,15 @@ module _ (claims· : Claims) where
 
       module _ (loop-holds : Need-loop-holds) (array-read-n : Need-array-read-n) (cast-n : Need-cast-n) (returns : Need-returns) (loop2-holds :
           Need-loop2-holds) (mul-p : Need-mul-p) (add-p : Need-add-p) (mul-r : Need-mul-r) (shared-slice-copy-out-r : Need-shared-slice-copy-out-r)
-          (mul-from : Need-mul-from) (add-to : Need-add-to) (sub-place-is-sound : Need-sub-place-is-sound) (part-place-is-sound-start :
-          Need-part-place-is-sound-start) (part-place-is-sound-end : Need-part-place-is-sound-end) (place-is-sound-requires :
-          Need-place-is-sound-requires) (returns-2 : Need-returns-2) (add-i : Need-add-i) (loop2-less : Need-loop2-less) (loop2-again :
+          (mul-from : Need-mul-from) (add-to : Need-add-to) (sub-filled-is-sound : Need-sub-filled-is-sound) (part-filled-is-sound-start :
+          Need-part-filled-is-sound-start) (part-filled-is-sound-end : Need-part-filled-is-sound-end) (filled-is-sound-requires :
+          Need-filled-is-sound-requires) (returns-2 : Need-returns-2) (add-i : Need-add-i) (loop2-less : Need-loop2-less) (loop2-again :
           Need-loop2-again) (loop3-holds : Need-loop3-holds) (mul-p-2 : Need-mul-p-2) (add-p-2 : Need-add-p-2) (mul-r-2 : Need-mul-r-2)
-          (shared-slice-copy-out-r-2 : Need-shared-slice-copy-out-r-2) (mul-from-2 : Need-mul-from-2) (add-to-2 : Need-add-to-2) (sub-place-is-sound-2
-          : Need-sub-place-is-sound-2) (part-place-is-sound-start-2 : Need-part-place-is-sound-start-2) (part-place-is-sound-end-2 :
-          Need-part-place-is-sound-end-2) (place-is-sound-requires-2 : Need-place-is-sound-requires-2) (returns-3 : Need-returns-3) (add-j :
-          Need-add-j) (loop3-less : Need-loop3-less) (loop3-again : Need-loop3-again) (add-t : Need-add-t) (loop-less : Need-loop-less) (loop-again :
-          Need-loop-again) (returns-4 : Need-returns-4) where
+          (shared-slice-copy-out-r-2 : Need-shared-slice-copy-out-r-2) (mul-from-2 : Need-mul-from-2) (add-to-2 : Need-add-to-2)
+          (sub-unfilled-is-sound : Need-sub-unfilled-is-sound) (part-unfilled-is-sound-start : Need-part-unfilled-is-sound-start)
+          (part-unfilled-is-sound-end : Need-part-unfilled-is-sound-end) (unfilled-is-sound-requires : Need-unfilled-is-sound-requires) (returns-3 :
+          Need-returns-3) (add-j : Need-add-j) (loop3-less : Need-loop3-less) (loop3-again : Need-loop3-again) (add-t : Need-add-t) (loop-less :
+          Need-loop-less) (loop-again : Need-loop-again) (returns-4 : Need-returns-4) where
         lay19 : (c : After-loop) → at138 (c .before .before .before .blocks) (W0 (c .before .before .before .κs) (c .before .before .before .args) (c
             .before .before .before .blocks)) (m10 (c .before))
         lay19 = λ c. ((tt, (Path'.refl, (Path'.refl, tt))), returns-4 record { before = c .before; loop-test = c .loop-test })
@@ -4379,9 +4382,9 @@ module _ (claims· : Claims) where
           ),
         )
 
-        lay16 : (c : After-place-is-sound2) → at95 (c .before .before .before .before .before .before .before .before .before .before .before .blocks)
-            (W13 (c .before .before .before .before .before) (c .before .before .before .before .loop3 .j)) (m93 (c .before)
-            (After-place-is-sound2·gave c))
+        lay16 : (c : After-unfilled-is-sound) → at95 (c .before .before .before .before .before .before .before .before .before .before .before
+            .blocks) (W13 (c .before .before .before .before .before) (c .before .before .before .before .loop3 .j)) (m93 (c .before)
+            (After-unfilled-is-sound·gave c))
         lay16 = λ c. (
           tt,
           (
@@ -4390,8 +4393,8 @@ module _ (claims· : Claims) where
               returns-3 record {
                 before = record {
                   before = c .before;
-                  place-is-sound2 =
-                      c .place-is-sound2;
+                  unfilled-is-sound
+                      = c .unfilled-is-sound;
                 };
                 if3 = record { taken = taken };
               },
@@ -4399,8 +4402,7 @@ module _ (claims· : Claims) where
             λ left. lay17 record {
               before = record {
                 before = c .before;
-                place-is-sound2 = c
-                    .place-is-sound2;
+                unfilled-is-sound = c .unfilled-is-sound;
               };
               if3 = record { left = left };
             },
@@ -4448,7 +4450,7 @@ module _ (claims· : Claims) where
                       (
                         tt,
                         (
-                          sub-place-is-sound-2 record {
+                          sub-unfilled-is-sound record {
                             before = record {
                               before = c .before;
                               loop3-test = c
@@ -4460,7 +4462,7 @@ module _ (claims· : Claims) where
                             (
                               Path'.refl,
                               Path'.refl,
-                              part-place-is-sound-start-2 record {
+                              part-unfilled-is-sound-start record {
                                 before = record {
                                   before = c
                                       .before;
@@ -4468,7 +4470,7 @@ module _ (claims· : Claims) where
                                 };
                                 r2 = record { given = g };
                               },
-                              part-place-is-sound-end-2 record {
+                              part-unfilled-is-sound-end record {
                                 before = record {
                                   before = c
                                       .before;
@@ -4488,36 +4490,41 @@ module _ (claims· : Claims) where
                                     r2 = record { given = g };
                                   } g') (g' .1),
                               (
-                                place-is-sound-requires-2 record {
+                                unfilled-is-sound-requires record {
                                   before = record {
                                     before = record {
-                                      before
-                                          = c .before;
+                                      before = c .before;
                                       loop3-test = c .loop3-test;
                                     };
                                     r2 = record { given = g };
                                   };
-                                  place-is-sound-arg2 = record { given = g' };
+                                  unfilled-is-sound-arg = record { given = g' };
                                 },
-                                λ g''. lay16 record {
-                                  before = record {
-                                    before = record { before = record { before = c .before; loop3-test = c .loop3-test }; r2 = record { given = g } };
-                                    place-is-sound-arg2 = record { given = g' };
-                                  };
-                                  place-is-sound2 = Called.called ps·0 r·0 (claims· .1) T98 (
-                                    Bool.bLit Bool'.false,
-                                    (
-                                      record {
-                                        pos = 14;
-                                        st = [];
-                                        d = 0;
-                                        at = λ x. x;
-                                      },
-                                      (record { pos = 35; ty = Syntax.tyRef Syntax.erased Syntax.imm τ0; ref = λ x. x }, tt),
-                                    ),
-                                  ) (m92
-                                      record { before = record { before = c .before; loop3-test = c .loop3-test }; r2 = record { given = g } } g') g'';
-                                },
+                                λ g''.
+                                    lay16 record {
+                                      before = record {
+                                        before = record {
+                                          before = record { before = c .before; loop3-test = c .loop3-test };
+                                          r2 = record {
+                                            given
+                                                = g;
+                                          };
+                                        };
+                                        unfilled-is-sound-arg = record { given = g' };
+                                      };
+                                      unfilled-is-sound = Called.called ps·1 r·1 (claims· .3) T98 (
+                                        record {
+                                          pos = 14;
+                                          st = [];
+                                          d = 0;
+                                          at = λ x. x;
+                                        },
+                                        (record { pos = 35; ty = Syntax.tyRef Syntax.erased Syntax.imm τ0; ref = λ x. x }, tt),
+                                      ) (m92 record {
+                                        before = record { before = c .before; loop3-test = c .loop3-test };
+                                        r2 = record { given = g };
+                                      } g') g'';
+                                    },
                               ),
                             ),
                           ),
@@ -4610,8 +4617,8 @@ module _ (claims· : Claims) where
           ),
         )
 
-        lay10 : (c : After-place-is-sound) → at43 (c .before .before .before .before .before .before .before .before .before .blocks) (W8 (c .before
-            .before .before .before .before) (c .before .before .before .before .loop2 .i)) (m49 (c .before) (After-place-is-sound·gave c))
+        lay10 : (c : After-filled-is-sound) → at43 (c .before .before .before .before .before .before .before .before .before .blocks) (W8 (c .before
+            .before .before .before .before) (c .before .before .before .before .loop2 .i)) (m49 (c .before) (After-filled-is-sound·gave c))
         lay10 = λ c. (
           tt,
           (
@@ -4620,8 +4627,8 @@ module _ (claims· : Claims) where
               returns-2 record {
                 before = record {
                   before = c .before;
-                  place-is-sound = c
-                      .place-is-sound;
+                  filled-is-sound =
+                      c .filled-is-sound;
                 };
                 if2 = record { taken = taken };
               },
@@ -4629,8 +4636,8 @@ module _ (claims· : Claims) where
             λ left. lay11 record {
               before = record {
                 before = c .before;
-                place-is-sound = c
-                    .place-is-sound;
+                filled-is-sound = c
+                    .filled-is-sound;
               };
               if2 = record { left = left };
             },
@@ -4677,7 +4684,7 @@ module _ (claims· : Claims) where
                       (
                         tt,
                         (
-                          sub-place-is-sound record {
+                          sub-filled-is-sound record {
                             before = record { before = c .before; loop2-test = c .loop2-test };
                             r = record {
                               given
@@ -4688,11 +4695,11 @@ module _ (claims· : Claims) where
                             (
                               Path'.refl,
                               Path'.refl,
-                              part-place-is-sound-start record {
+                              part-filled-is-sound-start record {
                                 before = record { before = c .before; loop2-test = c .loop2-test };
                                 r = record { given = g };
                               },
-                              part-place-is-sound-end record {
+                              part-filled-is-sound-end record {
                                 before = record { before = c .before; loop2-test = c .loop2-test };
                                 r =
                                     record { given = g };
@@ -4702,51 +4709,45 @@ module _ (claims· : Claims) where
                               Relend.count-is T50 26 27 (λ x. x) (λ u. u .1 .1 .1 .1 .1 .1 .1 .1 .1 .1 .1 .1 .1 .1 .1 .1 .1 .1 .1 .1 .1
                                   .1 .0) (m46 record { before = record { before = c .before; loop2-test = c .loop2-test }; r = record { given = g } } g') (g' .1),
                               (
-                                place-is-sound-requires record {
+                                filled-is-sound-requires record {
                                   before = record {
                                     before = record { before = c .before; loop2-test = c .loop2-test };
                                     r = record {
-                                      given
-                                          = g;
+                                      given = g;
                                     };
                                   };
-                                  place-is-sound-arg = record { given = g' };
+                                  filled-is-sound-arg = record { given = g' };
                                 },
                                 λ g''. lay10 record {
                                   before = record {
                                     before = record {
                                       before = record {
-                                        before
-                                            = c .before;
+                                        before = c .before;
                                         loop2-test = c .loop2-test;
                                       };
                                       r = record { given = g };
                                     };
-                                    place-is-sound-arg = record { given = g' };
+                                    filled-is-sound-arg = record { given = g' };
                                   };
-                                  place-is-sound =
-                                      Called.called ps·0 r·0 (claims· .1) T52 (
-                                        Bool.bLit Bool'.true,
-                                        (
-                                          record { pos = 9; st = []; d = 0; at = λ x. x },
-                                          (
-                                            record {
-                                              pos = 27;
-                                              ty =
-                                                  Syntax.tyRef Syntax.erased Syntax.imm τ0;
-                                              ref = λ x. x;
-                                            },
-                                            tt,
-                                          ),
-                                        ),
-                                      ) (m48 record {
-                                        before = record {
-                                          before = c .before;
-                                          loop2-test = c
-                                              .loop2-test;
-                                        };
-                                        r = record { given = g };
-                                      } g') g'';
+                                  filled-is-sound = Called.called ps·0 r·0 (claims· .1) T52 (
+                                    record { pos = 9; st = []; d = 0; at = λ x. x },
+                                    (
+                                      record {
+                                        pos = 27;
+                                        ty =
+                                            Syntax.tyRef Syntax.erased Syntax.imm τ0;
+                                        ref = λ x. x;
+                                      },
+                                      tt,
+                                    ),
+                                  ) (m48 record {
+                                    before = record {
+                                      before = c .before;
+                                      loop2-test = c
+                                          .loop2-test;
+                                    };
+                                    r = record { given = g };
+                                  } g') g'';
                                 },
                               ),
                             ),
@@ -4927,7 +4928,8 @@ module _ (claims· : Claims) where
           }
 
         module _ {M : Type 1} (𝓤 : URA.URA M) (H : Wp.Heap 𝓤) (A : Atoms.Atoms 𝓤) (W : Kit.Given 𝓤 H A) (𝓣 : Wp.Tables 𝓤 H) (known0 : Plain.Known 𝓤 H
-            A W 𝓣 1 ps·0 r·0 (claims· .0) (claims· .1) "bs_sched::place_is_sound") where
+            A W 𝓣 1 ps·0 r·0 (claims· .0) (claims· .1) "bs_sched::filled_is_sound") (known1 : Plain.Known 𝓤 H A W 𝓣 1 ps·1 r·1 (claims· .2) (claims·
+            .3) "bs_sched::unfilled_is_sound") where
           pub spec : Statement.Triple 𝓤 (Wp.WpFn 𝓤 H (𝓣 .C) (𝓣 .Λ) (Function.fnOf 2 ps r xs m hs body)) (Function.plainOf 𝓤 H A 2 ps r Pre· Post·)
-          spec = Plain.t-fn-plain 𝓤 H A W 𝓣 2 ps r xs m hs body (λ κs qs bs. Φ bs) (λ κs qs bs bd. typed κs qs 𝓤 H A W 𝓣 known0 bs bd) Pre· Post·
-              asked
+          spec = Plain.t-fn-plain 𝓤 H A W 𝓣 2 ps r xs m hs body (λ κs qs bs. Φ bs) (λ κs qs bs bd. typed κs qs 𝓤 H A W 𝓣 (known0, known1) bs bd) Pre·
+              Post· asked

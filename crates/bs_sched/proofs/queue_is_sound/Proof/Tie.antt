@@ -1,13 +1,16 @@
 -- Derived by `python3 tools/derive.py`: run it again, do not edit.
 -- `bs_sched::queue_is_sound`: its needs, at its contract.
 use Rattle.bs_sched.proofs.Walked_queue_is_sound as Kinds
-use Rattle.bs_sched.proofs.place_is_sound.Met
-use Rattle.bs_sched.proofs.place_is_sound.Reads
-use Rattle.bs_sched.proofs.place_is_sound.Symbol
+use Rattle.bs_sched.proofs.filled_is_sound.Met
+use Rattle.bs_sched.proofs.filled_is_sound.Reads
+use Rattle.bs_sched.proofs.filled_is_sound.Symbol
 use Rattle.bs_sched.proofs.queue_is_sound.Code
 use Rattle.bs_sched.proofs.queue_is_sound.Key
 use Rattle.bs_sched.proofs.queue_is_sound.Proof.Lts
 use Rattle.bs_sched.proofs.queue_is_sound.Statement
+use Rattle.bs_sched.proofs.unfilled_is_sound.Met as Met'
+use Rattle.bs_sched.proofs.unfilled_is_sound.Reads as Reads''
+use Rattle.bs_sched.proofs.unfilled_is_sound.Symbol as Symbol'
 use borrow.Fn.Run
 use borrow.Fn.Written
 use contract.Running
@@ -32,260 +35,329 @@ MeasureT-loop = Lts.MeasureT-loop
 
 abbrev pub Start : (Inv : InvT-loop2) → (μ : MeasureT-loop2) → (Inv : InvT-loop3) → (μ : MeasureT-loop3) → (Inv : InvT-loop) → (μ : MeasureT-loop) →
     Type 0
-Start = λ Inv μ Inv' μ' Inv'' μ''. Lts.Start (Reads.Asked, Reads.Learnt) Kinds.Pre Kinds.Post Inv μ Inv' μ' Inv'' μ''
+Start = λ Inv μ Inv' μ' Inv'' μ''. Lts.Start (Reads.Asked, Reads.Learnt, Reads''.Asked, Reads''.Learnt) Kinds.Pre Kinds.Post Inv μ Inv' μ' Inv'' μ''
 
 abbrev pub After-shared-slice-known : (Inv : InvT-loop2) → (μ : MeasureT-loop2) → (Inv : InvT-loop3) → (μ : MeasureT-loop3) → (Inv : InvT-loop) → (μ :
     MeasureT-loop) → Type 0
-After-shared-slice-known = λ Inv μ Inv' μ' Inv'' μ''. Lts.After-shared-slice-known (Reads.Asked, Reads.Learnt) Kinds.Pre Kinds.Post Inv μ Inv' μ'
-    Inv'' μ''
+After-shared-slice-known = λ Inv μ Inv' μ' Inv'' μ''. Lts.After-shared-slice-known (Reads.Asked, Reads.Learnt, Reads''.Asked, Reads''.Learnt)
+    Kinds.Pre Kinds.Post Inv μ Inv' μ' Inv'' μ''
 
 abbrev pub At-loop : (Inv : InvT-loop2) → (μ : MeasureT-loop2) → (Inv : InvT-loop3) → (μ : MeasureT-loop3) → (Inv : InvT-loop) → (μ : MeasureT-loop) →
     Type 0
-At-loop = λ Inv μ Inv' μ' Inv'' μ''. Lts.At-loop (Reads.Asked, Reads.Learnt) Kinds.Pre Kinds.Post Inv μ Inv' μ' Inv'' μ''
+At-loop = λ Inv μ Inv' μ' Inv'' μ''. Lts.At-loop (Reads.Asked, Reads.Learnt, Reads''.Asked, Reads''.Learnt) Kinds.Pre Kinds.Post Inv μ Inv' μ' Inv''
+    μ''
 
 abbrev pub In-loop : (Inv : InvT-loop2) → (μ : MeasureT-loop2) → (Inv : InvT-loop3) → (μ : MeasureT-loop3) → (Inv : InvT-loop) → (μ : MeasureT-loop) →
     Type 0
-In-loop = λ Inv μ Inv' μ' Inv'' μ''. Lts.In-loop (Reads.Asked, Reads.Learnt) Kinds.Pre Kinds.Post Inv μ Inv' μ' Inv'' μ''
+In-loop = λ Inv μ Inv' μ' Inv'' μ''. Lts.In-loop (Reads.Asked, Reads.Learnt, Reads''.Asked, Reads''.Learnt) Kinds.Pre Kinds.Post Inv μ Inv' μ' Inv''
+    μ''
 
 abbrev pub After-loop : (Inv : InvT-loop2) → (μ : MeasureT-loop2) → (Inv : InvT-loop3) → (μ : MeasureT-loop3) → (Inv : InvT-loop) → (μ :
     MeasureT-loop) → Type 0
-After-loop = λ Inv μ Inv' μ' Inv'' μ''. Lts.After-loop (Reads.Asked, Reads.Learnt) Kinds.Pre Kinds.Post Inv μ Inv' μ' Inv'' μ''
+After-loop = λ Inv μ Inv' μ' Inv'' μ''. Lts.After-loop (Reads.Asked, Reads.Learnt, Reads''.Asked, Reads''.Learnt) Kinds.Pre Kinds.Post Inv μ Inv' μ'
+    Inv'' μ''
 
 abbrev pub Then1 : (Inv : InvT-loop2) → (μ : MeasureT-loop2) → (Inv : InvT-loop3) → (μ : MeasureT-loop3) → (Inv : InvT-loop) → (μ : MeasureT-loop) →
     Type 0
-Then1 = λ Inv μ Inv' μ' Inv'' μ''. Lts.Then1 (Reads.Asked, Reads.Learnt) Kinds.Pre Kinds.Post Inv μ Inv' μ' Inv'' μ''
+Then1 = λ Inv μ Inv' μ' Inv'' μ''. Lts.Then1 (Reads.Asked, Reads.Learnt, Reads''.Asked, Reads''.Learnt) Kinds.Pre Kinds.Post Inv μ Inv' μ' Inv'' μ''
 
 abbrev pub Else1 : (Inv : InvT-loop2) → (μ : MeasureT-loop2) → (Inv : InvT-loop3) → (μ : MeasureT-loop3) → (Inv : InvT-loop) → (μ : MeasureT-loop) →
     Type 0
-Else1 = λ Inv μ Inv' μ' Inv'' μ''. Lts.Else1 (Reads.Asked, Reads.Learnt) Kinds.Pre Kinds.Post Inv μ Inv' μ' Inv'' μ''
+Else1 = λ Inv μ Inv' μ' Inv'' μ''. Lts.Else1 (Reads.Asked, Reads.Learnt, Reads''.Asked, Reads''.Learnt) Kinds.Pre Kinds.Post Inv μ Inv' μ' Inv'' μ''
 
 abbrev pub At-loop2 : (Inv : InvT-loop2) → (μ : MeasureT-loop2) → (Inv : InvT-loop3) → (μ : MeasureT-loop3) → (Inv : InvT-loop) → (μ : MeasureT-loop)
     → Type 0
-At-loop2 = λ Inv μ Inv' μ' Inv'' μ''. Lts.At-loop2 (Reads.Asked, Reads.Learnt) Kinds.Pre Kinds.Post Inv μ Inv' μ' Inv'' μ''
+At-loop2 = λ Inv μ Inv' μ' Inv'' μ''. Lts.At-loop2 (Reads.Asked, Reads.Learnt, Reads''.Asked, Reads''.Learnt) Kinds.Pre Kinds.Post Inv μ Inv' μ' Inv''
+    μ''
 
 abbrev pub In-loop2 : (Inv : InvT-loop2) → (μ : MeasureT-loop2) → (Inv : InvT-loop3) → (μ : MeasureT-loop3) → (Inv : InvT-loop) → (μ : MeasureT-loop)
     → Type 0
-In-loop2 = λ Inv μ Inv' μ' Inv'' μ''. Lts.In-loop2 (Reads.Asked, Reads.Learnt) Kinds.Pre Kinds.Post Inv μ Inv' μ' Inv'' μ''
+In-loop2 = λ Inv μ Inv' μ' Inv'' μ''. Lts.In-loop2 (Reads.Asked, Reads.Learnt, Reads''.Asked, Reads''.Learnt) Kinds.Pre Kinds.Post Inv μ Inv' μ' Inv''
+    μ''
 
 abbrev pub After-loop2 : (Inv : InvT-loop2) → (μ : MeasureT-loop2) → (Inv : InvT-loop3) → (μ : MeasureT-loop3) → (Inv : InvT-loop) → (μ :
     MeasureT-loop) → Type 0
-After-loop2 = λ Inv μ Inv' μ' Inv'' μ''. Lts.After-loop2 (Reads.Asked, Reads.Learnt) Kinds.Pre Kinds.Post Inv μ Inv' μ' Inv'' μ''
+After-loop2 = λ Inv μ Inv' μ' Inv'' μ''. Lts.After-loop2 (Reads.Asked, Reads.Learnt, Reads''.Asked, Reads''.Learnt) Kinds.Pre Kinds.Post Inv μ Inv' μ'
+    Inv'' μ''
 
 abbrev pub After-r : (Inv : InvT-loop2) → (μ : MeasureT-loop2) → (Inv : InvT-loop3) → (μ : MeasureT-loop3) → (Inv : InvT-loop) → (μ : MeasureT-loop) →
     Type 0
-After-r = λ Inv μ Inv' μ' Inv'' μ''. Lts.After-r (Reads.Asked, Reads.Learnt) Kinds.Pre Kinds.Post Inv μ Inv' μ' Inv'' μ''
+After-r = λ Inv μ Inv' μ' Inv'' μ''. Lts.After-r (Reads.Asked, Reads.Learnt, Reads''.Asked, Reads''.Learnt) Kinds.Pre Kinds.Post Inv μ Inv' μ' Inv''
+    μ''
 
-abbrev pub After-place-is-sound-arg : (Inv : InvT-loop2) → (μ : MeasureT-loop2) → (Inv : InvT-loop3) → (μ : MeasureT-loop3) → (Inv : InvT-loop) → (μ :
-    MeasureT-loop) → Type 0
-After-place-is-sound-arg = λ Inv μ Inv' μ' Inv'' μ''. Lts.After-place-is-sound-arg (Reads.Asked, Reads.Learnt) Kinds.Pre Kinds.Post Inv μ Inv' μ'
-    Inv'' μ''
+abbrev pub After-filled-is-sound-arg : (Inv : InvT-loop2) → (μ : MeasureT-loop2) → (Inv : InvT-loop3) → (μ : MeasureT-loop3) → (Inv : InvT-loop) → (μ
+    : MeasureT-loop) → Type 0
+After-filled-is-sound-arg = λ Inv μ Inv' μ' Inv'' μ''. Lts.After-filled-is-sound-arg (Reads.Asked, Reads.Learnt, Reads''.Asked, Reads''.Learnt)
+    Kinds.Pre Kinds.Post Inv μ Inv' μ' Inv'' μ''
 
-abbrev pub After-place-is-sound : (Inv : InvT-loop2) → (μ : MeasureT-loop2) → (Inv : InvT-loop3) → (μ : MeasureT-loop3) → (Inv : InvT-loop) → (μ :
+abbrev pub After-filled-is-sound : (Inv : InvT-loop2) → (μ : MeasureT-loop2) → (Inv : InvT-loop3) → (μ : MeasureT-loop3) → (Inv : InvT-loop) → (μ :
     MeasureT-loop) → Type 0
-After-place-is-sound = λ Inv μ Inv' μ' Inv'' μ''. Lts.After-place-is-sound (Reads.Asked, Reads.Learnt) Kinds.Pre Kinds.Post Inv μ Inv' μ' Inv'' μ''
+After-filled-is-sound = λ Inv μ Inv' μ' Inv'' μ''. Lts.After-filled-is-sound (Reads.Asked, Reads.Learnt, Reads''.Asked, Reads''.Learnt) Kinds.Pre
+    Kinds.Post Inv μ Inv' μ' Inv'' μ''
 
 abbrev pub Then2 : (Inv : InvT-loop2) → (μ : MeasureT-loop2) → (Inv : InvT-loop3) → (μ : MeasureT-loop3) → (Inv : InvT-loop) → (μ : MeasureT-loop) →
     Type 0
-Then2 = λ Inv μ Inv' μ' Inv'' μ''. Lts.Then2 (Reads.Asked, Reads.Learnt) Kinds.Pre Kinds.Post Inv μ Inv' μ' Inv'' μ''
+Then2 = λ Inv μ Inv' μ' Inv'' μ''. Lts.Then2 (Reads.Asked, Reads.Learnt, Reads''.Asked, Reads''.Learnt) Kinds.Pre Kinds.Post Inv μ Inv' μ' Inv'' μ''
 
 abbrev pub Else2 : (Inv : InvT-loop2) → (μ : MeasureT-loop2) → (Inv : InvT-loop3) → (μ : MeasureT-loop3) → (Inv : InvT-loop) → (μ : MeasureT-loop) →
     Type 0
-Else2 = λ Inv μ Inv' μ' Inv'' μ''. Lts.Else2 (Reads.Asked, Reads.Learnt) Kinds.Pre Kinds.Post Inv μ Inv' μ' Inv'' μ''
+Else2 = λ Inv μ Inv' μ' Inv'' μ''. Lts.Else2 (Reads.Asked, Reads.Learnt, Reads''.Asked, Reads''.Learnt) Kinds.Pre Kinds.Post Inv μ Inv' μ' Inv'' μ''
 
 abbrev pub At-loop3 : (Inv : InvT-loop2) → (μ : MeasureT-loop2) → (Inv : InvT-loop3) → (μ : MeasureT-loop3) → (Inv : InvT-loop) → (μ : MeasureT-loop)
     → Type 0
-At-loop3 = λ Inv μ Inv' μ' Inv'' μ''. Lts.At-loop3 (Reads.Asked, Reads.Learnt) Kinds.Pre Kinds.Post Inv μ Inv' μ' Inv'' μ''
+At-loop3 = λ Inv μ Inv' μ' Inv'' μ''. Lts.At-loop3 (Reads.Asked, Reads.Learnt, Reads''.Asked, Reads''.Learnt) Kinds.Pre Kinds.Post Inv μ Inv' μ' Inv''
+    μ''
 
 abbrev pub In-loop3 : (Inv : InvT-loop2) → (μ : MeasureT-loop2) → (Inv : InvT-loop3) → (μ : MeasureT-loop3) → (Inv : InvT-loop) → (μ : MeasureT-loop)
     → Type 0
-In-loop3 = λ Inv μ Inv' μ' Inv'' μ''. Lts.In-loop3 (Reads.Asked, Reads.Learnt) Kinds.Pre Kinds.Post Inv μ Inv' μ' Inv'' μ''
+In-loop3 = λ Inv μ Inv' μ' Inv'' μ''. Lts.In-loop3 (Reads.Asked, Reads.Learnt, Reads''.Asked, Reads''.Learnt) Kinds.Pre Kinds.Post Inv μ Inv' μ' Inv''
+    μ''
 
 abbrev pub After-loop3 : (Inv : InvT-loop2) → (μ : MeasureT-loop2) → (Inv : InvT-loop3) → (μ : MeasureT-loop3) → (Inv : InvT-loop) → (μ :
     MeasureT-loop) → Type 0
-After-loop3 = λ Inv μ Inv' μ' Inv'' μ''. Lts.After-loop3 (Reads.Asked, Reads.Learnt) Kinds.Pre Kinds.Post Inv μ Inv' μ' Inv'' μ''
+After-loop3 = λ Inv μ Inv' μ' Inv'' μ''. Lts.After-loop3 (Reads.Asked, Reads.Learnt, Reads''.Asked, Reads''.Learnt) Kinds.Pre Kinds.Post Inv μ Inv' μ'
+    Inv'' μ''
 
 abbrev pub After-r2 : (Inv : InvT-loop2) → (μ : MeasureT-loop2) → (Inv : InvT-loop3) → (μ : MeasureT-loop3) → (Inv : InvT-loop) → (μ : MeasureT-loop)
     → Type 0
-After-r2 = λ Inv μ Inv' μ' Inv'' μ''. Lts.After-r2 (Reads.Asked, Reads.Learnt) Kinds.Pre Kinds.Post Inv μ Inv' μ' Inv'' μ''
+After-r2 = λ Inv μ Inv' μ' Inv'' μ''. Lts.After-r2 (Reads.Asked, Reads.Learnt, Reads''.Asked, Reads''.Learnt) Kinds.Pre Kinds.Post Inv μ Inv' μ' Inv''
+    μ''
 
-abbrev pub After-place-is-sound-arg2 : (Inv : InvT-loop2) → (μ : MeasureT-loop2) → (Inv : InvT-loop3) → (μ : MeasureT-loop3) → (Inv : InvT-loop) → (μ
-    : MeasureT-loop) → Type 0
-After-place-is-sound-arg2 = λ Inv μ Inv' μ' Inv'' μ''. Lts.After-place-is-sound-arg2 (Reads.Asked, Reads.Learnt) Kinds.Pre Kinds.Post Inv μ Inv' μ'
-    Inv'' μ''
+abbrev pub After-unfilled-is-sound-arg : (Inv : InvT-loop2) → (μ : MeasureT-loop2) → (Inv : InvT-loop3) → (μ : MeasureT-loop3) → (Inv : InvT-loop) →
+    (μ : MeasureT-loop) → Type 0
+After-unfilled-is-sound-arg = λ Inv μ Inv' μ' Inv'' μ''. Lts.After-unfilled-is-sound-arg (Reads.Asked, Reads.Learnt, Reads''.Asked, Reads''.Learnt)
+    Kinds.Pre Kinds.Post Inv μ Inv' μ' Inv'' μ''
 
-abbrev pub After-place-is-sound2 : (Inv : InvT-loop2) → (μ : MeasureT-loop2) → (Inv : InvT-loop3) → (μ : MeasureT-loop3) → (Inv : InvT-loop) → (μ :
+abbrev pub After-unfilled-is-sound : (Inv : InvT-loop2) → (μ : MeasureT-loop2) → (Inv : InvT-loop3) → (μ : MeasureT-loop3) → (Inv : InvT-loop) → (μ :
     MeasureT-loop) → Type 0
-After-place-is-sound2 = λ Inv μ Inv' μ' Inv'' μ''. Lts.After-place-is-sound2 (Reads.Asked, Reads.Learnt) Kinds.Pre Kinds.Post Inv μ Inv' μ' Inv'' μ''
+After-unfilled-is-sound = λ Inv μ Inv' μ' Inv'' μ''. Lts.After-unfilled-is-sound (Reads.Asked, Reads.Learnt, Reads''.Asked, Reads''.Learnt) Kinds.Pre
+    Kinds.Post Inv μ Inv' μ' Inv'' μ''
 
 abbrev pub Then3 : (Inv : InvT-loop2) → (μ : MeasureT-loop2) → (Inv : InvT-loop3) → (μ : MeasureT-loop3) → (Inv : InvT-loop) → (μ : MeasureT-loop) →
     Type 0
-Then3 = λ Inv μ Inv' μ' Inv'' μ''. Lts.Then3 (Reads.Asked, Reads.Learnt) Kinds.Pre Kinds.Post Inv μ Inv' μ' Inv'' μ''
+Then3 = λ Inv μ Inv' μ' Inv'' μ''. Lts.Then3 (Reads.Asked, Reads.Learnt, Reads''.Asked, Reads''.Learnt) Kinds.Pre Kinds.Post Inv μ Inv' μ' Inv'' μ''
 
 abbrev pub Else3 : (Inv : InvT-loop2) → (μ : MeasureT-loop2) → (Inv : InvT-loop3) → (μ : MeasureT-loop3) → (Inv : InvT-loop) → (μ : MeasureT-loop) →
     Type 0
-Else3 = λ Inv μ Inv' μ' Inv'' μ''. Lts.Else3 (Reads.Asked, Reads.Learnt) Kinds.Pre Kinds.Post Inv μ Inv' μ' Inv'' μ''
+Else3 = λ Inv μ Inv' μ' Inv'' μ''. Lts.Else3 (Reads.Asked, Reads.Learnt, Reads''.Asked, Reads''.Learnt) Kinds.Pre Kinds.Post Inv μ Inv' μ' Inv'' μ''
 
 abbrev pub Need-loop-holds : (Inv : InvT-loop2) → (μ : MeasureT-loop2) → (Inv : InvT-loop3) → (μ : MeasureT-loop3) → (Inv : InvT-loop) → (μ :
     MeasureT-loop) → Type 0
-Need-loop-holds = λ Inv μ Inv' μ' Inv'' μ''. Lts.Need-loop-holds (Reads.Asked, Reads.Learnt) Kinds.Pre Kinds.Post Inv μ Inv' μ' Inv'' μ''
+Need-loop-holds = λ Inv μ Inv' μ' Inv'' μ''. Lts.Need-loop-holds (Reads.Asked, Reads.Learnt, Reads''.Asked, Reads''.Learnt) Kinds.Pre Kinds.Post Inv μ
+    Inv' μ' Inv'' μ''
 
 abbrev pub Need-array-read-n : (Inv : InvT-loop2) → (μ : MeasureT-loop2) → (Inv : InvT-loop3) → (μ : MeasureT-loop3) → (Inv : InvT-loop) → (μ :
     MeasureT-loop) → Type 0
-Need-array-read-n = λ Inv μ Inv' μ' Inv'' μ''. Lts.Need-array-read-n (Reads.Asked, Reads.Learnt) Kinds.Pre Kinds.Post Inv μ Inv' μ' Inv'' μ''
+Need-array-read-n = λ Inv μ Inv' μ' Inv'' μ''. Lts.Need-array-read-n (Reads.Asked, Reads.Learnt, Reads''.Asked, Reads''.Learnt) Kinds.Pre Kinds.Post
+    Inv μ Inv' μ' Inv'' μ''
 
 abbrev pub Need-cast-n : (Inv : InvT-loop2) → (μ : MeasureT-loop2) → (Inv : InvT-loop3) → (μ : MeasureT-loop3) → (Inv : InvT-loop) → (μ :
     MeasureT-loop) → Type 0
-Need-cast-n = λ Inv μ Inv' μ' Inv'' μ''. Lts.Need-cast-n (Reads.Asked, Reads.Learnt) Kinds.Pre Kinds.Post Inv μ Inv' μ' Inv'' μ''
+Need-cast-n = λ Inv μ Inv' μ' Inv'' μ''. Lts.Need-cast-n (Reads.Asked, Reads.Learnt, Reads''.Asked, Reads''.Learnt) Kinds.Pre Kinds.Post Inv μ Inv' μ'
+    Inv'' μ''
 
 abbrev pub Need-returns : (Inv : InvT-loop2) → (μ : MeasureT-loop2) → (Inv : InvT-loop3) → (μ : MeasureT-loop3) → (Inv : InvT-loop) → (μ :
     MeasureT-loop) → Type 0
-Need-returns = λ Inv μ Inv' μ' Inv'' μ''. Lts.Need-returns (Reads.Asked, Reads.Learnt) Kinds.Pre Kinds.Post Inv μ Inv' μ' Inv'' μ''
+Need-returns = λ Inv μ Inv' μ' Inv'' μ''. Lts.Need-returns (Reads.Asked, Reads.Learnt, Reads''.Asked, Reads''.Learnt) Kinds.Pre Kinds.Post Inv μ Inv'
+    μ' Inv'' μ''
 
 abbrev pub Need-loop2-holds : (Inv : InvT-loop2) → (μ : MeasureT-loop2) → (Inv : InvT-loop3) → (μ : MeasureT-loop3) → (Inv : InvT-loop) → (μ :
     MeasureT-loop) → Type 0
-Need-loop2-holds = λ Inv μ Inv' μ' Inv'' μ''. Lts.Need-loop2-holds (Reads.Asked, Reads.Learnt) Kinds.Pre Kinds.Post Inv μ Inv' μ' Inv'' μ''
+Need-loop2-holds = λ Inv μ Inv' μ' Inv'' μ''. Lts.Need-loop2-holds (Reads.Asked, Reads.Learnt, Reads''.Asked, Reads''.Learnt) Kinds.Pre Kinds.Post Inv
+    μ Inv' μ' Inv'' μ''
 
 abbrev pub Need-mul-p : (Inv : InvT-loop2) → (μ : MeasureT-loop2) → (Inv : InvT-loop3) → (μ : MeasureT-loop3) → (Inv : InvT-loop) → (μ :
     MeasureT-loop) → Type 0
-Need-mul-p = λ Inv μ Inv' μ' Inv'' μ''. Lts.Need-mul-p (Reads.Asked, Reads.Learnt) Kinds.Pre Kinds.Post Inv μ Inv' μ' Inv'' μ''
+Need-mul-p = λ Inv μ Inv' μ' Inv'' μ''. Lts.Need-mul-p (Reads.Asked, Reads.Learnt, Reads''.Asked, Reads''.Learnt) Kinds.Pre Kinds.Post Inv μ Inv' μ'
+    Inv'' μ''
 
 abbrev pub Need-add-p : (Inv : InvT-loop2) → (μ : MeasureT-loop2) → (Inv : InvT-loop3) → (μ : MeasureT-loop3) → (Inv : InvT-loop) → (μ :
     MeasureT-loop) → Type 0
-Need-add-p = λ Inv μ Inv' μ' Inv'' μ''. Lts.Need-add-p (Reads.Asked, Reads.Learnt) Kinds.Pre Kinds.Post Inv μ Inv' μ' Inv'' μ''
+Need-add-p = λ Inv μ Inv' μ' Inv'' μ''. Lts.Need-add-p (Reads.Asked, Reads.Learnt, Reads''.Asked, Reads''.Learnt) Kinds.Pre Kinds.Post Inv μ Inv' μ'
+    Inv'' μ''
 
 abbrev pub Need-mul-r : (Inv : InvT-loop2) → (μ : MeasureT-loop2) → (Inv : InvT-loop3) → (μ : MeasureT-loop3) → (Inv : InvT-loop) → (μ :
     MeasureT-loop) → Type 0
-Need-mul-r = λ Inv μ Inv' μ' Inv'' μ''. Lts.Need-mul-r (Reads.Asked, Reads.Learnt) Kinds.Pre Kinds.Post Inv μ Inv' μ' Inv'' μ''
+Need-mul-r = λ Inv μ Inv' μ' Inv'' μ''. Lts.Need-mul-r (Reads.Asked, Reads.Learnt, Reads''.Asked, Reads''.Learnt) Kinds.Pre Kinds.Post Inv μ Inv' μ'
+    Inv'' μ''
 
 abbrev pub Need-shared-slice-copy-out-r : (Inv : InvT-loop2) → (μ : MeasureT-loop2) → (Inv : InvT-loop3) → (μ : MeasureT-loop3) → (Inv : InvT-loop) →
     (μ : MeasureT-loop) → Type 0
-Need-shared-slice-copy-out-r = λ Inv μ Inv' μ' Inv'' μ''. Lts.Need-shared-slice-copy-out-r (Reads.Asked, Reads.Learnt) Kinds.Pre Kinds.Post Inv μ Inv'
-    μ' Inv'' μ''
+Need-shared-slice-copy-out-r = λ Inv μ Inv' μ' Inv'' μ''. Lts.Need-shared-slice-copy-out-r (Reads.Asked, Reads.Learnt, Reads''.Asked, Reads''.Learnt)
+    Kinds.Pre Kinds.Post Inv μ Inv' μ' Inv'' μ''
 
 abbrev pub Need-mul-from : (Inv : InvT-loop2) → (μ : MeasureT-loop2) → (Inv : InvT-loop3) → (μ : MeasureT-loop3) → (Inv : InvT-loop) → (μ :
     MeasureT-loop) → Type 0
-Need-mul-from = λ Inv μ Inv' μ' Inv'' μ''. Lts.Need-mul-from (Reads.Asked, Reads.Learnt) Kinds.Pre Kinds.Post Inv μ Inv' μ' Inv'' μ''
+Need-mul-from = λ Inv μ Inv' μ' Inv'' μ''. Lts.Need-mul-from (Reads.Asked, Reads.Learnt, Reads''.Asked, Reads''.Learnt) Kinds.Pre Kinds.Post Inv μ
+    Inv' μ' Inv'' μ''
 
 abbrev pub Need-add-to : (Inv : InvT-loop2) → (μ : MeasureT-loop2) → (Inv : InvT-loop3) → (μ : MeasureT-loop3) → (Inv : InvT-loop) → (μ :
     MeasureT-loop) → Type 0
-Need-add-to = λ Inv μ Inv' μ' Inv'' μ''. Lts.Need-add-to (Reads.Asked, Reads.Learnt) Kinds.Pre Kinds.Post Inv μ Inv' μ' Inv'' μ''
+Need-add-to = λ Inv μ Inv' μ' Inv'' μ''. Lts.Need-add-to (Reads.Asked, Reads.Learnt, Reads''.Asked, Reads''.Learnt) Kinds.Pre Kinds.Post Inv μ Inv' μ'
+    Inv'' μ''
 
-abbrev pub Need-sub-place-is-sound : (Inv : InvT-loop2) → (μ : MeasureT-loop2) → (Inv : InvT-loop3) → (μ : MeasureT-loop3) → (Inv : InvT-loop) → (μ :
+abbrev pub Need-sub-filled-is-sound : (Inv : InvT-loop2) → (μ : MeasureT-loop2) → (Inv : InvT-loop3) → (μ : MeasureT-loop3) → (Inv : InvT-loop) → (μ :
     MeasureT-loop) → Type 0
-Need-sub-place-is-sound = λ Inv μ Inv' μ' Inv'' μ''. Lts.Need-sub-place-is-sound (Reads.Asked, Reads.Learnt) Kinds.Pre Kinds.Post Inv μ Inv' μ' Inv''
-    μ''
+Need-sub-filled-is-sound = λ Inv μ Inv' μ' Inv'' μ''. Lts.Need-sub-filled-is-sound (Reads.Asked, Reads.Learnt, Reads''.Asked, Reads''.Learnt)
+    Kinds.Pre Kinds.Post Inv μ Inv' μ' Inv'' μ''
 
-abbrev pub Need-part-place-is-sound-start : (Inv : InvT-loop2) → (μ : MeasureT-loop2) → (Inv : InvT-loop3) → (μ : MeasureT-loop3) → (Inv : InvT-loop)
+abbrev pub Need-part-filled-is-sound-start : (Inv : InvT-loop2) → (μ : MeasureT-loop2) → (Inv : InvT-loop3) → (μ : MeasureT-loop3) → (Inv : InvT-loop)
     → (μ : MeasureT-loop) → Type 0
-Need-part-place-is-sound-start = λ Inv μ Inv' μ' Inv'' μ''. Lts.Need-part-place-is-sound-start (Reads.Asked, Reads.Learnt) Kinds.Pre Kinds.Post Inv μ
-    Inv' μ' Inv'' μ''
+Need-part-filled-is-sound-start = λ Inv μ Inv' μ' Inv'' μ''. Lts.Need-part-filled-is-sound-start (
+  Reads.Asked,
+  Reads.Learnt,
+  Reads''.Asked,
+  Reads''.Learnt,
+) Kinds.Pre Kinds.Post Inv μ Inv' μ' Inv'' μ''
 
-abbrev pub Need-part-place-is-sound-end : (Inv : InvT-loop2) → (μ : MeasureT-loop2) → (Inv : InvT-loop3) → (μ : MeasureT-loop3) → (Inv : InvT-loop) →
+abbrev pub Need-part-filled-is-sound-end : (Inv : InvT-loop2) → (μ : MeasureT-loop2) → (Inv : InvT-loop3) → (μ : MeasureT-loop3) → (Inv : InvT-loop) →
     (μ : MeasureT-loop) → Type 0
-Need-part-place-is-sound-end = λ Inv μ Inv' μ' Inv'' μ''. Lts.Need-part-place-is-sound-end (Reads.Asked, Reads.Learnt) Kinds.Pre Kinds.Post Inv μ Inv'
-    μ' Inv'' μ''
+Need-part-filled-is-sound-end = λ Inv μ Inv' μ' Inv'' μ''. Lts.Need-part-filled-is-sound-end (
+  Reads.Asked,
+  Reads.Learnt,
+  Reads''.Asked,
+  Reads''.Learnt,
+) Kinds.Pre Kinds.Post Inv μ Inv' μ' Inv'' μ''
 
-abbrev pub Need-place-is-sound-requires : (Inv : InvT-loop2) → (μ : MeasureT-loop2) → (Inv : InvT-loop3) → (μ : MeasureT-loop3) → (Inv : InvT-loop) →
+abbrev pub Need-filled-is-sound-requires : (Inv : InvT-loop2) → (μ : MeasureT-loop2) → (Inv : InvT-loop3) → (μ : MeasureT-loop3) → (Inv : InvT-loop) →
     (μ : MeasureT-loop) → Type 0
-Need-place-is-sound-requires = λ Inv μ Inv' μ' Inv'' μ''. Lts.Need-place-is-sound-requires (Reads.Asked, Reads.Learnt) Kinds.Pre Kinds.Post Inv μ Inv'
-    μ' Inv'' μ''
+Need-filled-is-sound-requires = λ Inv μ Inv' μ' Inv'' μ''. Lts.Need-filled-is-sound-requires (
+  Reads.Asked,
+  Reads.Learnt,
+  Reads''.Asked,
+  Reads''.Learnt,
+) Kinds.Pre Kinds.Post Inv μ Inv' μ' Inv'' μ''
 
 abbrev pub Need-returns-2 : (Inv : InvT-loop2) → (μ : MeasureT-loop2) → (Inv : InvT-loop3) → (μ : MeasureT-loop3) → (Inv : InvT-loop) → (μ :
     MeasureT-loop) → Type 0
-Need-returns-2 = λ Inv μ Inv' μ' Inv'' μ''. Lts.Need-returns-2 (Reads.Asked, Reads.Learnt) Kinds.Pre Kinds.Post Inv μ Inv' μ' Inv'' μ''
+Need-returns-2 = λ Inv μ Inv' μ' Inv'' μ''. Lts.Need-returns-2 (Reads.Asked, Reads.Learnt, Reads''.Asked, Reads''.Learnt) Kinds.Pre Kinds.Post Inv μ
+    Inv' μ' Inv'' μ''
 
 abbrev pub Need-add-i : (Inv : InvT-loop2) → (μ : MeasureT-loop2) → (Inv : InvT-loop3) → (μ : MeasureT-loop3) → (Inv : InvT-loop) → (μ :
     MeasureT-loop) → Type 0
-Need-add-i = λ Inv μ Inv' μ' Inv'' μ''. Lts.Need-add-i (Reads.Asked, Reads.Learnt) Kinds.Pre Kinds.Post Inv μ Inv' μ' Inv'' μ''
+Need-add-i = λ Inv μ Inv' μ' Inv'' μ''. Lts.Need-add-i (Reads.Asked, Reads.Learnt, Reads''.Asked, Reads''.Learnt) Kinds.Pre Kinds.Post Inv μ Inv' μ'
+    Inv'' μ''
 
 abbrev pub Need-loop2-less : (Inv : InvT-loop2) → (μ : MeasureT-loop2) → (Inv : InvT-loop3) → (μ : MeasureT-loop3) → (Inv : InvT-loop) → (μ :
     MeasureT-loop) → Type 0
-Need-loop2-less = λ Inv μ Inv' μ' Inv'' μ''. Lts.Need-loop2-less (Reads.Asked, Reads.Learnt) Kinds.Pre Kinds.Post Inv μ Inv' μ' Inv'' μ''
+Need-loop2-less = λ Inv μ Inv' μ' Inv'' μ''. Lts.Need-loop2-less (Reads.Asked, Reads.Learnt, Reads''.Asked, Reads''.Learnt) Kinds.Pre Kinds.Post Inv μ
+    Inv' μ' Inv'' μ''
 
 abbrev pub Need-loop2-again : (Inv : InvT-loop2) → (μ : MeasureT-loop2) → (Inv : InvT-loop3) → (μ : MeasureT-loop3) → (Inv : InvT-loop) → (μ :
     MeasureT-loop) → Type 0
-Need-loop2-again = λ Inv μ Inv' μ' Inv'' μ''. Lts.Need-loop2-again (Reads.Asked, Reads.Learnt) Kinds.Pre Kinds.Post Inv μ Inv' μ' Inv'' μ''
+Need-loop2-again = λ Inv μ Inv' μ' Inv'' μ''. Lts.Need-loop2-again (Reads.Asked, Reads.Learnt, Reads''.Asked, Reads''.Learnt) Kinds.Pre Kinds.Post Inv
+    μ Inv' μ' Inv'' μ''
 
 abbrev pub Need-loop3-holds : (Inv : InvT-loop2) → (μ : MeasureT-loop2) → (Inv : InvT-loop3) → (μ : MeasureT-loop3) → (Inv : InvT-loop) → (μ :
     MeasureT-loop) → Type 0
-Need-loop3-holds = λ Inv μ Inv' μ' Inv'' μ''. Lts.Need-loop3-holds (Reads.Asked, Reads.Learnt) Kinds.Pre Kinds.Post Inv μ Inv' μ' Inv'' μ''
+Need-loop3-holds = λ Inv μ Inv' μ' Inv'' μ''. Lts.Need-loop3-holds (Reads.Asked, Reads.Learnt, Reads''.Asked, Reads''.Learnt) Kinds.Pre Kinds.Post Inv
+    μ Inv' μ' Inv'' μ''
 
 abbrev pub Need-mul-p-2 : (Inv : InvT-loop2) → (μ : MeasureT-loop2) → (Inv : InvT-loop3) → (μ : MeasureT-loop3) → (Inv : InvT-loop) → (μ :
     MeasureT-loop) → Type 0
-Need-mul-p-2 = λ Inv μ Inv' μ' Inv'' μ''. Lts.Need-mul-p-2 (Reads.Asked, Reads.Learnt) Kinds.Pre Kinds.Post Inv μ Inv' μ' Inv'' μ''
+Need-mul-p-2 = λ Inv μ Inv' μ' Inv'' μ''. Lts.Need-mul-p-2 (Reads.Asked, Reads.Learnt, Reads''.Asked, Reads''.Learnt) Kinds.Pre Kinds.Post Inv μ Inv'
+    μ' Inv'' μ''
 
 abbrev pub Need-add-p-2 : (Inv : InvT-loop2) → (μ : MeasureT-loop2) → (Inv : InvT-loop3) → (μ : MeasureT-loop3) → (Inv : InvT-loop) → (μ :
     MeasureT-loop) → Type 0
-Need-add-p-2 = λ Inv μ Inv' μ' Inv'' μ''. Lts.Need-add-p-2 (Reads.Asked, Reads.Learnt) Kinds.Pre Kinds.Post Inv μ Inv' μ' Inv'' μ''
+Need-add-p-2 = λ Inv μ Inv' μ' Inv'' μ''. Lts.Need-add-p-2 (Reads.Asked, Reads.Learnt, Reads''.Asked, Reads''.Learnt) Kinds.Pre Kinds.Post Inv μ Inv'
+    μ' Inv'' μ''
 
 abbrev pub Need-mul-r-2 : (Inv : InvT-loop2) → (μ : MeasureT-loop2) → (Inv : InvT-loop3) → (μ : MeasureT-loop3) → (Inv : InvT-loop) → (μ :
     MeasureT-loop) → Type 0
-Need-mul-r-2 = λ Inv μ Inv' μ' Inv'' μ''. Lts.Need-mul-r-2 (Reads.Asked, Reads.Learnt) Kinds.Pre Kinds.Post Inv μ Inv' μ' Inv'' μ''
+Need-mul-r-2 = λ Inv μ Inv' μ' Inv'' μ''. Lts.Need-mul-r-2 (Reads.Asked, Reads.Learnt, Reads''.Asked, Reads''.Learnt) Kinds.Pre Kinds.Post Inv μ Inv'
+    μ' Inv'' μ''
 
 abbrev pub Need-shared-slice-copy-out-r-2 : (Inv : InvT-loop2) → (μ : MeasureT-loop2) → (Inv : InvT-loop3) → (μ : MeasureT-loop3) → (Inv : InvT-loop)
     → (μ : MeasureT-loop) → Type 0
-Need-shared-slice-copy-out-r-2 = λ Inv μ Inv' μ' Inv'' μ''. Lts.Need-shared-slice-copy-out-r-2 (Reads.Asked, Reads.Learnt) Kinds.Pre Kinds.Post Inv μ
-    Inv' μ' Inv'' μ''
+Need-shared-slice-copy-out-r-2 = λ Inv μ Inv' μ' Inv'' μ''. Lts.Need-shared-slice-copy-out-r-2 (
+  Reads.Asked,
+  Reads.Learnt,
+  Reads''.Asked,
+  Reads''.Learnt,
+) Kinds.Pre Kinds.Post Inv μ Inv' μ' Inv'' μ''
 
 abbrev pub Need-mul-from-2 : (Inv : InvT-loop2) → (μ : MeasureT-loop2) → (Inv : InvT-loop3) → (μ : MeasureT-loop3) → (Inv : InvT-loop) → (μ :
     MeasureT-loop) → Type 0
-Need-mul-from-2 = λ Inv μ Inv' μ' Inv'' μ''. Lts.Need-mul-from-2 (Reads.Asked, Reads.Learnt) Kinds.Pre Kinds.Post Inv μ Inv' μ' Inv'' μ''
+Need-mul-from-2 = λ Inv μ Inv' μ' Inv'' μ''. Lts.Need-mul-from-2 (Reads.Asked, Reads.Learnt, Reads''.Asked, Reads''.Learnt) Kinds.Pre Kinds.Post Inv μ
+    Inv' μ' Inv'' μ''
 
 abbrev pub Need-add-to-2 : (Inv : InvT-loop2) → (μ : MeasureT-loop2) → (Inv : InvT-loop3) → (μ : MeasureT-loop3) → (Inv : InvT-loop) → (μ :
     MeasureT-loop) → Type 0
-Need-add-to-2 = λ Inv μ Inv' μ' Inv'' μ''. Lts.Need-add-to-2 (Reads.Asked, Reads.Learnt) Kinds.Pre Kinds.Post Inv μ Inv' μ' Inv'' μ''
+Need-add-to-2 = λ Inv μ Inv' μ' Inv'' μ''. Lts.Need-add-to-2 (Reads.Asked, Reads.Learnt, Reads''.Asked, Reads''.Learnt) Kinds.Pre Kinds.Post Inv μ
+    Inv' μ' Inv'' μ''
 
-abbrev pub Need-sub-place-is-sound-2 : (Inv : InvT-loop2) → (μ : MeasureT-loop2) → (Inv : InvT-loop3) → (μ : MeasureT-loop3) → (Inv : InvT-loop) → (μ
+abbrev pub Need-sub-unfilled-is-sound : (Inv : InvT-loop2) → (μ : MeasureT-loop2) → (Inv : InvT-loop3) → (μ : MeasureT-loop3) → (Inv : InvT-loop) → (μ
     : MeasureT-loop) → Type 0
-Need-sub-place-is-sound-2 = λ Inv μ Inv' μ' Inv'' μ''. Lts.Need-sub-place-is-sound-2 (Reads.Asked, Reads.Learnt) Kinds.Pre Kinds.Post Inv μ Inv' μ'
-    Inv'' μ''
+Need-sub-unfilled-is-sound = λ Inv μ Inv' μ' Inv'' μ''. Lts.Need-sub-unfilled-is-sound (Reads.Asked, Reads.Learnt, Reads''.Asked, Reads''.Learnt)
+    Kinds.Pre Kinds.Post Inv μ Inv' μ' Inv'' μ''
 
-abbrev pub Need-part-place-is-sound-start-2 : (Inv : InvT-loop2) → (μ : MeasureT-loop2) → (Inv : InvT-loop3) → (μ : MeasureT-loop3) → (Inv :
+abbrev pub Need-part-unfilled-is-sound-start : (Inv : InvT-loop2) → (μ : MeasureT-loop2) → (Inv : InvT-loop3) → (μ : MeasureT-loop3) → (Inv :
     InvT-loop) → (μ : MeasureT-loop) → Type 0
-Need-part-place-is-sound-start-2 = λ Inv μ Inv' μ' Inv'' μ''. Lts.Need-part-place-is-sound-start-2 (Reads.Asked, Reads.Learnt) Kinds.Pre Kinds.Post
-    Inv μ Inv' μ' Inv'' μ''
+Need-part-unfilled-is-sound-start = λ Inv μ Inv' μ' Inv'' μ''. Lts.Need-part-unfilled-is-sound-start (
+  Reads.Asked,
+  Reads.Learnt,
+  Reads''.Asked,
+  Reads''.Learnt,
+) Kinds.Pre Kinds.Post Inv μ Inv' μ' Inv'' μ''
 
-abbrev pub Need-part-place-is-sound-end-2 : (Inv : InvT-loop2) → (μ : MeasureT-loop2) → (Inv : InvT-loop3) → (μ : MeasureT-loop3) → (Inv : InvT-loop)
+abbrev pub Need-part-unfilled-is-sound-end : (Inv : InvT-loop2) → (μ : MeasureT-loop2) → (Inv : InvT-loop3) → (μ : MeasureT-loop3) → (Inv : InvT-loop)
     → (μ : MeasureT-loop) → Type 0
-Need-part-place-is-sound-end-2 = λ Inv μ Inv' μ' Inv'' μ''. Lts.Need-part-place-is-sound-end-2 (Reads.Asked, Reads.Learnt) Kinds.Pre Kinds.Post Inv μ
-    Inv' μ' Inv'' μ''
+Need-part-unfilled-is-sound-end = λ Inv μ Inv' μ' Inv'' μ''. Lts.Need-part-unfilled-is-sound-end (
+  Reads.Asked,
+  Reads.Learnt,
+  Reads''.Asked,
+  Reads''.Learnt,
+) Kinds.Pre Kinds.Post Inv μ Inv' μ' Inv'' μ''
 
-abbrev pub Need-place-is-sound-requires-2 : (Inv : InvT-loop2) → (μ : MeasureT-loop2) → (Inv : InvT-loop3) → (μ : MeasureT-loop3) → (Inv : InvT-loop)
+abbrev pub Need-unfilled-is-sound-requires : (Inv : InvT-loop2) → (μ : MeasureT-loop2) → (Inv : InvT-loop3) → (μ : MeasureT-loop3) → (Inv : InvT-loop)
     → (μ : MeasureT-loop) → Type 0
-Need-place-is-sound-requires-2 = λ Inv μ Inv' μ' Inv'' μ''. Lts.Need-place-is-sound-requires-2 (Reads.Asked, Reads.Learnt) Kinds.Pre Kinds.Post Inv μ
-    Inv' μ' Inv'' μ''
+Need-unfilled-is-sound-requires = λ Inv μ Inv' μ' Inv'' μ''. Lts.Need-unfilled-is-sound-requires (
+  Reads.Asked,
+  Reads.Learnt,
+  Reads''.Asked,
+  Reads''.Learnt,
+) Kinds.Pre Kinds.Post Inv μ Inv' μ' Inv'' μ''
 
 abbrev pub Need-returns-3 : (Inv : InvT-loop2) → (μ : MeasureT-loop2) → (Inv : InvT-loop3) → (μ : MeasureT-loop3) → (Inv : InvT-loop) → (μ :
     MeasureT-loop) → Type 0
-Need-returns-3 = λ Inv μ Inv' μ' Inv'' μ''. Lts.Need-returns-3 (Reads.Asked, Reads.Learnt) Kinds.Pre Kinds.Post Inv μ Inv' μ' Inv'' μ''
+Need-returns-3 = λ Inv μ Inv' μ' Inv'' μ''. Lts.Need-returns-3 (Reads.Asked, Reads.Learnt, Reads''.Asked, Reads''.Learnt) Kinds.Pre Kinds.Post Inv μ
+    Inv' μ' Inv'' μ''
 
 abbrev pub Need-add-j : (Inv : InvT-loop2) → (μ : MeasureT-loop2) → (Inv : InvT-loop3) → (μ : MeasureT-loop3) → (Inv : InvT-loop) → (μ :
     MeasureT-loop) → Type 0
-Need-add-j = λ Inv μ Inv' μ' Inv'' μ''. Lts.Need-add-j (Reads.Asked, Reads.Learnt) Kinds.Pre Kinds.Post Inv μ Inv' μ' Inv'' μ''
+Need-add-j = λ Inv μ Inv' μ' Inv'' μ''. Lts.Need-add-j (Reads.Asked, Reads.Learnt, Reads''.Asked, Reads''.Learnt) Kinds.Pre Kinds.Post Inv μ Inv' μ'
+    Inv'' μ''
 
 abbrev pub Need-loop3-less : (Inv : InvT-loop2) → (μ : MeasureT-loop2) → (Inv : InvT-loop3) → (μ : MeasureT-loop3) → (Inv : InvT-loop) → (μ :
     MeasureT-loop) → Type 0
-Need-loop3-less = λ Inv μ Inv' μ' Inv'' μ''. Lts.Need-loop3-less (Reads.Asked, Reads.Learnt) Kinds.Pre Kinds.Post Inv μ Inv' μ' Inv'' μ''
+Need-loop3-less = λ Inv μ Inv' μ' Inv'' μ''. Lts.Need-loop3-less (Reads.Asked, Reads.Learnt, Reads''.Asked, Reads''.Learnt) Kinds.Pre Kinds.Post Inv μ
+    Inv' μ' Inv'' μ''
 
 abbrev pub Need-loop3-again : (Inv : InvT-loop2) → (μ : MeasureT-loop2) → (Inv : InvT-loop3) → (μ : MeasureT-loop3) → (Inv : InvT-loop) → (μ :
     MeasureT-loop) → Type 0
-Need-loop3-again = λ Inv μ Inv' μ' Inv'' μ''. Lts.Need-loop3-again (Reads.Asked, Reads.Learnt) Kinds.Pre Kinds.Post Inv μ Inv' μ' Inv'' μ''
+Need-loop3-again = λ Inv μ Inv' μ' Inv'' μ''. Lts.Need-loop3-again (Reads.Asked, Reads.Learnt, Reads''.Asked, Reads''.Learnt) Kinds.Pre Kinds.Post Inv
+    μ Inv' μ' Inv'' μ''
 
 abbrev pub Need-add-t : (Inv : InvT-loop2) → (μ : MeasureT-loop2) → (Inv : InvT-loop3) → (μ : MeasureT-loop3) → (Inv : InvT-loop) → (μ :
     MeasureT-loop) → Type 0
-Need-add-t = λ Inv μ Inv' μ' Inv'' μ''. Lts.Need-add-t (Reads.Asked, Reads.Learnt) Kinds.Pre Kinds.Post Inv μ Inv' μ' Inv'' μ''
+Need-add-t = λ Inv μ Inv' μ' Inv'' μ''. Lts.Need-add-t (Reads.Asked, Reads.Learnt, Reads''.Asked, Reads''.Learnt) Kinds.Pre Kinds.Post Inv μ Inv' μ'
+    Inv'' μ''
 
 abbrev pub Need-loop-less : (Inv : InvT-loop2) → (μ : MeasureT-loop2) → (Inv : InvT-loop3) → (μ : MeasureT-loop3) → (Inv : InvT-loop) → (μ :
     MeasureT-loop) → Type 0
-Need-loop-less = λ Inv μ Inv' μ' Inv'' μ''. Lts.Need-loop-less (Reads.Asked, Reads.Learnt) Kinds.Pre Kinds.Post Inv μ Inv' μ' Inv'' μ''
+Need-loop-less = λ Inv μ Inv' μ' Inv'' μ''. Lts.Need-loop-less (Reads.Asked, Reads.Learnt, Reads''.Asked, Reads''.Learnt) Kinds.Pre Kinds.Post Inv μ
+    Inv' μ' Inv'' μ''
 
 abbrev pub Need-loop-again : (Inv : InvT-loop2) → (μ : MeasureT-loop2) → (Inv : InvT-loop3) → (μ : MeasureT-loop3) → (Inv : InvT-loop) → (μ :
     MeasureT-loop) → Type 0
-Need-loop-again = λ Inv μ Inv' μ' Inv'' μ''. Lts.Need-loop-again (Reads.Asked, Reads.Learnt) Kinds.Pre Kinds.Post Inv μ Inv' μ' Inv'' μ''
+Need-loop-again = λ Inv μ Inv' μ' Inv'' μ''. Lts.Need-loop-again (Reads.Asked, Reads.Learnt, Reads''.Asked, Reads''.Learnt) Kinds.Pre Kinds.Post Inv μ
+    Inv' μ' Inv'' μ''
 
 abbrev pub Need-returns-4 : (Inv : InvT-loop2) → (μ : MeasureT-loop2) → (Inv : InvT-loop3) → (μ : MeasureT-loop3) → (Inv : InvT-loop) → (μ :
     MeasureT-loop) → Type 0
-Need-returns-4 = λ Inv μ Inv' μ' Inv'' μ''. Lts.Need-returns-4 (Reads.Asked, Reads.Learnt) Kinds.Pre Kinds.Post Inv μ Inv' μ' Inv'' μ''
+Need-returns-4 = λ Inv μ Inv' μ' Inv'' μ''. Lts.Need-returns-4 (Reads.Asked, Reads.Learnt, Reads''.Asked, Reads''.Learnt) Kinds.Pre Kinds.Post Inv μ
+    Inv' μ' Inv'' μ''
 
 module _ {M : Type 1} where
   pub spec : (Inv : InvT-loop2) → (μ : MeasureT-loop2) → (Inv' : InvT-loop3) → (μ' : MeasureT-loop3) → (Inv'' : InvT-loop) → (μ'' : MeasureT-loop) →
@@ -293,29 +365,31 @@ module _ {M : Type 1} where
       Inv'' μ'') → (answer : Need-returns Inv μ Inv' μ' Inv'' μ'') → (answer : Need-loop2-holds Inv μ Inv' μ' Inv'' μ'') → (answer : Need-mul-p Inv μ
       Inv' μ' Inv'' μ'') → (answer : Need-add-p Inv μ Inv' μ' Inv'' μ'') → (answer : Need-mul-r Inv μ Inv' μ' Inv'' μ'') → (answer :
       Need-shared-slice-copy-out-r Inv μ Inv' μ' Inv'' μ'') → (answer : Need-mul-from Inv μ Inv' μ' Inv'' μ'') → (answer : Need-add-to Inv μ Inv' μ'
-      Inv'' μ'') → (answer : Need-sub-place-is-sound Inv μ Inv' μ' Inv'' μ'') → (answer : Need-part-place-is-sound-start Inv μ Inv' μ' Inv'' μ'') →
-      (answer : Need-part-place-is-sound-end Inv μ Inv' μ' Inv'' μ'') → (answer : Need-place-is-sound-requires Inv μ Inv' μ' Inv'' μ'') → (answer :
+      Inv'' μ'') → (answer : Need-sub-filled-is-sound Inv μ Inv' μ' Inv'' μ'') → (answer : Need-part-filled-is-sound-start Inv μ Inv' μ' Inv'' μ'') →
+      (answer : Need-part-filled-is-sound-end Inv μ Inv' μ' Inv'' μ'') → (answer : Need-filled-is-sound-requires Inv μ Inv' μ' Inv'' μ'') → (answer :
       Need-returns-2 Inv μ Inv' μ' Inv'' μ'') → (answer : Need-add-i Inv μ Inv' μ' Inv'' μ'') → (answer : Need-loop2-less Inv μ Inv' μ' Inv'' μ'') →
       (answer : Need-loop2-again Inv μ Inv' μ' Inv'' μ'') → (answer : Need-loop3-holds Inv μ Inv' μ' Inv'' μ'') → (answer : Need-mul-p-2 Inv μ Inv' μ'
       Inv'' μ'') → (answer : Need-add-p-2 Inv μ Inv' μ' Inv'' μ'') → (answer : Need-mul-r-2 Inv μ Inv' μ' Inv'' μ'') → (answer :
       Need-shared-slice-copy-out-r-2 Inv μ Inv' μ' Inv'' μ'') → (answer : Need-mul-from-2 Inv μ Inv' μ' Inv'' μ'') → (answer : Need-add-to-2 Inv μ
-      Inv' μ' Inv'' μ'') → (answer : Need-sub-place-is-sound-2 Inv μ Inv' μ' Inv'' μ'') → (answer : Need-part-place-is-sound-start-2 Inv μ Inv' μ'
-      Inv'' μ'') → (answer : Need-part-place-is-sound-end-2 Inv μ Inv' μ' Inv'' μ'') → (answer : Need-place-is-sound-requires-2 Inv μ Inv' μ' Inv''
+      Inv' μ' Inv'' μ'') → (answer : Need-sub-unfilled-is-sound Inv μ Inv' μ' Inv'' μ'') → (answer : Need-part-unfilled-is-sound-start Inv μ Inv' μ'
+      Inv'' μ'') → (answer : Need-part-unfilled-is-sound-end Inv μ Inv' μ' Inv'' μ'') → (answer : Need-unfilled-is-sound-requires Inv μ Inv' μ' Inv''
       μ'') → (answer : Need-returns-3 Inv μ Inv' μ' Inv'' μ'') → (answer : Need-add-j Inv μ Inv' μ' Inv'' μ'') → (answer : Need-loop3-less Inv μ Inv'
       μ' Inv'' μ'') → (answer : Need-loop3-again Inv μ Inv' μ' Inv'' μ'') → (answer : Need-add-t Inv μ Inv' μ' Inv'' μ'') → (answer : Need-loop-less
       Inv μ Inv' μ' Inv'' μ'') → (answer : Need-loop-again Inv μ Inv' μ' Inv'' μ'') → (answer : Need-returns-4 Inv μ Inv' μ' Inv'' μ'') → Lts.Closed
-      (Reads.Asked, Reads.Learnt) Kinds.Pre Kinds.Post M
+      (Reads.Asked, Reads.Learnt, Reads''.Asked, Reads''.Learnt) Kinds.Pre Kinds.Post M
   spec = λ Inv μ Inv'3 μ'3 Inv'4 μ'4 answer answer' answer'' answer'3 answer'4 answer'5 answer'6 answer'7 answer'8 answer'9 answer'10 answer'11
       answer'12 answer'13 answer'14 answer'15 answer'16 answer'17 answer'18 answer'19 answer'20 answer'21 answer'22 answer'23 answer'24 answer'25
       answer'26 answer'27 answer'28 answer'29 answer'30 answer'31 answer'32 answer'33 answer'34 answer'35 answer'36 answer'37. Lts.spec (
         Reads.Asked,
         Reads.Learnt,
-      ) Kinds.Pre Kinds.Post Inv μ Inv'3 μ'3 Inv'4 μ'4 answer answer' answer'' answer'3 answer'4 answer'5 answer'6 answer'7 answer'8
-      answer'9 answer'10 answer'11 answer'12 answer'13 answer'14 answer'15 answer'16 answer'17 answer'18 answer'19 answer'20 answer'21 answer'22
-      answer'23 answer'24 answer'25 answer'26 answer'27 answer'28 answer'29 answer'30 answer'31 answer'32 answer'33 answer'34 answer'35 answer'36
-      answer'37
+        Reads''.Asked,
+        Reads''.Learnt,
+      ) Kinds.Pre Kinds.Post Inv μ Inv'3 μ'3 Inv'4 μ'4 answer answer' answer'' answer'3 answer'4 answer'5
+      answer'6 answer'7 answer'8 answer'9 answer'10 answer'11 answer'12 answer'13 answer'14 answer'15 answer'16 answer'17 answer'18 answer'19
+      answer'20 answer'21 answer'22 answer'23 answer'24 answer'25 answer'26 answer'27 answer'28 answer'29 answer'30 answer'31 answer'32 answer'33
+      answer'34 answer'35 answer'36 answer'37
 
-  pub close : Lts.Closed (Reads.Asked, Reads.Learnt) Kinds.Pre Kinds.Post M → Statement.statement M
+  pub close : Lts.Closed (Reads.Asked, Reads.Learnt, Reads''.Asked, Reads''.Learnt) Kinds.Pre Kinds.Post M → Statement.statement M
   unfolding Code.routine Running.tablesOf
   close = λ closed 𝓤 H 𝓜 𝓖 𝓡. Written.close 2 Kinds.kinds Kinds.result Kinds.Ghost Kinds.requires Kinds.ensures Kinds.pre-read Kinds.Pinned
       Kinds.Owned Kinds.post-read record { M = M; 𝓤 = 𝓤; H = H; 𝓜 = 𝓜; 𝓖 = 𝓖; 𝓡 = 𝓡 } Code.env Key.name Code.function (Code.unfolded 𝓤 H 𝓜 𝓡) (λ κs a
@@ -333,4 +407,12 @@ module _ {M : Type 1} where
         𝓜 = 𝓜;
         𝓖 = 𝓖;
         𝓡 = 𝓡;
-      } Code.env Symbol.name Symbol.routine Code.calls-bs-sched·place-is-sound (Met.met 𝓤 H 𝓜 𝓖 𝓡))
+      } Code.env Symbol.name Symbol.routine Code.calls-bs-sched·filled-is-sound (Met.met 𝓤 H 𝓜 𝓖 𝓡)) (Reads''.known record {
+        M = M;
+        𝓤 = 𝓤;
+        H = H;
+        𝓜 =
+            𝓜;
+        𝓖 = 𝓖;
+        𝓡 = 𝓡;
+      } Code.env Symbol'.name Symbol'.routine Code.calls-bs-sched·unfilled-is-sound (Met'.met 𝓤 H 𝓜 𝓖 𝓡))
