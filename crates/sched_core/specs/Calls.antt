@@ -56,10 +56,6 @@ abbrev pub ownerNumber : OwnerReply → ℕ
 ownerNumber (OwnerReply.Owner o) = 0
 ownerNumber (OwnerReply.Refused r) = refusalNumber r
 
-abbrev pub usageReplyNumber : UsageReply → ℕ
-usageReplyNumber (UsageReply.Usage u) = 0
-usageReplyNumber (UsageReply.Refused r) = refusalNumber r
-
 -- ---- calls on the station alone
 
 abbrev pub answerOf : Reply → Station → Answer
