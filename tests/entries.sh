@@ -25,5 +25,9 @@ silent=$(ls crates/*/src/*.rt | grep -vE '^crates/(show|vectors|build_vectors|di
     in_head && /^ *ensures/ { said = 1 }
     in_head && /\{ *$/ { if (!said) print "entries: no ensures: " name; in_head = 0 }')
 [ -z "$silent" ] || { echo "$silent"; bad=1; }
+# The crates of the entries have no `requires` at all.
+if grep -nE '^ *requires' crates/bs_sched/src/*.rt crates/bs_sched_c/src/*.rt; then
+    bad=1
+fi
 [ "$bad" = 0 ] || exit 1
 echo "entries: $count entries, none with a requires; every pub function has an ensures"

@@ -54,14 +54,9 @@ module _ (κs : Lifetimes.Lfts 2) where
       Clauses.AtExit (Kinds.endedOf 2 kinds result) κs) → (w : World.World) → World.Pr w
   ensures = λ a g r s w. queue_is_sound.clauses (w .𝓤) (w .H) (w .𝓖 .A) (w .𝓜 .mem) (w .𝓡 .run) κs a .ensures g r s
 
-  abbrev pub requires-1·read : (a : World.ArgsD queue_is_sound.signature κs) → (g : Ghost) → Read.Read (World.In queue_is_sound.signature κs a)
-      Read.no-know λ w. queue_is_sound.requires-1 (w .𝓤) (w .H) κs (w .𝓖 .A) (w .𝓜 .mem) (w .𝓡 .run) (a .0) (a .1 .0) (a .1 .1 .0)
-  requires-1·read = λ a g. Read.all-models (λ w. queue_is_sound.requires-1 (w .𝓤) (w .H) κs (w .𝓖 .A) (w .𝓜 .mem) (w .𝓡 .run) (a .0) (a .1 .0) (a .1
-      .1 .0)) (λ w. Read.r-last _) (λ w. Path'.refl) (λ w. Path'.refl) λ w. Path'.refl
-
   abbrev pub pre-read : (a : World.ArgsD queue_is_sound.signature κs) → (g : Ghost) → Read.Read (World.In queue_is_sound.signature κs a) Read.no-know
       (requires a g)
-  pre-read = λ a g. requires-1·read a g
+  pre-read = λ a g. Read.all-models (requires a g) (λ w. Read.r-top) (λ w. Path'.refl) (λ w. Path'.refl) λ w. Path'.refl
 
   abbrev pub ensures-1·read : (a : World.ArgsD queue_is_sound.signature κs) → (g : Ghost) → (r : World.ResD queue_is_sound.signature κs) → (s :
       Clauses.AtExit (Kinds.endedOf 2 kinds result) κs) → Read.Read (Base a) (Owned r s) λ w. queue_is_sound.ensures-1 (w .𝓤) (w .H) κs (w .𝓖 .A) (w

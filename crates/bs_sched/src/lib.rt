@@ -16,15 +16,15 @@ use uplink::PhyBlockNum;
 ghost use mathlib.Core.Path.{_≡_};
 ghost use mathlib.Core.Bool.{true, false};
 ghost use mathlib.Core.List.{[]};
-ghost use lib.ListN.{set, length};
+ghost use lib.ListN.{set};
 ghost use Rattle.dl_record.specs.Record.{emptyRecord};
-ghost use Rattle.dl_queue.specs.Questions.{soundPlace, soundQueue};
+ghost use Rattle.dl_queue.specs.Questions.{soundPlace};
 ghost use Rattle.sched_core.specs.declared.Reply.{Reply};
 ghost use Rattle.sched_core.specs.declared.RequestReply.{RequestReply};
 ghost use Rattle.sched_core.specs.declared.BuildReply.{BuildReply};
 ghost use Rattle.sched_core.specs.Questions.{memory};
 ghost use Rattle.sched_core.specs.Calls.{answerOf, outcome, newCall, advanceCall, ownerCall, usageCall, requestCall, ackCall, tmaCall, buildCall};
-ghost use Rattle.bs_sched.specs.Queue.{first64, copied};
+ghost use Rattle.bs_sched.specs.Queue.{soundOver, first64, copied};
 ghost use Rattle.bs_sched.specs.Entries.{requestAnswerOf, buildAnswerOf, buildLeft, leftBy};
 
 // What a build answers: the reply, the tags of the records that are finished, and the station after the call.
@@ -63,11 +63,17 @@ fn unfilled_is_sound(r: Record, cell: &[u8]) -> bool
     dl_queue::unfilled_is_sound(r, cell)
 }
 
-// Question 1 for the records and the cells. A timeslot's filled places come first, so each kind of place has a loop of its own.
+// Question 1 for the records and the cells, no for other lengths than question 2 asks for. A timeslot's filled places come first, so
+// each kind of place has a loop of its own.
 pub fn queue_is_sound(counts: [u8; 4], queue: &[Record], store: &[u8]) -> bool
-    requires { ⌜ (length (now queue) ≡ 64) × (length (now store) ≡ 16384) ⌝ }
-    ensures { λ b. ⌜ b ≡ soundQueue counts (now (queue .entry)) (now (store .entry)) ⌝ }
+    ensures { λ b. ⌜ b ≡ soundOver counts (now (queue .entry)) (now (store .entry)) ⌝ }
 {
+    if queue.len() != 64 {
+        return false;
+    }
+    if store.len() != 16384 {
+        return false;
+    }
     for t in 0..4 {
         let n = counts[t] as usize;
         if 16 < n {

@@ -1,7 +1,7 @@
 -- `bs_sched::dl_build_block` meets its contract, by its derivation (`Proof/Lts.antt`): the questions, then nothing to build, or the build on the queue's records.
 mod Lts
 mod Tie
-use mathlib.Core.Path.{_≡_, ap, _∙_}
+use mathlib.Core.Path.{_≡_, ap, _∙_, sym}
 use mathlib.Core.Bool.{true}
 use mathlib.Core.List.{List}
 use borrow.Author.Needs.{needs}
@@ -11,7 +11,7 @@ use Rattle.sched_core.specs.Questions.{Memory, memory, soundStation}
 use Rattle.sched_core.proofs.AskLaws.{said-no, said-yes}
 use Rattle.sched_core.proofs.QuestionLaws.{queue-not-64, store-not-16384}
 use Rattle.bs_sched.proofs.EntryLaws.{build-saved, build-unsound, build-lengths, build-not-34, build-queue-unsound, build-nothing}
-use Rattle.bs_sched.proofs.QueueLaws.{first64-whole}
+use Rattle.bs_sched.proofs.QueueLaws.{first64-whole, sound-over}
 use Rattle.bs_sched.proofs.dl_build_block.Statement.{statement}
 use Rattle.bs_sched.proofs.dl_build_block.Proof.Tie as tie
 
@@ -48,9 +48,6 @@ returns-4 c =
     let s = e .before .before .before .before in
     rw (c .build-refused4 .ensures) (build-not-34 (all s) _ (sound e) (k .before .if2 .left) (k .if3 .left) (c .before .if4 .taken))
 
-queue-is-sound-requires : tie.Need-queue-is-sound-requires
-queue-is-sound-requires c κs = let e = c .before .before .before in (e .before .before .if2 .left, e .before .if3 .left)
-
 returns-5 : tie.Need-returns-5
 returns-5 c =
     let q = c .before .before in
@@ -58,7 +55,7 @@ returns-5 c =
     let k = e .before .before .before in
     let s = k .before .before .before .before in
     rw (c .build-refused5 .ensures)
-    (build-queue-unsound (all s) _ (sound k) (e .before .before .if2 .left) (e .before .if3 .left) (e .if4 .left) (said-no (q .queue-is-sound .ensures) (c .before .if5 .taken)))
+    (build-queue-unsound (all s) _ (sound k) (e .before .before .if2 .left) (e .before .if3 .left) (e .if4 .left) (said-no (q .queue-is-sound .ensures ∙ sym (sound-over _ _ _ (e .before .before .if2 .left) (e .before .if3 .left))) (c .before .if5 .taken)))
 
 builds-now-requires : tie.Need-builds-now-requires
 builds-now-requires c κs = sound (c .before .before .before .before .before .before .before .before)
@@ -71,7 +68,7 @@ returns-6 c =
     let k = e .before .before .before in
     let s = k .before .before .before .before in
     rw (c .no-block .ensures)
-    (build-nothing (all s) _ (sound k) (e .before .before .if2 .left) (e .before .if3 .left) (e .if4 .left) (said-yes (q .queue-is-sound .ensures) (n .before .if5 .left))
+    (build-nothing (all s) _ (sound k) (e .before .before .if2 .left) (e .before .if3 .left) (e .if4 .left) (said-yes (q .queue-is-sound .ensures ∙ sym (sound-over _ _ _ (e .before .before .if2 .left) (e .before .if3 .left))) (n .before .if5 .left))
     (said-no (n .builds-now .ensures) (c .before .if6 .taken)))
 
 build-sound-requires : tie.Need-build-sound-requires
@@ -84,7 +81,7 @@ build-sound-requires c κs =
     let s = k .before .before .before .before in (
       (sound k, e .before .if3 .left, e .if4 .left),
       ap (λ (x : List Record). soundQueue (s .args .s .queued) x (s .args .store .now)) (l .load-64 .ensures ∙ first64-whole (s .args .queue .now) (e .before .before .if2 .left))
-          ∙ said-yes (q .queue-is-sound .ensures) (f .if5 .left),
+          ∙ said-yes (q .queue-is-sound .ensures ∙ sym (sound-over _ _ _ (e .before .before .if2 .left) (e .before .if3 .left))) (f .if5 .left),
     )
 
 returns-7 : tie.Need-returns-7
@@ -99,6 +96,6 @@ returns-7 c =
 pub dl-build-block-spec : {M : Type 1} → statement M
 dl-build-block-spec =
     tie.close
-    (tie.spec (λ c κs. search needs) (λ c κs. search needs) returns (λ c κs. search needs) returns-2 (λ c κs. search needs) returns-3 (λ c κs. search needs) returns-4 queue-is-sound-requires
+    (tie.spec (λ c κs. search needs) (λ c κs. search needs) returns (λ c κs. search needs) returns-2 (λ c κs. search needs) returns-3 (λ c κs. search needs) returns-4 (λ c κs. search needs)
     (λ c κs. search needs) (λ c. search needs) (λ c. search needs) returns-5 builds-now-requires (λ c κs. search needs) (λ c. search needs) (λ c. search needs) returns-6 (λ c κs. search needs)
     build-sound-requires (λ c κs. search needs) (λ c. search needs) (λ c. search needs) (λ c. search needs) returns-7)

@@ -14,6 +14,8 @@ use Rattle.dl_record.specs.declared.Record.{Record}
 use Rattle.dl_record.specs.Record.{emptyRecord}
 use Rattle.dl_queue.specs.Questions.{soundPlace, soundPlaces, soundQueue}
 use Rattle.dl_queue.proofs.PlaceLaws.{queue-many, queue-fail, queue-pass, queue-done, queue-seen, places-start, places-pass, places-fail, places-done, place-seen}
+use Rattle.bs_sched.specs.Queue.{soundOver}
+use Rattle.bs_sched.proofs.QueueLaws.{sound-over, other-queue, other-store}
 use Rattle.bs_sched.proofs.queue_is_sound.Statement.{statement}
 use Rattle.bs_sched.proofs.queue_is_sound.Proof.Tie as tie
 
@@ -80,39 +82,52 @@ unfilled-next : (counts : List ℕ) (queue : List Record) (store : List ℕ) (t 
 unfilled-next counts queue store t n i e places =
     (places .0, places .1, places .2, ap (λ (m : ℕ). soundPlaces (16 - m) (n - m) (drop (16 * t + m) queue) (drop (256 * (16 * t + m)) store)) (sym e) ∙ places .3)
 
-loop-holds : tie.Need-loop-holds Inv-loop2 μ-loop2 Inv-loop3 μ-loop3 Inv-loop μ-loop
-loop-holds c = (omega arith, (search needs, search needs, refl))
+-- behind the questions about the lengths
+told : (c : tie.Else2 Inv-loop2 μ-loop2 Inv-loop3 μ-loop3 Inv-loop μ-loop)
+    → let a = c .before .before .before .args in
+    soundQueue (a .t1) (a .queue .now) (a .store .now) ≡ soundOver (a .t1) (a .queue .now) (a .store .now)
+told c = let a = c .before .before .before .args in sound-over (a .t1) (a .queue .now) (a .store .now) (c .before .if1 .left) (c .if2 .left)
 
 returns : tie.Need-returns Inv-loop2 μ-loop2 Inv-loop3 μ-loop3 Inv-loop μ-loop
-returns c =
+returns c = let a = c .before .before .args in other-queue (a .t1) (a .queue .now) (a .store .now) (c .if1 .taken)
+
+returns-2 : tie.Need-returns-2 Inv-loop2 μ-loop2 Inv-loop3 μ-loop3 Inv-loop μ-loop
+returns-2 c = let a = c .before .before .before .args in other-store (a .t1) (a .queue .now) (a .store .now) (c .before .if1 .left) (c .if2 .taken)
+
+loop-holds : tie.Need-loop-holds Inv-loop2 μ-loop2 Inv-loop3 μ-loop3 Inv-loop μ-loop
+loop-holds c = (omega arith, (search needs, c .before .if1 .left, refl))
+
+returns-3 : tie.Need-returns-3 Inv-loop2 μ-loop2 Inv-loop3 μ-loop3 Inv-loop μ-loop
+returns-3 c =
     let l = c .before .before in
-    let a = l .before .before .args in
-    queue-many (a .t1) (a .queue .now) (a .store .now) (l .loop .t) (omega (arith, l .loop .inv .1 .0)) (c .if1 .taken) ∙ l .loop .inv .1 .2
+    let a = l .before .before .before .before .args in
+    queue-many (a .t1) (a .queue .now) (a .store .now) (l .loop .t) (omega (arith, l .loop .inv .1 .0)) (c .if3 .taken) ∙ l .loop .inv .1 .2 ∙ told (l .before)
 
 loop2-holds : tie.Need-loop2-holds Inv-loop2 μ-loop2 Inv-loop3 μ-loop3 Inv-loop μ-loop
 loop2-holds c =
     let l = c .before .before in
-    let a = l .before .before .args in
+    let a = l .before .before .before .before .args in
     let n : ℕ = getD (a .t1) (l .loop .t) 0 in
-    (omega arith, l .loop .inv .1, (omega arith, refl, omega (arith, c .if1 .left), places-start n (a .queue .now) (a .store .now) (16 * l .loop .t) ∙ queue-seen n (a .queue .now) (a .store .now) (l .loop .t)))
+    (omega arith, l .loop .inv .1, (omega arith, refl, omega (arith, c .if3 .left), places-start n (a .queue .now) (a .store .now) (16 * l .loop .t) ∙ queue-seen n (a .queue .now) (a .store .now) (l .loop .t)))
 
-returns-2 : tie.Need-returns-2 Inv-loop2 μ-loop2 Inv-loop3 μ-loop3 Inv-loop μ-loop
-returns-2 c =
+returns-4 : tie.Need-returns-4 Inv-loop2 μ-loop2 Inv-loop3 μ-loop3 Inv-loop μ-loop
+returns-4 c =
     let k = c .before .before .before .before .before in
     let l = k .before .before .before in
-    let a = l .before .before .args in
+    let a = l .before .before .before .before .args in
     let n : ℕ = getD (a .t1) (l .loop .t) 0 in
     let i : ℕ = k .loop2 .i in
     let h : i < 16 = omega (arith, k .loop2 .inv .2 .2) in
     fails (a .t1) (a .queue .now) (a .store .now) (l .loop .t) n i h (k .loop2 .inv .1) (k .loop2 .inv .2)
     (seen (a .t1) (a .queue .now) (a .store .now) (l .loop .t) n i h (k .loop2 .inv .1) (k .loop2 .inv .2) true (lt-ltb i n (omega arith)) _ _ (c .before .filled-is-sound .ensures)
-    ∙ not-true _ (c .if2 .taken))
+    ∙ not-true _ (c .if4 .taken))
+    ∙ told (l .before)
 
 loop2-again : tie.Need-loop2-again Inv-loop2 μ-loop2 Inv-loop3 μ-loop3 Inv-loop μ-loop
 loop2-again c =
     let k = c .before .before .before .before .before in
     let l = k .before .before .before in
-    let a = l .before .before .args in
+    let a = l .before .before .before .before .args in
     let n : ℕ = getD (a .t1) (l .loop .t) 0 in
     let i : ℕ = k .loop2 .i in
     let h : i < 16 = omega (arith, k .loop2 .inv .2 .2) in (
@@ -120,35 +135,36 @@ loop2-again c =
       k .loop2 .inv .1,
       goes-on (a .t1) (a .queue .now) (a .store .now) (l .loop .t) n i h (k .loop2 .inv .1) (k .loop2 .inv .2)
           (seen (a .t1) (a .queue .now) (a .store .now) (l .loop .t) n i h (k .loop2 .inv .1) (k .loop2 .inv .2) true (lt-ltb i n (omega arith)) _ _ (c .before .filled-is-sound .ensures)
-          ∙ not-false _ (c .if2 .left)),
+          ∙ not-false _ (c .if4 .left)),
     )
 
 loop3-holds : tie.Need-loop3-holds Inv-loop2 μ-loop2 Inv-loop3 μ-loop3 Inv-loop μ-loop
 loop3-holds c =
     let k = c .before in
     let l = k .before .before .before in
-    let a = l .before .before .args in
+    let a = l .before .before .before .before .args in
     let n : ℕ = getD (a .t1) (l .loop .t) 0 in
     let e : k .loop2 .i ≡ n = omega (arith, k .loop2 .inv .0, c .loop2-test .left) in
     ((omega arith, k .loop2 .inv .2 .2), k .loop2 .inv .1, unfilled-next (a .t1) (a .queue .now) (a .store .now) (l .loop .t) n (k .loop2 .i) e (k .loop2 .inv .2))
 
-returns-3 : tie.Need-returns-3 Inv-loop2 μ-loop2 Inv-loop3 μ-loop3 Inv-loop μ-loop
-returns-3 c =
+returns-5 : tie.Need-returns-5 Inv-loop2 μ-loop2 Inv-loop3 μ-loop3 Inv-loop μ-loop
+returns-5 c =
     let k = c .before .before .before .before .before in
     let l = k .before .before .before .before .before in
-    let a = l .before .before .args in
+    let a = l .before .before .before .before .args in
     let n : ℕ = getD (a .t1) (l .loop .t) 0 in
     let j : ℕ = k .loop3 .j in
     let h : j < 16 = omega arith in
     fails (a .t1) (a .queue .now) (a .store .now) (l .loop .t) n j h (k .loop3 .inv .1) (k .loop3 .inv .2)
     (seen (a .t1) (a .queue .now) (a .store .now) (l .loop .t) n j h (k .loop3 .inv .1) (k .loop3 .inv .2) false (le-ltb j n (k .loop3 .inv .0 .0)) _ _ (c .before .unfilled-is-sound .ensures)
-    ∙ not-true _ (c .if3 .taken))
+    ∙ not-true _ (c .if5 .taken))
+    ∙ told (l .before)
 
 loop3-again : tie.Need-loop3-again Inv-loop2 μ-loop2 Inv-loop3 μ-loop3 Inv-loop μ-loop
 loop3-again c =
     let k = c .before .before .before .before .before in
     let l = k .before .before .before .before .before in
-    let a = l .before .before .args in
+    let a = l .before .before .before .before .args in
     let n : ℕ = getD (a .t1) (l .loop .t) 0 in
     let j : ℕ = k .loop3 .j in
     let h : j < 16 = omega arith in (
@@ -156,14 +172,14 @@ loop3-again c =
       k .loop3 .inv .1,
       goes-on (a .t1) (a .queue .now) (a .store .now) (l .loop .t) n j h (k .loop3 .inv .1) (k .loop3 .inv .2)
           (seen (a .t1) (a .queue .now) (a .store .now) (l .loop .t) n j h (k .loop3 .inv .1) (k .loop3 .inv .2) false (le-ltb j n (k .loop3 .inv .0 .0)) _ _ (c .before .unfilled-is-sound .ensures)
-          ∙ not-false _ (c .if3 .left)),
+          ∙ not-false _ (c .if5 .left)),
     )
 
 loop-again : tie.Need-loop-again Inv-loop2 μ-loop2 Inv-loop3 μ-loop3 Inv-loop μ-loop
 loop-again c =
     let k = c .before in
     let l = k .before .before .before .before .before in
-    let a = l .before .before .args in
+    let a = l .before .before .before .before .args in
     let t : ℕ = l .loop .t in
     let x = k .loop3 .inv in (
       omega (arith, x .2 .0),
@@ -174,17 +190,13 @@ loop-again c =
       ),
     )
 
-returns-4 : tie.Need-returns-4 Inv-loop2 μ-loop2 Inv-loop3 μ-loop3 Inv-loop μ-loop
-returns-4 c =
+returns-6 : tie.Need-returns-6 Inv-loop2 μ-loop2 Inv-loop3 μ-loop3 Inv-loop μ-loop
+returns-6 c =
     let l = c .before in
-    let a = l .before .before .args in
-    queue-done (a .t1) _ _ (l .loop .t) (omega (arith, l .loop .inv .1 .0)) ∙ l .loop .inv .1 .2
+    let a = l .before .before .before .before .args in
+    queue-done (a .t1) _ _ (l .loop .t) (omega (arith, l .loop .inv .1 .0)) ∙ l .loop .inv .1 .2 ∙ told (l .before)
 
 pub queue-is-sound-spec : {M : Type 1} → statement M
 queue-is-sound-spec =
     tie.close
-    (tie.spec Inv-loop2 μ-loop2 Inv-loop3 μ-loop3 Inv-loop μ-loop loop-holds (λ c. search needs) (λ c. search needs) returns loop2-holds (λ c. search needs) (λ c. search needs)
-    (λ c. search needs) (λ c. search needs) (λ c. search needs) (λ c. search needs) (λ c. search needs) (λ c. search needs) (λ c. search needs) (λ c κs. search needs) returns-2
-    (λ c. search needs) (λ c. search needs) loop2-again loop3-holds (λ c. search needs) (λ c. search needs) (λ c. search needs) (λ c. search needs) (λ c. search needs) (λ c. search needs)
-    (λ c. search needs) (λ c. search needs) (λ c. search needs) (λ c κs. search needs) returns-3 (λ c. search needs) (λ c. search needs) loop3-again (λ c. search needs)
-    (λ c. search needs) loop-again returns-4)
+    (tie.spec Inv-loop2 μ-loop2 Inv-loop3 μ-loop3 Inv-loop μ-loop returns returns-2 loop-holds (λ c. search needs) (λ c. search needs) returns-3 loop2-holds (λ c. search needs) (λ c. search needs) (λ c. search needs) (λ c. search needs) (λ c. search needs) (λ c. search needs) (λ c. search needs) (λ c. search needs) (λ c. search needs) (λ c κs. search needs) returns-4 (λ c. search needs) (λ c. search needs) loop2-again loop3-holds (λ c. search needs) (λ c. search needs) (λ c. search needs) (λ c. search needs) (λ c. search needs) (λ c. search needs) (λ c. search needs) (λ c. search needs) (λ c. search needs) (λ c κs. search needs) returns-5 (λ c. search needs) (λ c. search needs) loop3-again (λ c. search needs) (λ c. search needs) loop-again returns-6)

@@ -42,6 +42,22 @@ abbrev pub After-shared-slice-known : (Inv : InvT-loop2) → (μ : MeasureT-loop
 After-shared-slice-known = λ Inv μ Inv' μ' Inv'' μ''. Lts.After-shared-slice-known (Reads.Asked, Reads.Learnt, Reads''.Asked, Reads''.Learnt)
     Kinds.Pre Kinds.Post Inv μ Inv' μ' Inv'' μ''
 
+abbrev pub Then1 : (Inv : InvT-loop2) → (μ : MeasureT-loop2) → (Inv : InvT-loop3) → (μ : MeasureT-loop3) → (Inv : InvT-loop) → (μ : MeasureT-loop) →
+    Type 0
+Then1 = λ Inv μ Inv' μ' Inv'' μ''. Lts.Then1 (Reads.Asked, Reads.Learnt, Reads''.Asked, Reads''.Learnt) Kinds.Pre Kinds.Post Inv μ Inv' μ' Inv'' μ''
+
+abbrev pub Else1 : (Inv : InvT-loop2) → (μ : MeasureT-loop2) → (Inv : InvT-loop3) → (μ : MeasureT-loop3) → (Inv : InvT-loop) → (μ : MeasureT-loop) →
+    Type 0
+Else1 = λ Inv μ Inv' μ' Inv'' μ''. Lts.Else1 (Reads.Asked, Reads.Learnt, Reads''.Asked, Reads''.Learnt) Kinds.Pre Kinds.Post Inv μ Inv' μ' Inv'' μ''
+
+abbrev pub Then2 : (Inv : InvT-loop2) → (μ : MeasureT-loop2) → (Inv : InvT-loop3) → (μ : MeasureT-loop3) → (Inv : InvT-loop) → (μ : MeasureT-loop) →
+    Type 0
+Then2 = λ Inv μ Inv' μ' Inv'' μ''. Lts.Then2 (Reads.Asked, Reads.Learnt, Reads''.Asked, Reads''.Learnt) Kinds.Pre Kinds.Post Inv μ Inv' μ' Inv'' μ''
+
+abbrev pub Else2 : (Inv : InvT-loop2) → (μ : MeasureT-loop2) → (Inv : InvT-loop3) → (μ : MeasureT-loop3) → (Inv : InvT-loop) → (μ : MeasureT-loop) →
+    Type 0
+Else2 = λ Inv μ Inv' μ' Inv'' μ''. Lts.Else2 (Reads.Asked, Reads.Learnt, Reads''.Asked, Reads''.Learnt) Kinds.Pre Kinds.Post Inv μ Inv' μ' Inv'' μ''
+
 abbrev pub At-loop : (Inv : InvT-loop2) → (μ : MeasureT-loop2) → (Inv : InvT-loop3) → (μ : MeasureT-loop3) → (Inv : InvT-loop) → (μ : MeasureT-loop) →
     Type 0
 At-loop = λ Inv μ Inv' μ' Inv'' μ''. Lts.At-loop (Reads.Asked, Reads.Learnt, Reads''.Asked, Reads''.Learnt) Kinds.Pre Kinds.Post Inv μ Inv' μ' Inv''
@@ -57,13 +73,13 @@ abbrev pub After-loop : (Inv : InvT-loop2) → (μ : MeasureT-loop2) → (Inv : 
 After-loop = λ Inv μ Inv' μ' Inv'' μ''. Lts.After-loop (Reads.Asked, Reads.Learnt, Reads''.Asked, Reads''.Learnt) Kinds.Pre Kinds.Post Inv μ Inv' μ'
     Inv'' μ''
 
-abbrev pub Then1 : (Inv : InvT-loop2) → (μ : MeasureT-loop2) → (Inv : InvT-loop3) → (μ : MeasureT-loop3) → (Inv : InvT-loop) → (μ : MeasureT-loop) →
+abbrev pub Then3 : (Inv : InvT-loop2) → (μ : MeasureT-loop2) → (Inv : InvT-loop3) → (μ : MeasureT-loop3) → (Inv : InvT-loop) → (μ : MeasureT-loop) →
     Type 0
-Then1 = λ Inv μ Inv' μ' Inv'' μ''. Lts.Then1 (Reads.Asked, Reads.Learnt, Reads''.Asked, Reads''.Learnt) Kinds.Pre Kinds.Post Inv μ Inv' μ' Inv'' μ''
+Then3 = λ Inv μ Inv' μ' Inv'' μ''. Lts.Then3 (Reads.Asked, Reads.Learnt, Reads''.Asked, Reads''.Learnt) Kinds.Pre Kinds.Post Inv μ Inv' μ' Inv'' μ''
 
-abbrev pub Else1 : (Inv : InvT-loop2) → (μ : MeasureT-loop2) → (Inv : InvT-loop3) → (μ : MeasureT-loop3) → (Inv : InvT-loop) → (μ : MeasureT-loop) →
+abbrev pub Else3 : (Inv : InvT-loop2) → (μ : MeasureT-loop2) → (Inv : InvT-loop3) → (μ : MeasureT-loop3) → (Inv : InvT-loop) → (μ : MeasureT-loop) →
     Type 0
-Else1 = λ Inv μ Inv' μ' Inv'' μ''. Lts.Else1 (Reads.Asked, Reads.Learnt, Reads''.Asked, Reads''.Learnt) Kinds.Pre Kinds.Post Inv μ Inv' μ' Inv'' μ''
+Else3 = λ Inv μ Inv' μ' Inv'' μ''. Lts.Else3 (Reads.Asked, Reads.Learnt, Reads''.Asked, Reads''.Learnt) Kinds.Pre Kinds.Post Inv μ Inv' μ' Inv'' μ''
 
 abbrev pub At-loop2 : (Inv : InvT-loop2) → (μ : MeasureT-loop2) → (Inv : InvT-loop3) → (μ : MeasureT-loop3) → (Inv : InvT-loop) → (μ : MeasureT-loop)
     → Type 0
@@ -95,13 +111,13 @@ abbrev pub After-filled-is-sound : (Inv : InvT-loop2) → (μ : MeasureT-loop2) 
 After-filled-is-sound = λ Inv μ Inv' μ' Inv'' μ''. Lts.After-filled-is-sound (Reads.Asked, Reads.Learnt, Reads''.Asked, Reads''.Learnt) Kinds.Pre
     Kinds.Post Inv μ Inv' μ' Inv'' μ''
 
-abbrev pub Then2 : (Inv : InvT-loop2) → (μ : MeasureT-loop2) → (Inv : InvT-loop3) → (μ : MeasureT-loop3) → (Inv : InvT-loop) → (μ : MeasureT-loop) →
+abbrev pub Then4 : (Inv : InvT-loop2) → (μ : MeasureT-loop2) → (Inv : InvT-loop3) → (μ : MeasureT-loop3) → (Inv : InvT-loop) → (μ : MeasureT-loop) →
     Type 0
-Then2 = λ Inv μ Inv' μ' Inv'' μ''. Lts.Then2 (Reads.Asked, Reads.Learnt, Reads''.Asked, Reads''.Learnt) Kinds.Pre Kinds.Post Inv μ Inv' μ' Inv'' μ''
+Then4 = λ Inv μ Inv' μ' Inv'' μ''. Lts.Then4 (Reads.Asked, Reads.Learnt, Reads''.Asked, Reads''.Learnt) Kinds.Pre Kinds.Post Inv μ Inv' μ' Inv'' μ''
 
-abbrev pub Else2 : (Inv : InvT-loop2) → (μ : MeasureT-loop2) → (Inv : InvT-loop3) → (μ : MeasureT-loop3) → (Inv : InvT-loop) → (μ : MeasureT-loop) →
+abbrev pub Else4 : (Inv : InvT-loop2) → (μ : MeasureT-loop2) → (Inv : InvT-loop3) → (μ : MeasureT-loop3) → (Inv : InvT-loop) → (μ : MeasureT-loop) →
     Type 0
-Else2 = λ Inv μ Inv' μ' Inv'' μ''. Lts.Else2 (Reads.Asked, Reads.Learnt, Reads''.Asked, Reads''.Learnt) Kinds.Pre Kinds.Post Inv μ Inv' μ' Inv'' μ''
+Else4 = λ Inv μ Inv' μ' Inv'' μ''. Lts.Else4 (Reads.Asked, Reads.Learnt, Reads''.Asked, Reads''.Learnt) Kinds.Pre Kinds.Post Inv μ Inv' μ' Inv'' μ''
 
 abbrev pub At-loop3 : (Inv : InvT-loop2) → (μ : MeasureT-loop2) → (Inv : InvT-loop3) → (μ : MeasureT-loop3) → (Inv : InvT-loop) → (μ : MeasureT-loop)
     → Type 0
@@ -133,13 +149,23 @@ abbrev pub After-unfilled-is-sound : (Inv : InvT-loop2) → (μ : MeasureT-loop2
 After-unfilled-is-sound = λ Inv μ Inv' μ' Inv'' μ''. Lts.After-unfilled-is-sound (Reads.Asked, Reads.Learnt, Reads''.Asked, Reads''.Learnt) Kinds.Pre
     Kinds.Post Inv μ Inv' μ' Inv'' μ''
 
-abbrev pub Then3 : (Inv : InvT-loop2) → (μ : MeasureT-loop2) → (Inv : InvT-loop3) → (μ : MeasureT-loop3) → (Inv : InvT-loop) → (μ : MeasureT-loop) →
+abbrev pub Then5 : (Inv : InvT-loop2) → (μ : MeasureT-loop2) → (Inv : InvT-loop3) → (μ : MeasureT-loop3) → (Inv : InvT-loop) → (μ : MeasureT-loop) →
     Type 0
-Then3 = λ Inv μ Inv' μ' Inv'' μ''. Lts.Then3 (Reads.Asked, Reads.Learnt, Reads''.Asked, Reads''.Learnt) Kinds.Pre Kinds.Post Inv μ Inv' μ' Inv'' μ''
+Then5 = λ Inv μ Inv' μ' Inv'' μ''. Lts.Then5 (Reads.Asked, Reads.Learnt, Reads''.Asked, Reads''.Learnt) Kinds.Pre Kinds.Post Inv μ Inv' μ' Inv'' μ''
 
-abbrev pub Else3 : (Inv : InvT-loop2) → (μ : MeasureT-loop2) → (Inv : InvT-loop3) → (μ : MeasureT-loop3) → (Inv : InvT-loop) → (μ : MeasureT-loop) →
+abbrev pub Else5 : (Inv : InvT-loop2) → (μ : MeasureT-loop2) → (Inv : InvT-loop3) → (μ : MeasureT-loop3) → (Inv : InvT-loop) → (μ : MeasureT-loop) →
     Type 0
-Else3 = λ Inv μ Inv' μ' Inv'' μ''. Lts.Else3 (Reads.Asked, Reads.Learnt, Reads''.Asked, Reads''.Learnt) Kinds.Pre Kinds.Post Inv μ Inv' μ' Inv'' μ''
+Else5 = λ Inv μ Inv' μ' Inv'' μ''. Lts.Else5 (Reads.Asked, Reads.Learnt, Reads''.Asked, Reads''.Learnt) Kinds.Pre Kinds.Post Inv μ Inv' μ' Inv'' μ''
+
+abbrev pub Need-returns : (Inv : InvT-loop2) → (μ : MeasureT-loop2) → (Inv : InvT-loop3) → (μ : MeasureT-loop3) → (Inv : InvT-loop) → (μ :
+    MeasureT-loop) → Type 0
+Need-returns = λ Inv μ Inv' μ' Inv'' μ''. Lts.Need-returns (Reads.Asked, Reads.Learnt, Reads''.Asked, Reads''.Learnt) Kinds.Pre Kinds.Post Inv μ Inv'
+    μ' Inv'' μ''
+
+abbrev pub Need-returns-2 : (Inv : InvT-loop2) → (μ : MeasureT-loop2) → (Inv : InvT-loop3) → (μ : MeasureT-loop3) → (Inv : InvT-loop) → (μ :
+    MeasureT-loop) → Type 0
+Need-returns-2 = λ Inv μ Inv' μ' Inv'' μ''. Lts.Need-returns-2 (Reads.Asked, Reads.Learnt, Reads''.Asked, Reads''.Learnt) Kinds.Pre Kinds.Post Inv μ
+    Inv' μ' Inv'' μ''
 
 abbrev pub Need-loop-holds : (Inv : InvT-loop2) → (μ : MeasureT-loop2) → (Inv : InvT-loop3) → (μ : MeasureT-loop3) → (Inv : InvT-loop) → (μ :
     MeasureT-loop) → Type 0
@@ -156,10 +182,10 @@ abbrev pub Need-cast-n : (Inv : InvT-loop2) → (μ : MeasureT-loop2) → (Inv :
 Need-cast-n = λ Inv μ Inv' μ' Inv'' μ''. Lts.Need-cast-n (Reads.Asked, Reads.Learnt, Reads''.Asked, Reads''.Learnt) Kinds.Pre Kinds.Post Inv μ Inv' μ'
     Inv'' μ''
 
-abbrev pub Need-returns : (Inv : InvT-loop2) → (μ : MeasureT-loop2) → (Inv : InvT-loop3) → (μ : MeasureT-loop3) → (Inv : InvT-loop) → (μ :
+abbrev pub Need-returns-3 : (Inv : InvT-loop2) → (μ : MeasureT-loop2) → (Inv : InvT-loop3) → (μ : MeasureT-loop3) → (Inv : InvT-loop) → (μ :
     MeasureT-loop) → Type 0
-Need-returns = λ Inv μ Inv' μ' Inv'' μ''. Lts.Need-returns (Reads.Asked, Reads.Learnt, Reads''.Asked, Reads''.Learnt) Kinds.Pre Kinds.Post Inv μ Inv'
-    μ' Inv'' μ''
+Need-returns-3 = λ Inv μ Inv' μ' Inv'' μ''. Lts.Need-returns-3 (Reads.Asked, Reads.Learnt, Reads''.Asked, Reads''.Learnt) Kinds.Pre Kinds.Post Inv μ
+    Inv' μ' Inv'' μ''
 
 abbrev pub Need-loop2-holds : (Inv : InvT-loop2) → (μ : MeasureT-loop2) → (Inv : InvT-loop3) → (μ : MeasureT-loop3) → (Inv : InvT-loop) → (μ :
     MeasureT-loop) → Type 0
@@ -228,9 +254,9 @@ Need-filled-is-sound-requires = λ Inv μ Inv' μ' Inv'' μ''. Lts.Need-filled-i
   Reads''.Learnt,
 ) Kinds.Pre Kinds.Post Inv μ Inv' μ' Inv'' μ''
 
-abbrev pub Need-returns-2 : (Inv : InvT-loop2) → (μ : MeasureT-loop2) → (Inv : InvT-loop3) → (μ : MeasureT-loop3) → (Inv : InvT-loop) → (μ :
+abbrev pub Need-returns-4 : (Inv : InvT-loop2) → (μ : MeasureT-loop2) → (Inv : InvT-loop3) → (μ : MeasureT-loop3) → (Inv : InvT-loop) → (μ :
     MeasureT-loop) → Type 0
-Need-returns-2 = λ Inv μ Inv' μ' Inv'' μ''. Lts.Need-returns-2 (Reads.Asked, Reads.Learnt, Reads''.Asked, Reads''.Learnt) Kinds.Pre Kinds.Post Inv μ
+Need-returns-4 = λ Inv μ Inv' μ' Inv'' μ''. Lts.Need-returns-4 (Reads.Asked, Reads.Learnt, Reads''.Asked, Reads''.Learnt) Kinds.Pre Kinds.Post Inv μ
     Inv' μ' Inv'' μ''
 
 abbrev pub Need-add-i : (Inv : InvT-loop2) → (μ : MeasureT-loop2) → (Inv : InvT-loop3) → (μ : MeasureT-loop3) → (Inv : InvT-loop) → (μ :
@@ -319,9 +345,9 @@ Need-unfilled-is-sound-requires = λ Inv μ Inv' μ' Inv'' μ''. Lts.Need-unfill
   Reads''.Learnt,
 ) Kinds.Pre Kinds.Post Inv μ Inv' μ' Inv'' μ''
 
-abbrev pub Need-returns-3 : (Inv : InvT-loop2) → (μ : MeasureT-loop2) → (Inv : InvT-loop3) → (μ : MeasureT-loop3) → (Inv : InvT-loop) → (μ :
+abbrev pub Need-returns-5 : (Inv : InvT-loop2) → (μ : MeasureT-loop2) → (Inv : InvT-loop3) → (μ : MeasureT-loop3) → (Inv : InvT-loop) → (μ :
     MeasureT-loop) → Type 0
-Need-returns-3 = λ Inv μ Inv' μ' Inv'' μ''. Lts.Need-returns-3 (Reads.Asked, Reads.Learnt, Reads''.Asked, Reads''.Learnt) Kinds.Pre Kinds.Post Inv μ
+Need-returns-5 = λ Inv μ Inv' μ' Inv'' μ''. Lts.Need-returns-5 (Reads.Asked, Reads.Learnt, Reads''.Asked, Reads''.Learnt) Kinds.Pre Kinds.Post Inv μ
     Inv' μ' Inv'' μ''
 
 abbrev pub Need-add-j : (Inv : InvT-loop2) → (μ : MeasureT-loop2) → (Inv : InvT-loop3) → (μ : MeasureT-loop3) → (Inv : InvT-loop) → (μ :
@@ -354,40 +380,37 @@ abbrev pub Need-loop-again : (Inv : InvT-loop2) → (μ : MeasureT-loop2) → (I
 Need-loop-again = λ Inv μ Inv' μ' Inv'' μ''. Lts.Need-loop-again (Reads.Asked, Reads.Learnt, Reads''.Asked, Reads''.Learnt) Kinds.Pre Kinds.Post Inv μ
     Inv' μ' Inv'' μ''
 
-abbrev pub Need-returns-4 : (Inv : InvT-loop2) → (μ : MeasureT-loop2) → (Inv : InvT-loop3) → (μ : MeasureT-loop3) → (Inv : InvT-loop) → (μ :
+abbrev pub Need-returns-6 : (Inv : InvT-loop2) → (μ : MeasureT-loop2) → (Inv : InvT-loop3) → (μ : MeasureT-loop3) → (Inv : InvT-loop) → (μ :
     MeasureT-loop) → Type 0
-Need-returns-4 = λ Inv μ Inv' μ' Inv'' μ''. Lts.Need-returns-4 (Reads.Asked, Reads.Learnt, Reads''.Asked, Reads''.Learnt) Kinds.Pre Kinds.Post Inv μ
+Need-returns-6 = λ Inv μ Inv' μ' Inv'' μ''. Lts.Need-returns-6 (Reads.Asked, Reads.Learnt, Reads''.Asked, Reads''.Learnt) Kinds.Pre Kinds.Post Inv μ
     Inv' μ' Inv'' μ''
 
 module _ {M : Type 1} where
   pub spec : (Inv : InvT-loop2) → (μ : MeasureT-loop2) → (Inv' : InvT-loop3) → (μ' : MeasureT-loop3) → (Inv'' : InvT-loop) → (μ'' : MeasureT-loop) →
-      (answer : Need-loop-holds Inv μ Inv' μ' Inv'' μ'') → (answer : Need-array-read-n Inv μ Inv' μ' Inv'' μ'') → (answer : Need-cast-n Inv μ Inv' μ'
-      Inv'' μ'') → (answer : Need-returns Inv μ Inv' μ' Inv'' μ'') → (answer : Need-loop2-holds Inv μ Inv' μ' Inv'' μ'') → (answer : Need-mul-p Inv μ
-      Inv' μ' Inv'' μ'') → (answer : Need-add-p Inv μ Inv' μ' Inv'' μ'') → (answer : Need-mul-r Inv μ Inv' μ' Inv'' μ'') → (answer :
-      Need-shared-slice-copy-out-r Inv μ Inv' μ' Inv'' μ'') → (answer : Need-mul-from Inv μ Inv' μ' Inv'' μ'') → (answer : Need-add-to Inv μ Inv' μ'
-      Inv'' μ'') → (answer : Need-sub-filled-is-sound Inv μ Inv' μ' Inv'' μ'') → (answer : Need-part-filled-is-sound-start Inv μ Inv' μ' Inv'' μ'') →
-      (answer : Need-part-filled-is-sound-end Inv μ Inv' μ' Inv'' μ'') → (answer : Need-filled-is-sound-requires Inv μ Inv' μ' Inv'' μ'') → (answer :
-      Need-returns-2 Inv μ Inv' μ' Inv'' μ'') → (answer : Need-add-i Inv μ Inv' μ' Inv'' μ'') → (answer : Need-loop2-less Inv μ Inv' μ' Inv'' μ'') →
-      (answer : Need-loop2-again Inv μ Inv' μ' Inv'' μ'') → (answer : Need-loop3-holds Inv μ Inv' μ' Inv'' μ'') → (answer : Need-mul-p-2 Inv μ Inv' μ'
-      Inv'' μ'') → (answer : Need-add-p-2 Inv μ Inv' μ' Inv'' μ'') → (answer : Need-mul-r-2 Inv μ Inv' μ' Inv'' μ'') → (answer :
-      Need-shared-slice-copy-out-r-2 Inv μ Inv' μ' Inv'' μ'') → (answer : Need-mul-from-2 Inv μ Inv' μ' Inv'' μ'') → (answer : Need-add-to-2 Inv μ
-      Inv' μ' Inv'' μ'') → (answer : Need-sub-unfilled-is-sound Inv μ Inv' μ' Inv'' μ'') → (answer : Need-part-unfilled-is-sound-start Inv μ Inv' μ'
-      Inv'' μ'') → (answer : Need-part-unfilled-is-sound-end Inv μ Inv' μ' Inv'' μ'') → (answer : Need-unfilled-is-sound-requires Inv μ Inv' μ' Inv''
-      μ'') → (answer : Need-returns-3 Inv μ Inv' μ' Inv'' μ'') → (answer : Need-add-j Inv μ Inv' μ' Inv'' μ'') → (answer : Need-loop3-less Inv μ Inv'
-      μ' Inv'' μ'') → (answer : Need-loop3-again Inv μ Inv' μ' Inv'' μ'') → (answer : Need-add-t Inv μ Inv' μ' Inv'' μ'') → (answer : Need-loop-less
-      Inv μ Inv' μ' Inv'' μ'') → (answer : Need-loop-again Inv μ Inv' μ' Inv'' μ'') → (answer : Need-returns-4 Inv μ Inv' μ' Inv'' μ'') → Lts.Closed
-      (Reads.Asked, Reads.Learnt, Reads''.Asked, Reads''.Learnt) Kinds.Pre Kinds.Post M
+      (answer : Need-returns Inv μ Inv' μ' Inv'' μ'') → (answer : Need-returns-2 Inv μ Inv' μ' Inv'' μ'') → (answer : Need-loop-holds Inv μ Inv' μ'
+      Inv'' μ'') → (answer : Need-array-read-n Inv μ Inv' μ' Inv'' μ'') → (answer : Need-cast-n Inv μ Inv' μ' Inv'' μ'') → (answer : Need-returns-3
+      Inv μ Inv' μ' Inv'' μ'') → (answer : Need-loop2-holds Inv μ Inv' μ' Inv'' μ'') → (answer : Need-mul-p Inv μ Inv' μ' Inv'' μ'') → (answer :
+      Need-add-p Inv μ Inv' μ' Inv'' μ'') → (answer : Need-mul-r Inv μ Inv' μ' Inv'' μ'') → (answer : Need-shared-slice-copy-out-r Inv μ Inv' μ' Inv''
+      μ'') → (answer : Need-mul-from Inv μ Inv' μ' Inv'' μ'') → (answer : Need-add-to Inv μ Inv' μ' Inv'' μ'') → (answer : Need-sub-filled-is-sound
+      Inv μ Inv' μ' Inv'' μ'') → (answer : Need-part-filled-is-sound-start Inv μ Inv' μ' Inv'' μ'') → (answer : Need-part-filled-is-sound-end Inv μ
+      Inv' μ' Inv'' μ'') → (answer : Need-filled-is-sound-requires Inv μ Inv' μ' Inv'' μ'') → (answer : Need-returns-4 Inv μ Inv' μ' Inv'' μ'') →
+      (answer : Need-add-i Inv μ Inv' μ' Inv'' μ'') → (answer : Need-loop2-less Inv μ Inv' μ' Inv'' μ'') → (answer : Need-loop2-again Inv μ Inv' μ'
+      Inv'' μ'') → (answer : Need-loop3-holds Inv μ Inv' μ' Inv'' μ'') → (answer : Need-mul-p-2 Inv μ Inv' μ' Inv'' μ'') → (answer : Need-add-p-2 Inv
+      μ Inv' μ' Inv'' μ'') → (answer : Need-mul-r-2 Inv μ Inv' μ' Inv'' μ'') → (answer : Need-shared-slice-copy-out-r-2 Inv μ Inv' μ' Inv'' μ'') →
+      (answer : Need-mul-from-2 Inv μ Inv' μ' Inv'' μ'') → (answer : Need-add-to-2 Inv μ Inv' μ' Inv'' μ'') → (answer : Need-sub-unfilled-is-sound Inv
+      μ Inv' μ' Inv'' μ'') → (answer : Need-part-unfilled-is-sound-start Inv μ Inv' μ' Inv'' μ'') → (answer : Need-part-unfilled-is-sound-end Inv μ
+      Inv' μ' Inv'' μ'') → (answer : Need-unfilled-is-sound-requires Inv μ Inv' μ' Inv'' μ'') → (answer : Need-returns-5 Inv μ Inv' μ' Inv'' μ'') →
+      (answer : Need-add-j Inv μ Inv' μ' Inv'' μ'') → (answer : Need-loop3-less Inv μ Inv' μ' Inv'' μ'') → (answer : Need-loop3-again Inv μ Inv' μ'
+      Inv'' μ'') → (answer : Need-add-t Inv μ Inv' μ' Inv'' μ'') → (answer : Need-loop-less Inv μ Inv' μ' Inv'' μ'') → (answer : Need-loop-again Inv μ
+      Inv' μ' Inv'' μ'') → (answer : Need-returns-6 Inv μ Inv' μ' Inv'' μ'') → Lts.Closed (Reads.Asked, Reads.Learnt, Reads''.Asked, Reads''.Learnt)
+      Kinds.Pre Kinds.Post M
   spec = λ Inv μ Inv'3 μ'3 Inv'4 μ'4 answer answer' answer'' answer'3 answer'4 answer'5 answer'6 answer'7 answer'8 answer'9 answer'10 answer'11
       answer'12 answer'13 answer'14 answer'15 answer'16 answer'17 answer'18 answer'19 answer'20 answer'21 answer'22 answer'23 answer'24 answer'25
-      answer'26 answer'27 answer'28 answer'29 answer'30 answer'31 answer'32 answer'33 answer'34 answer'35 answer'36 answer'37. Lts.spec (
-        Reads.Asked,
-        Reads.Learnt,
-        Reads''.Asked,
-        Reads''.Learnt,
-      ) Kinds.Pre Kinds.Post Inv μ Inv'3 μ'3 Inv'4 μ'4 answer answer' answer'' answer'3 answer'4 answer'5
-      answer'6 answer'7 answer'8 answer'9 answer'10 answer'11 answer'12 answer'13 answer'14 answer'15 answer'16 answer'17 answer'18 answer'19
-      answer'20 answer'21 answer'22 answer'23 answer'24 answer'25 answer'26 answer'27 answer'28 answer'29 answer'30 answer'31 answer'32 answer'33
-      answer'34 answer'35 answer'36 answer'37
+      answer'26 answer'27 answer'28 answer'29 answer'30 answer'31 answer'32 answer'33 answer'34 answer'35 answer'36 answer'37 answer'38 answer'39.
+      Lts.spec (Reads.Asked, Reads.Learnt, Reads''.Asked, Reads''.Learnt) Kinds.Pre Kinds.Post Inv μ Inv'3 μ'3 Inv'4 μ'4 answer answer' answer''
+      answer'3 answer'4 answer'5 answer'6 answer'7 answer'8 answer'9 answer'10 answer'11 answer'12 answer'13 answer'14 answer'15 answer'16 answer'17
+      answer'18 answer'19 answer'20 answer'21 answer'22 answer'23 answer'24 answer'25 answer'26 answer'27 answer'28 answer'29 answer'30 answer'31
+      answer'32 answer'33 answer'34 answer'35 answer'36 answer'37 answer'38 answer'39
 
   pub close : Lts.Closed (Reads.Asked, Reads.Learnt, Reads''.Asked, Reads''.Learnt) Kinds.Pre Kinds.Post M → Statement.statement M
   unfolding Code.routine Running.tablesOf
