@@ -17,7 +17,7 @@ STANDS = {
 }
 
 # The functions that read and write whole elements (`q[i]`, `q[i] = r`). In their twin the array stands wherever the struct's name does.
-LEAVES = ['put_record', 'load_64', 'queue_is_sound']
+LEAVES = ['put_record', 'load_64', 'ask_memory']
 
 # What the leaves call, of this crate: its body in their twin, any value of its type.
 LEAF_CALLS = {'empty_record': '[0u16; 22]', 'filled_is_sound': 'true', 'unfilled_is_sound': 'true'}
@@ -34,9 +34,9 @@ STUBS = {
     'put_record': '',
     'load_64': '[Record::EMPTY; 64]',
     'save_64': '',
-    'queue_is_sound': 'true',
-    'ul_process_cap_req': 'request_refused(Refusal::Unsound, s)',
-    'dl_enqueue_random_access_ack': 'refused(Refusal::Unsound, s)',
-    'dl_enqueue_tma': 'refused(Refusal::Unsound, s)',
-    'dl_build_block': 'build_refused(Refusal::Unsound, s)',
+    'ask_memory': 'Verdict::Passed',
+    'ul_process_cap_req': 'RequestAnswer { reply: RequestReply::Refused(Refusal::Unsound), station: s }',
+    'dl_enqueue_random_access_ack': 'Answer { reply: Reply::Done, station: s }',
+    'dl_enqueue_tma': 'Answer { reply: Reply::Done, station: s }',
+    'dl_build_block': 'not_built(BuildReply::NoBlock, s)',
 }

@@ -1,28 +1,27 @@
 -- An entry loads the queue, calls a body by value and saves what it answers: on a queue of 64 that is the call on the queue itself.
-use mathlib.Core.Path.{_≡_, sym, ap, _∙_}
+use mathlib.Core.Path.{_≡_, refl, sym, ap, _∙_}
 use mathlib.Core.Bool.{Bool, true, false, cond}
-use mathlib.Core.List.{List, []}
+use mathlib.Core.List.{List, [], _∷_, _++_}
 use Prim.Native.Nat.{ℕ, _*_}
 use native.Mathlib.Omega.{arith}
 use lib.ListN.{length, set}
 use lib.Seq.{length-paste}
-use borrow.Author.Tests.{ne-eqb, eq-eqb}
 use Rattle.dl_record.specs.declared.Record.{Record}
 use Rattle.dl_queue.specs.Queue.{Item, recordsOf}
-use Rattle.dl_queue.specs.Questions.{soundQueue}
 use Rattle.dl_queue.proofs.SetLaws.{length-records}
 use Rattle.sched_core.specs.declared.Station.{Station}
 use Rattle.sched_core.specs.declared.Refusal.{Refusal}
 use Rattle.sched_core.specs.declared.BuildReply.{BuildReply}
 use Rattle.sched_core.specs.declared.BuildCoreAnswer.{BuildCoreAnswer}
-use Rattle.sched_core.specs.Questions.{Memory, memory, soundStation, areLengthsRight, buildQuestions}
-use Rattle.sched_core.specs.Calls.{Outcome, outcome, BuildOutcome, notBuilt, current, buildsNow, builtNow, blockBuilt, BuildAnswered, buildCall}
-use Rattle.sched_core.proofs.AskLaws.{first-no, every-yes, ask-elim}
-use Rattle.sched_core.proofs.QuestionLaws.{right-lengths}
+use Rattle.sched_core.specs.Questions.{Memory, memory, Question, question, ask, soundStation, buildQuestions}
+use Rattle.sched_core.specs.Calls.{Outcome, outcome, judged, BuildOutcome, notBuilt, current, buildsNow, builtNow, blockBuilt, BuildAnswered, buildCall}
+use Rattle.sched_core.proofs.AskLaws.{AllYes, ask-elim}
+use Rattle.sched_core.proofs.QuestionLaws.{lengths-right}
 use Rattle.enqueue_core.specs.Plan.{SoundQueue, Planned}
+use Rattle.bs_sched.specs.declared.Verdict.{Verdict}
 use Rattle.bs_sched.specs.declared.BuildAnswer.{BuildAnswer}
 use Rattle.bs_sched.specs.Queue.{first64, copied}
-use Rattle.bs_sched.specs.Entries.{BuildLeft, buildAnswerOf, buildLeft, leftBy}
+use Rattle.bs_sched.specs.Entries.{memoryQuestions, buildAnswerOf, buildLeft, leftBy}
 use Rattle.bs_sched.proofs.QueueLaws.{first64-whole, copied-whole}
 
 module _ (q l z rs : List Record) (places : length q ≡ 64) (loaded : l ≡ first64 q) (saved : z ≡ copied rs 64 q) where
@@ -64,34 +63,62 @@ build-saved q l z d places loaded saved s st block st' block' done =
     ap (λ (x : List Record). buildLeft (answerOf d) x st' block') (saved-whole q l z (d .records) places loaded saved kept) ∙ e
     ∙ ap (λ (x : List Record). leftBy (buildCall (memory s x st) block)) whole
 
--- what a build refuses before it calls the body: an unsound station, then wrong lengths
-module _ (m : Memory) (block : List ℕ) where
-  abbrev refusal : Refusal → BuildLeft
-  refusal r = buildLeft (buildAnswerOf (BuildReply.Refused r) [] (m .station)) (m .records) (m .store) block
+-- ---- questions 1 and 2, asked apart
 
-  pub build-unsound : soundStation (m .station) ≡ false → refusal Refusal.Unsound ≡ leftBy (buildCall m block)
-  unfolding buildCall
-  build-unsound e = ap leftBy (first-no _ _ 0 (buildQuestions m block) tt e)
+-- their no is the call's
+pub asked-no : {A : Type 0} (done : A) (refused : Refusal → A) (qs own : List Question) {r : Refusal} → Verdict.No r ≡ ask qs Verdict.Passed Verdict.No
+    → refused r ≡ ask (qs ++ own) done refused
+unfolding ask
+asked-no done refused [] own e = let z : _≡_ {A = ℕ} 0 1 = cc in absurd (omega arith)
+asked-no {A} done refused (q ∷ qs) own {r} e = go (asked-no done refused qs own) (q .holds) e
+  where
+    go : (Verdict.No r ≡ ask qs Verdict.Passed Verdict.No → refused r ≡ ask (qs ++ own) done refused) → (b : Bool)
+        → Verdict.No r ≡ cond b (ask qs Verdict.Passed Verdict.No) (Verdict.No (q .refusal)) → refused r ≡ cond b (ask (qs ++ own) done refused) (refused (q .refusal))
+    go later true h = later h
+    go later false h = cc
 
-  pub build-lengths : soundStation (m .station) ≡ true → areLengthsRight m .holds ≡ false → refusal Refusal.Lengths ≡ leftBy (buildCall m block)
-  unfolding buildCall
-  build-lengths s e = ap leftBy (first-no _ _ 1 (buildQuestions m block) (tt, s) e)
+-- where each is answered yes
+pub asked-yes : (qs : List Question) → Verdict.Passed ≡ ask qs Verdict.Passed Verdict.No → AllYes qs
+unfolding ask
+asked-yes [] e = tt
+asked-yes (q ∷ qs) e = go (asked-yes qs) (q .holds) refl e
+  where
+    go : (Verdict.Passed ≡ ask qs Verdict.Passed Verdict.No → AllYes qs) → (b : Bool) → q .holds ≡ b → Verdict.Passed ≡ cond b (ask qs Verdict.Passed Verdict.No) (Verdict.No (q .refusal)) → (q .holds ≡ true) × AllYes qs
+    go later true y h = (y, later h)
+    go later false y h = let z : _≡_ {A = ℕ} 0 1 = cc in absurd (omega arith)
 
-  pub build-not-34 : soundStation (m .station) ≡ true → length (m .records) ≡ 64 → length (m .store) ≡ 16384 → (length block ≡ 34 → ⊥)
-      → refusal Refusal.Lengths ≡ leftBy (buildCall m block)
-  unfolding buildCall
-  build-not-34 s places cells other = ap leftBy (first-no _ _ 2 (buildQuestions m block) ((tt, s), right-lengths m places cells) (ne-eqb _ _ other))
+-- what they tell then
+pub record Told (s : Station) (rs : List Record) (st : List ℕ) (lent : Bool) : Type 0 where
+  pub station : soundStation s ≡ true
+  pub lengths : lent ≡ true
+  pub queue : SoundQueue s rs st
 
-  pub build-queue-unsound : soundStation (m .station) ≡ true → length (m .records) ≡ 64 → length (m .store) ≡ 16384 → length block ≡ 34 → soundQueue (m .station .queued) (m .records) (m .store) ≡ false
-      → refusal Refusal.Unsound ≡ leftBy (buildCall m block)
-  unfolding buildCall
-  build-queue-unsound s places cells width e = ap leftBy (first-no _ _ 3 (buildQuestions m block) (((tt, s), right-lengths m places cells), eq-eqb _ _ width) e)
+module _ (s : Station) (rs : List Record) (st : List ℕ) where
+  pub told : (lent : Bool) {a : Verdict} → a ≡ ask (memoryQuestions (memory s rs st) (question lent Refusal.Lengths ∷ [])) Verdict.Passed Verdict.No → a ≡ Verdict.Passed → Told s rs st lent
+  told lent e passed =
+      let yes = asked-yes (memoryQuestions (memory s rs st) (question lent Refusal.Lengths ∷ [])) (sym passed ∙ e) in
+      let both = lengths-right (memory s rs st) (yes .1 .0) in
+      record { station = yes .0; lengths = yes .1 .1 .0; queue = record { places = both .0; cells = both .1; sound = yes .1 .1 .1 .0 } }
 
-  -- every question is answered yes, and there is nothing to build
-  pub build-nothing : soundStation (m .station) ≡ true → length (m .records) ≡ 64 → length (m .store) ≡ 16384 → length block ≡ 34 → soundQueue (m .station .queued) (m .records) (m .store) ≡ true
-      → buildsNow (m .station) ≡ false → buildLeft (buildAnswerOf BuildReply.NoBlock [] (m .station)) (m .records) (m .store) block ≡ leftBy (buildCall m block)
-  unfolding buildCall
-  build-nothing s places cells width q e =
-      ap leftBy
-      (ap (λ (b : Bool). cond b (blockBuilt m (current (m .station)) (builtNow m)) (notBuilt BuildReply.NoBlock m block)) (sym e)
-      ∙ every-yes _ _ (buildQuestions m block) ((((tt, s), right-lengths m places cells), eq-eqb _ _ width), q))
+  -- a call that queues refuses what they refuse
+  pub plan-refused : {R : Type 0} (refuse : Refusal → R) (own : List Question) (done : Outcome R) {a : Verdict} {r : Refusal}
+      → a ≡ ask (memoryQuestions (memory s rs st) (question true Refusal.Lengths ∷ [])) Verdict.Passed Verdict.No → a ≡ Verdict.No r
+      → outcome (refuse r) (memory s rs st) ≡ judged refuse (memory s rs st) (memoryQuestions (memory s rs st) [] ++ own) done
+  unfolding ask
+  plan-refused refuse own done e refused =
+      let m = memory s rs st in
+      asked-no done (λ r. outcome (refuse r) m) (memoryQuestions m (question true Refusal.Lengths ∷ [])) own (sym refused ∙ e)
+
+  -- and so does a build
+  module _ (block : List ℕ) {a : Verdict} (e : a ≡ ask (buildQuestions (memory s rs st) block) Verdict.Passed Verdict.No) where
+    pub build-refused : {r : Refusal} → a ≡ Verdict.No r → buildLeft (buildAnswerOf (BuildReply.Refused r) [] s) rs st block ≡ leftBy (buildCall (memory s rs st) block)
+    unfolding buildCall
+    build-refused refused = let m = memory s rs st in ap leftBy (asked-no _ (λ r. notBuilt (BuildReply.Refused r) m block) (buildQuestions m block) [] (sym refused ∙ e))
+
+    -- every question is answered yes, and there is nothing to build
+    pub build-nothing : a ≡ Verdict.Passed → buildsNow s ≡ false → buildLeft (buildAnswerOf BuildReply.NoBlock [] s) rs st block ≡ leftBy (buildCall (memory s rs st) block)
+    unfolding buildCall ask
+    build-nothing passed nothing =
+        let m = memory s rs st in
+        let yes = asked-yes (buildQuestions m block) (sym passed ∙ e) in
+        ap leftBy (sym (rw (yes .0, yes .1 .0, yes .1 .1 .0, yes .1 .1 .1 .0, nothing)))

@@ -3,6 +3,7 @@
 use mir.Syntax.{Ty}
 use denote.Slice.{sliceTy}
 use Rattle.bs_sched.proofs.BuildAnswer.Laws as BuildAnswer-laws
+use Rattle.bs_sched.proofs.Verdict.Laws as Verdict-laws
 use Rattle.optional.proofs.OptU8.Laws as optional-OptU8-laws
 use Rattle.optional.proofs.OptU16.Laws as optional-OptU16-laws
 use Rattle.optional.proofs.OptU32.Laws as optional-OptU32-laws
@@ -65,6 +66,9 @@ slice = sliceTy
 
 abbrev pub BuildAnswer : Ty
 BuildAnswer = BuildAnswer-laws.mir
+
+abbrev pub Verdict : Ty
+Verdict = Verdict-laws.mir
 
 abbrev pub optional-OptU8 : Ty
 optional-OptU8 = optional-OptU8-laws.mir

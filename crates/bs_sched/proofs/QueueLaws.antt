@@ -4,15 +4,12 @@ use Prim.Native.Nat.{ℕ, zero, suc, _+_, _≤_, _<_}
 use native.Mathlib.Nat.{not-suc-le-zero, le-of-suc-le-suc}
 use native.Mathlib.Numerals.{add-one}
 use native.Mathlib.Omega.{arith}
-use mathlib.Core.Bool.{false}
 use mathlib.Core.List.{List, [], _∷_, _++_}
 use lib.ListN.{length, getD, set, take, drop, replicate, length-set, drop-of-length-le, getD-replicate, List·getD-eq-default}
-use borrow.Author.Tests.{eq-eqb, ne-eqb}
 use lib.Seq.{getD-set-other, set-getD}
 use Rattle.dl_record.specs.declared.Record.{Record}
 use Rattle.dl_record.specs.Record.{emptyRecord}
-use Rattle.dl_queue.specs.Questions.{soundQueue}
-use Rattle.bs_sched.specs.Queue.{recordAt, copied, first64, soundOver}
+use Rattle.bs_sched.specs.Queue.{recordAt, copied, first64}
 
 pub none-yet : (src dst : List Record) → dst ≡ copied src 0 dst
 unfolding copied
@@ -75,17 +72,3 @@ copied-whole src dst n hs ht =
 -- a queue of 64 records is its own first 64
 pub first64-whole : (l : List Record) → length l ≡ 64 → first64 l ≡ l
 first64-whole l h = copied-whole l (replicate 64 emptyRecord) 64 h refl
-
--- the lengths that question 2 asks for leave it to records and cells; any other is a no
-module _ (ns : List ℕ) (q : List Record) (st : List ℕ) where
-  pub sound-over : length q ≡ 64 → length st ≡ 16384 → soundQueue ns q st ≡ soundOver ns q st
-  unfolding soundOver
-  sound-over a b = rw (eq-eqb _ _ a, eq-eqb _ _ b)
-
-  pub other-queue : (length q ≡ 64 → ⊥) → false ≡ soundOver ns q st
-  unfolding soundOver
-  other-queue h = rw (ne-eqb _ _ h)
-
-  pub other-store : length q ≡ 64 → (length st ≡ 16384 → ⊥) → false ≡ soundOver ns q st
-  unfolding soundOver
-  other-store a h = rw (eq-eqb _ _ a, ne-eqb _ _ h)

@@ -15,24 +15,29 @@ use tdma_time::TdmaTime;
 use uplink::PhyBlockNum;
 ghost use mathlib.Core.Path.{_≡_};
 ghost use mathlib.Core.Bool.{true, false};
-ghost use mathlib.Core.List.{[]};
+ghost use mathlib.Core.List.{[], _∷_};
 ghost use lib.ListN.{set};
 ghost use Rattle.dl_record.specs.Record.{emptyRecord};
 ghost use Rattle.dl_queue.specs.Questions.{soundPlace};
-ghost use Rattle.sched_core.specs.declared.Reply.{Reply};
-ghost use Rattle.sched_core.specs.declared.RequestReply.{RequestReply};
-ghost use Rattle.sched_core.specs.declared.BuildReply.{BuildReply};
-ghost use Rattle.sched_core.specs.Questions.{memory};
-ghost use Rattle.sched_core.specs.Calls.{answerOf, outcome, newCall, advanceCall, ownerCall, usageCall, requestCall, ackCall, tmaCall, buildCall};
-ghost use Rattle.bs_sched.specs.Queue.{soundOver, first64, copied};
-ghost use Rattle.bs_sched.specs.Entries.{requestAnswerOf, buildAnswerOf, buildLeft, leftBy};
+ghost use Rattle.sched_core.specs.declared.Refusal.{Refusal};
+ghost use Rattle.sched_core.specs.Questions.{memory, question, ask};
+ghost use Rattle.sched_core.specs.Calls.{outcome, newCall, advanceCall, ownerCall, usageCall, requestCall, ackCall, tmaCall, buildCall};
+ghost use Rattle.bs_sched.specs.declared.Verdict.{Verdict};
+ghost use Rattle.bs_sched.specs.Queue.{first64, copied};
+ghost use Rattle.bs_sched.specs.Entries.{memoryQuestions, buildAnswerOf, buildLeft, leftBy};
 
 // What a build answers: the reply, the tags of the records that are finished, and the station after the call.
 pub struct BuildAnswer {
     pub reply: BuildReply,
-    pub tags: [u16; 16],
+    pub tags: [u16; sizes::PER_TIMESLOT],
     pub tag_count: u8,
     pub station: Station,
+}
+
+// What questions 1 and 2 were answered: yes, or a no with its refusal.
+pub enum Verdict {
+    Passed,
+    No(Refusal),
 }
 
 // The record of an empty place.
@@ -63,42 +68,50 @@ fn unfilled_is_sound(r: Record, cell: &[u8]) -> bool
     dl_queue::unfilled_is_sound(r, cell)
 }
 
-// Question 1 for the records and the cells, no for other lengths than question 2 asks for. A timeslot's filled places come first, so
-// each kind of place has a loop of its own.
-pub fn queue_is_sound(counts: [u8; 4], queue: &[Record], store: &[u8]) -> bool
-    ensures { λ b. ⌜ b ≡ soundOver counts (now (queue .entry)) (now (store .entry)) ⌝ }
+// Questions 1 and 2 over the station and the caller's queue and store. `lent` says whether what else is lent has its length. A
+// timeslot's filled places come first, so each kind of place has a loop of its own.
+fn ask_memory(s: Station, queue: &[Record], store: &[u8], lent: bool) -> Verdict
+    ensures { λ r. ⌜ r ≡ ask (memoryQuestions (memory s (now (queue .entry)) (now (store .entry))) (question lent Refusal.Lengths ∷ []))
+        Verdict.Passed Verdict.No ⌝ }
 {
-    if queue.len() != 64 {
-        return false;
+    if !sched_core::station_is_sound(s) {
+        return Verdict::No(Refusal::Unsound);
     }
-    if store.len() != 16384 {
-        return false;
+    if queue.len() != sizes::QUEUE_PLACES {
+        return Verdict::No(Refusal::Lengths);
     }
-    for t in 0..4 {
+    if store.len() != sizes::STORE_OCTETS {
+        return Verdict::No(Refusal::Lengths);
+    }
+    if !lent {
+        return Verdict::No(Refusal::Lengths);
+    }
+    let counts = s.queued;
+    for t in 0..sizes::TIMESLOTS {
         let n = counts[t] as usize;
-        if 16 < n {
-            return false;
+        if sizes::PER_TIMESLOT < n {
+            return Verdict::No(Refusal::Unsound);
         }
         for i in 0..n {
-            let p = 16 * t + i;
+            let p = sizes::PER_TIMESLOT * t + i;
             let r = queue[p];
-            let from = 256 * p;
-            let to = from + 256;
+            let from = sizes::CELL_OCTETS * p;
+            let to = from + sizes::CELL_OCTETS;
             if !filled_is_sound(r, &store[from..to]) {
-                return false;
+                return Verdict::No(Refusal::Unsound);
             }
         }
-        for j in n..16 {
-            let p = 16 * t + j;
+        for j in n..sizes::PER_TIMESLOT {
+            let p = sizes::PER_TIMESLOT * t + j;
             let r = queue[p];
-            let from = 256 * p;
-            let to = from + 256;
+            let from = sizes::CELL_OCTETS * p;
+            let to = from + sizes::CELL_OCTETS;
             if !unfilled_is_sound(r, &store[from..to]) {
-                return false;
+                return Verdict::No(Refusal::Unsound);
             }
         }
     }
-    true
+    Verdict::Passed
 }
 
 // The first 64 records, with empty ones past the end.
@@ -128,43 +141,13 @@ pub fn save_64(queue: &mut [Record], records: [Record; 64])
     }
 }
 
-// A refusal: the number is the whole reply, and the station is as it came in.
-fn refused(refusal: Refusal, station: Station) -> Answer
-    ensures { λ r. ⌜ r ≡ answerOf (Reply.Refused refusal) station ⌝ }
-{
-    Answer {
-        reply: Reply::Refused(refusal),
-        station: station,
-    }
-}
-
-fn request_refused(refusal: Refusal, station: Station) -> RequestAnswer
-    ensures { λ r. ⌜ r ≡ requestAnswerOf (RequestReply.Refused refusal) station ⌝ }
-{
-    RequestAnswer {
-        reply: RequestReply::Refused(refusal),
-        station: station,
-    }
-}
-
-fn build_refused(refusal: Refusal, station: Station) -> BuildAnswer
-    ensures { λ r. ⌜ r ≡ buildAnswerOf (BuildReply.Refused refusal) [] station ⌝ }
+// A build that writes nothing.
+fn not_built(reply: BuildReply, station: Station) -> BuildAnswer
+    ensures { λ r. ⌜ r ≡ buildAnswerOf reply [] station ⌝ }
 {
     BuildAnswer {
-        reply: BuildReply::Refused(refusal),
-        tags: [0u16; 16],
-        tag_count: 0,
-        station: station,
-    }
-}
-
-// A build that has nothing to build.
-fn no_block(station: Station) -> BuildAnswer
-    ensures { λ r. ⌜ r ≡ buildAnswerOf BuildReply.NoBlock [] station ⌝ }
-{
-    BuildAnswer {
-        reply: BuildReply::NoBlock,
-        tags: [0u16; 16],
+        reply: reply,
+        tags: [0u16; sizes::PER_TIMESLOT],
         tag_count: 0,
         station: station,
     }
@@ -208,20 +191,15 @@ pub fn ul_process_cap_req(
     kind: u8,
     number: u32,
 ) -> RequestAnswer
-    ensures { λ r. ⌜ outcome (r .reply) (memory (r .station) (now (queue .exit)) (now (store .entry))) ≡ requestCall (memory s (now (queue .entry)) (now (store .entry))) timeslot code kind number ⌝ }
+    ensures { λ r. ⌜ outcome (r .reply)
+        (memory (r .station) (now (queue .exit)) (now (store .entry))) ≡ requestCall (memory s (now (queue .entry)) (now (store .entry))) timeslot code kind number ⌝ }
 {
-    if !sched_core::station_is_sound(s) {
-        return request_refused(Refusal::Unsound, s);
-    }
-    if queue.len() != 64 {
-        return request_refused(Refusal::Lengths, s);
-    }
-    if store.len() != 16384 {
-        return request_refused(Refusal::Lengths, s);
-    }
-    let queued = s.queued;
-    if !queue_is_sound(queued, queue, store) {
-        return request_refused(Refusal::Unsound, s);
+    let verdict = ask_memory(s, queue, store, true);
+    if let Verdict::No(refusal) = verdict {
+        return RequestAnswer {
+            reply: RequestReply::Refused(refusal),
+            station: s,
+        };
     }
     let done = request_core::request_plan(s, timeslot, code, kind, number);
     let place = done.place;
@@ -244,20 +222,15 @@ pub fn dl_enqueue_random_access_ack(
     kind: u8,
     number: u32,
 ) -> Answer
-    ensures { λ r. ⌜ outcome (r .reply) (memory (r .station) (now (queue .exit)) (now (store .entry))) ≡ ackCall (memory s (now (queue .entry)) (now (store .entry))) timeslot kind number ⌝ }
+    ensures { λ r. ⌜ outcome (r .reply)
+        (memory (r .station) (now (queue .exit)) (now (store .entry))) ≡ ackCall (memory s (now (queue .entry)) (now (store .entry))) timeslot kind number ⌝ }
 {
-    if !sched_core::station_is_sound(s) {
-        return refused(Refusal::Unsound, s);
-    }
-    if queue.len() != 64 {
-        return refused(Refusal::Lengths, s);
-    }
-    if store.len() != 16384 {
-        return refused(Refusal::Lengths, s);
-    }
-    let queued = s.queued;
-    if !queue_is_sound(queued, queue, store) {
-        return refused(Refusal::Unsound, s);
+    let verdict = ask_memory(s, queue, store, true);
+    if let Verdict::No(refusal) = verdict {
+        return Answer {
+            reply: Reply::Refused(refusal),
+            station: s,
+        };
     }
     let done = enqueue_core::ack_plan(s, timeslot, kind, number);
     let place = done.place;
@@ -284,20 +257,16 @@ pub fn dl_enqueue_tma(
     bits: u16,
     sdu: &[u8],
 ) -> Answer
-    ensures { λ r. ⌜ outcome (r .reply) (memory (r .station) (now (queue .exit)) (now (store .exit))) ≡ tmaCall (memory s (now (queue .entry)) (now (store .entry))) timeslot kind number tag header bits (now (sdu .entry)) ⌝ }
+    ensures { λ r. ⌜ outcome (r .reply)
+        (memory (r .station) (now (queue .exit)) (now (store .exit))) ≡ tmaCall (memory s (now (queue .entry)) (now (store .entry)))
+        timeslot kind number tag header bits (now (sdu .entry)) ⌝ }
 {
-    if !sched_core::station_is_sound(s) {
-        return refused(Refusal::Unsound, s);
-    }
-    if queue.len() != 64 {
-        return refused(Refusal::Lengths, s);
-    }
-    if store.len() != 16384 {
-        return refused(Refusal::Lengths, s);
-    }
-    let queued = s.queued;
-    if !queue_is_sound(queued, queue, store) {
-        return refused(Refusal::Unsound, s);
+    let verdict = ask_memory(s, queue, store, true);
+    if let Verdict::No(refusal) = verdict {
+        return Answer {
+            reply: Reply::Refused(refusal),
+            station: s,
+        };
     }
     let done = enqueue_core::tma_plan(s, store, timeslot, kind, number, tag, header, bits, sdu);
     let place = done.place;
@@ -318,26 +287,15 @@ pub fn dl_build_block(
     store: &mut [u8],
     block: &mut [u8],
 ) -> BuildAnswer
-    ensures { λ r. ⌜ buildLeft r (now (queue .exit)) (now (store .exit)) (now (block .exit)) ≡ leftBy (buildCall (memory s (now (queue .entry)) (now (store .entry))) (now (block .entry))) ⌝ }
+    ensures { λ r. ⌜ buildLeft r (now (queue .exit)) (now (store .exit)) (now (block .exit))
+        ≡ leftBy (buildCall (memory s (now (queue .entry)) (now (store .entry))) (now (block .entry))) ⌝ }
 {
-    if !sched_core::station_is_sound(s) {
-        return build_refused(Refusal::Unsound, s);
-    }
-    if queue.len() != 64 {
-        return build_refused(Refusal::Lengths, s);
-    }
-    if store.len() != 16384 {
-        return build_refused(Refusal::Lengths, s);
-    }
-    if block.len() != 34 {
-        return build_refused(Refusal::Lengths, s);
-    }
-    let queued = s.queued;
-    if !queue_is_sound(queued, queue, store) {
-        return build_refused(Refusal::Unsound, s);
+    let verdict = ask_memory(s, queue, store, block.len() == sizes::BLOCK_OCTETS);
+    if let Verdict::No(refusal) = verdict {
+        return not_built(BuildReply::Refused(refusal), s);
     }
     if !build_core::builds_now(s) {
-        return no_block(s);
+        return not_built(BuildReply::NoBlock, s);
     }
     let records = load_64(queue);
     let done = build_core::build_sound(s, records, store, block);

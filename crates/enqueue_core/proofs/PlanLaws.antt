@@ -8,7 +8,6 @@ use lib.ListN.{length, getD, set}
 use Rattle.dl_record.specs.declared.Record.{Record}
 use Rattle.dl_record.specs.Record.{emptyRecord}
 use Rattle.dl_queue.specs.Queue.{nextPlace}
-use Rattle.dl_queue.specs.Questions.{soundQueue}
 use Rattle.sched_core.specs.declared.Station.{Station}
 use Rattle.sched_core.specs.declared.Refusal.{Refusal}
 use Rattle.sched_core.specs.Questions.{Memory, memory, Question, refusalNumber, soundStation, isStationSound, areLengthsRight, isQueueSound}
@@ -46,14 +45,6 @@ first m qs = isStationSound (m .station) ∷ areLengthsRight m ∷ isQueueSound 
 
 pub first-yes : (s : Station) (rs : List Record) (st : List ℕ) → soundStation s ≡ true → SoundQueue s rs st → FirstYes 3 (first (memory s rs st) [])
 first-yes s rs st sound h = (((tt, sound), right-lengths (memory s rs st) (h .places) (h .cells)), h .sound)
-
-module _ {R : Type 0} (refuse : Refusal → R) (s : Station) (rs : List Record) (st : List ℕ) where
-  -- records or cells that are not sound: the third question is answered no
-  pub unsound-outcome : (qs : List Question) (done : Outcome R) → soundStation s ≡ true → length rs ≡ 64 → length st ≡ 16384 → soundQueue (s .queued) rs st ≡ false
-      → outcome (refuse Refusal.Unsound) (memory s rs st) ≡ judged refuse (memory s rs st) (first (memory s rs st) qs) done
-  unsound-outcome qs done sound places cells bad =
-      let m = memory s rs st in
-      first-no done (λ y. outcome (refuse y) m) 2 (first m qs) ((tt, sound), right-lengths m places cells) bad
 
 module _ {R : Type 0} (number : R → ℕ) (s : Station) (st : List ℕ) where
   -- a refusal leaves all as it came in

@@ -61,6 +61,7 @@ use Rattle.sched_core.proofs.CoreAnswer.Laws as sched_core-CoreAnswer-laws
 use Rattle.sched_core.proofs.RequestCoreAnswer.Laws as sched_core-RequestCoreAnswer-laws
 use Rattle.sched_core.proofs.BuildCoreAnswer.Laws as sched_core-BuildCoreAnswer-laws
 use Rattle.bs_sched.proofs.BuildAnswer.Laws as bs_sched-BuildAnswer-laws
+use Rattle.bs_sched.proofs.Verdict.Laws as bs_sched-Verdict-laws
 
 abbrev pub slice : Ty → Ty
 slice = sliceTy
@@ -241,3 +242,6 @@ sched_core-BuildCoreAnswer = sched_core-BuildCoreAnswer-laws.mir
 
 abbrev pub bs_sched-BuildAnswer : Ty
 bs_sched-BuildAnswer = bs_sched-BuildAnswer-laws.mir
+
+abbrev pub bs_sched-Verdict : Ty
+bs_sched-Verdict = bs_sched-Verdict-laws.mir

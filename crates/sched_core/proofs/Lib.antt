@@ -4,4 +4,3 @@ pub mod QuestionLaws
 pub mod GrantLaws
 pub mod QueuesLaws
 pub mod KeptLaws
-pub mod EntryLaws

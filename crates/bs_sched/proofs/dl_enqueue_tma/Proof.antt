@@ -1,73 +1,46 @@
 -- `bs_sched::dl_enqueue_tma` meets its contract, by its derivation (`Proof/Lts.antt`): questions 1 and 2, then the plan, whose record is stored.
 mod Lts
 mod Tie
-use mathlib.Core.Path.{_≡_, sym, _∙_}
 use mathlib.Core.Bool.{true}
 use borrow.Author.Needs.{needs}
 use Rattle.sched_core.specs.declared.Reply.{Reply}
-use Rattle.sched_core.specs.Questions.{Memory, memory, soundStation}
 use Rattle.sched_core.specs.Calls.{tmaCall}
-use Rattle.sched_core.proofs.AskLaws.{said-no, said-yes}
-use Rattle.sched_core.proofs.QuestionLaws.{queue-not-64, store-not-16384}
-use Rattle.sched_core.proofs.EntryLaws.{tma-unsound, tma-lengths}
-use Rattle.enqueue_core.proofs.PlanLaws.{unsound-outcome}
-use Rattle.bs_sched.proofs.EntryLaws.{plan-stored}
-use Rattle.bs_sched.proofs.QueueLaws.{sound-over}
+use Rattle.bs_sched.proofs.EntryLaws.{Told, told, plan-refused, plan-stored}
 use Rattle.bs_sched.proofs.dl_enqueue_tma.Statement.{statement}
 use Rattle.bs_sched.proofs.dl_enqueue_tma.Proof.Tie as tie
 
-abbrev all : tie.Start → Memory
-all s = memory (s .args .s) (s .args .queue .now) (s .args .store .now)
-
--- what the first question has told
-sound : (c : tie.Else1) → soundStation (c .before .before .before .before .args .s) ≡ true
-sound c = said-yes (c .before .station-is-sound .ensures) (c .if1 .left)
+abbrev start : tie.After-ask-memory → tie.Start
+start q = q .before .before .before .before .before
 
 returns : tie.Need-returns
+unfolding tmaCall
 returns c =
-    let k = c .before .before in
-    let s = k .before .before .before in
-    rw (c .refused .ensures) (tma-unsound (all s) _ _ _ _ _ _ _ (said-no (k .station-is-sound .ensures) (c .before .if1 .taken)))
+    let k = c .before in
+    let q = k .before .before in
+    let a = start q .args in
+    plan-refused (a .s) (a .queue .now) (a .store .now) Reply.Refused _ _ (q .ask-memory .ensures) (k .verdict .given .1)
+
+-- the questions are answered yes
+passed : (c : tie.After-enum-told) → let a = start (c .before .before) .args in Told (a .s) (a .queue .now) (a .store .now) true
+passed c =
+    let q = c .before .before in
+    let a = start q .args in
+    told (a .s) (a .queue .now) (a .store .now) true (q .ask-memory .ensures) (c .enum-told .given .1)
+
+tma-plan-requires : tie.Need-tma-plan-requires
+tma-plan-requires c κs = (passed (c .before) .station, passed (c .before) .queue .cells)
 
 returns-2 : tie.Need-returns-2
 returns-2 c =
-    let e = c .before .before in
-    let s = e .before .before .before .before in
-    rw (c .refused2 .ensures) (tma-lengths (all s) _ _ _ _ _ _ _ (sound e) (queue-not-64 (all s) (c .before .if2 .taken)))
-
-returns-3 : tie.Need-returns-3
-returns-3 c =
-    let k = c .before .before in
-    let e = k .before in
-    let s = e .before .before .before .before in
-    rw (c .refused3 .ensures) (tma-lengths (all s) _ _ _ _ _ _ _ (sound e) (store-not-16384 (all s) (k .if2 .left) (c .before .if3 .taken)))
-
-returns-4 : tie.Need-returns-4
-unfolding tmaCall
-returns-4 c =
-    let q = c .before .before in
-    let e = q .before .before .before .before in
-    let s = e .before .before .before .before .before .before in
-    rw (c .refused4 .ensures)
-    (unsound-outcome Reply.Refused (s .args .s) (s .args .queue .now) (s .args .store .now) _ _ (sound (e .before .before)) (e .before .if2 .left) (e .if3 .left)
-    (said-no (q .queue-is-sound .ensures ∙ sym (sound-over _ _ _ (e .before .if2 .left) (e .if3 .left))) (c .before .if4 .taken)))
-
-tma-plan-requires : tie.Need-tma-plan-requires
-tma-plan-requires c κs = let e = c .before .before .before .before .before .before in (sound (e .before .before), e .if3 .left)
-
-returns-5 : tie.Need-returns-5
-returns-5 c =
     let v = c .before .before in
     let d = v .before .before .before .before .before in
-    let q = d .before .before .before in
-    let e = q .before .before .before .before in
-    let s = e .before .before .before .before .before .before in
-    plan-stored (λ m. tmaCall m (s .args .timeslot) (s .args .kind) (s .args .number) (s .args .tag) (s .args .header) (s .args .bits) (s .args .sdu .now)) (s .args .s) (s .args .store .now) _
-    (s .args .queue .now) _ (v .put-record .ensures) (d .tma-plan .ensures)
-    (record { places = e .before .if2 .left; cells = e .if3 .left; sound = said-yes (q .queue-is-sound .ensures ∙ sym (sound-over _ _ _ (e .before .if2 .left) (e .if3 .left))) (d .before .before .if4 .left) })
+    let e = d .before .before in
+    let a = start (e .before .before) .args in
+    plan-stored (λ m. tmaCall m (a .timeslot) (a .kind) (a .number) (a .tag) (a .header) (a .bits) (a .sdu .now)) (a .s) (a .store .now) _ (a .queue .now) _
+    (v .put-record .ensures) (d .tma-plan .ensures) (passed e .queue)
 
 pub dl-enqueue-tma-spec : {M : Type 1} → statement M
 dl-enqueue-tma-spec =
     tie.close
-    (tie.spec (λ c κs. search needs) (λ c κs. search needs) returns (λ c κs. search needs) returns-2 (λ c κs. search needs) returns-3 (λ c κs. search needs) (λ c κs. search needs)
-    (λ c. search needs) (λ c. search needs) returns-4 tma-plan-requires (λ c κs. search needs) (λ c. search needs) (λ c. search needs) returns-5)
+    (tie.spec (λ c κs. search needs) (λ c. search needs) (λ c. search needs) (λ c. search needs) returns (λ c. search needs) tma-plan-requires
+    (λ c κs. search needs) (λ c. search needs) (λ c. search needs) returns-2)
