@@ -39,7 +39,7 @@ use Rattle.history.specs.UplinkModel as uplinkModel
 use Rattle.history.specs.Call.{Call, request, build, Reply, replied, block, noBlock}
 use Rattle.history.specs.Queues.{Queues, queueAt, someQueued, canBuild, built, afterBuild, buildReply, replyOf}
 use Rattle.history.specs.Model.{NamedSdu, namedLoads, Model, newModel, callOf, modelAfter, modelReply, modelAt, queueNow, pdusBuilt, namesBuilt, pending, replaces}
-use Rattle.history.specs.Station.{cellLoads, Station, newStation, stationReply, stationAt}
+use Rattle.history.proofs.Station.{cellLoads, Station, newStation, stationReply, stationAt}
 use Rattle.history.specs.Demand3.{GrantRead, Origin, DerivedAt, ItsGrant}
 use Rattle.history.proofs.Derived.{GrantOf, grant-of, derived}
 use Rattle.history.proofs.WholeSimulation.{WholeAlike, whole-histories, whole-new, whole-reply, same-pdus}

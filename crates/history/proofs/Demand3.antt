@@ -12,7 +12,7 @@ use Rattle.sched_core.specs.Station.{tableOf}
 use Rattle.history.specs.Call.{Call, build}
 use Rattle.history.specs.UplinkModel.{modelEntry}
 use Rattle.history.specs.Model.{newModel, modelAt}
-use Rattle.history.specs.Station.{newStation, stationAt}
+use Rattle.history.proofs.Station.{newStation, stationAt}
 use Rattle.history.specs.Memory.{memoryAt}
 use Rattle.history.specs.Demand3.{Standing, Demand3}
 use Rattle.history.proofs.WholeSimulation.{whole-histories, whole-new, whole-reply}

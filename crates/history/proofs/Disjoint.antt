@@ -10,8 +10,8 @@ use Rattle.tdma_time.proofs.TimeLaws.{slotOf-below}
 use Rattle.uplink.specs.HalfSlot.{HalfSlot}
 use Rattle.history.specs.UplinkCall.{CapacityRequest, UplinkCall, request}
 use Rattle.history.specs.UplinkModel.{UplinkModel, newModel, takenBy, reserved, modelAfter}
-use Rattle.history.specs.UplinkHistory.{modelRun, modelAt, advances}
-use Rattle.history.specs.UplinkClaim.{farthest}
+use Rattle.history.proofs.UplinkHistory.{modelRun, modelAt, advances}
+use Rattle.history.specs.Demand3.{farthest}
 use Rattle.history.proofs.ModelLaws.{held-not-free}
 use Rattle.history.proofs.ReservedLaws.{offset, request-now, Reserved, reserved-is}
 use Rattle.history.proofs.RunLaws.{run-append, run-now, keeps, within}

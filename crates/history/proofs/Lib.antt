@@ -26,3 +26,7 @@ pub mod RefinedHistory
 pub mod Demand3
 pub mod StarredCases
 pub mod ReadLaws
+pub mod UplinkStation
+pub mod UplinkHistory
+pub mod UplinkStatement
+pub mod Station

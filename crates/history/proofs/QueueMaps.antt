@@ -13,7 +13,7 @@ use Rattle.dl_build.specs.Build.{buildList}
 use Rattle.dl_build.proofs.AfterBuild.{build-map}
 use Rattle.history.specs.Queues.{Queues, queueAt, joins, built}
 use Rattle.history.specs.Model.{NamedSdu, namedSdu, namedLoads}
-use Rattle.history.specs.Station.{cellLoads}
+use Rattle.history.proofs.Station.{cellLoads}
 
 -- ---- lists
 

@@ -18,7 +18,7 @@ use Rattle.sched_core.specs.Questions.{Memory, soundStation, ask}
 use Rattle.sched_core.specs.Calls.{ownerCall, usageCall}
 use Rattle.history.specs.Call.{Reading, owner, usage, readQuestion}
 use Rattle.history.specs.Queues.{numbered}
-use Rattle.history.specs.Station.{cellLoads}
+use Rattle.history.proofs.Station.{cellLoads}
 use Rattle.history.specs.Memory.{ownerReply, usageReply, readReply}
 
 -- ---- refused for their time only

@@ -27,11 +27,11 @@ use Rattle.sched_core.specs.declared.BuildReply.{BuildReply}
 use Rattle.sched_core.specs.Questions.{Memory, memory, isStationSound, areLengthsRight, isBlockLength, isBlockLengthRight, isQueueSound}
 use Rattle.sched_core.specs.Calls.{current, buildsNow, builtNow, blockBuilt, notBuilt, buildCall}
 use Rattle.history.specs.UplinkCall.{refused}
-use Rattle.history.specs.UplinkStation as uplinkStation
-use Rattle.history.specs.UplinkStation.{Sound}
+use Rattle.history.proofs.UplinkStation as uplinkStation
+use Rattle.history.proofs.UplinkStation.{Sound}
 use Rattle.history.specs.Call.{build, replied, block, noBlock}
 use Rattle.history.specs.Queues.{Queues, queueAt, someQueued, canBuild, built, afterBuild, buildReply, replyOf}
-use Rattle.history.specs.Station.{cellLoads, Station, stationAfter, stationReply}
+use Rattle.history.proofs.Station.{cellLoads, Station, stationAfter, stationReply}
 use Rattle.history.specs.Memory.{buildReplied}
 use Rattle.history.proofs.Asked.{third-asked}
 use Rattle.history.proofs.StoredHistory.{InCell, each-sound, each-cells, zero-octets, built-in-cells}

@@ -12,11 +12,11 @@ use Rattle.sched_core.specs.Questions.{Memory}
 use Rattle.sched_core.specs.Calls.{newMemory}
 use Rattle.sched_core.specs.Invariant.{SoundMemory}
 use Rattle.sched_core.proofs.KeptLaws as core
-use Rattle.history.specs.UplinkStation as uplinkStation
-use Rattle.history.specs.UplinkStation.{Sound}
+use Rattle.history.proofs.UplinkStation as uplinkStation
+use Rattle.history.proofs.UplinkStation.{Sound}
 use Rattle.history.specs.Call.{Reading, Call, advance, request, enqueueAck, enqueueRecord, build, read, replied}
 use Rattle.history.specs.Queues.{queueAt, replyOf}
-use Rattle.history.specs.Station.{Station, newStation, stationAfter, stationReply, stationRun, stationAt}
+use Rattle.history.proofs.Station.{Station, newStation, stationAfter, stationReply, stationRun, stationAt}
 use Rattle.history.specs.Memory.{memoryAfter, memoryReply, memoryRun, memoryAt}
 use Rattle.history.proofs.UplinkOfWhole.{whole-sound}
 use Rattle.history.proofs.StoredHistory.{InCell, stored-history}

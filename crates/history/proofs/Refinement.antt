@@ -44,11 +44,11 @@ use Rattle.sched_core.specs.Questions.{Memory, soundCount, soundStation, isStat
 use Rattle.sched_core.specs.Calls.{Outcome, outcome, grantQueued, requestAnswered, requestOutcome, requestCall, advanceCall, advanceMemory, withRecord, withSdu, ackCall, tmaCall}
 use Rattle.history.specs.UplinkCall.{CapacityRequest, asked, UplinkReply, done, refused, asReply, question}
 use Rattle.history.specs.UplinkCall as uplinkCall
-use Rattle.history.specs.UplinkStation as uplinkStation
-use Rattle.history.specs.UplinkStation.{stationAnswer, Sound}
+use Rattle.history.proofs.UplinkStation as uplinkStation
+use Rattle.history.proofs.UplinkStation.{stationAnswer, Sound}
 use Rattle.history.specs.Call.{AckOffer, RecordOffer, recordOf, ackQuestion, recordQuestion, advance, request, enqueueAck, enqueueRecord}
 use Rattle.history.specs.Queues.{Queues, queueAt, joins, afterRequest, afterAck, afterRecord, numbered}
-use Rattle.history.specs.Station.{cellLoads, Station, stationAfter}
+use Rattle.history.proofs.Station.{cellLoads, Station, stationAfter}
 use Rattle.history.specs.Memory.{queueReply, requestReply}
 use Rattle.uplink.proofs.Basics.{four}
 use Rattle.history.proofs.QuestionLaws.{Passed}

@@ -10,7 +10,7 @@ use Rattle.tdma_time.specs.Time.{cycle, clock}
 use Rattle.uplink.specs.HalfSlot.{Half}
 use Rattle.history.specs.UplinkCall.{UplinkCall, advance, request, other}
 use Rattle.history.specs.UplinkModel.{UplinkModel, takenBy, modelView, freed, modelAfter}
-use Rattle.history.specs.UplinkHistory.{modelRun, advances}
+use Rattle.history.proofs.UplinkHistory.{modelRun, advances}
 use Rattle.history.proofs.ModelLaws.{freed-other}
 use Rattle.history.proofs.ReservedLaws.{request-now, request-stays}
 

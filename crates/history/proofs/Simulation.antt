@@ -16,8 +16,8 @@ use Rattle.uplink.proofs.RequestLaws.{wanted-pos}
 use Rattle.uplink.proofs.VerdictLaws.{AgreeFrom, Granted, verdict-grant, granted-near, granted-length, verdict-agree, capacity-agree}
 use Rattle.history.specs.UplinkCall.{CapacityRequest, asked, UplinkCall, advance, request, other, UplinkReply, asReply, refused, question}
 use Rattle.history.specs.UplinkModel.{UplinkModel, newModel, takes, modelView, modelVerdict, settled, modelAfter, modelReply}
-use Rattle.history.specs.UplinkStation.{UplinkStation, newStation, stationAnswer, stationAfter, stationReply}
-use Rattle.history.specs.UplinkHistory.{modelRun, modelReplies, stationRun, stationReplies}
+use Rattle.history.proofs.UplinkStation.{UplinkStation, newStation, stationAnswer, stationAfter, stationReply}
+use Rattle.history.proofs.UplinkHistory.{modelRun, modelReplies, stationRun, stationReplies}
 use Rattle.history.proofs.Match.{Matched, same-halves, halves-some, reserve-matched, advance-matched, new-matched}
 use Rattle.history.proofs.AnswerTable.{given-table}
 

@@ -16,8 +16,8 @@ use Rattle.uplink.proofs.TableLaws.{store-shape, empty-shape}
 use Rattle.uplink.proofs.SoundLaws.{cleared-sound}
 use Rattle.uplink.proofs.GrantedExactly.{granted-exactly}
 use Rattle.history.specs.UplinkCall.{CapacityRequest, asked, UplinkCall, advance, request, other, question}
-use Rattle.history.specs.UplinkStation.{UplinkStation, newStation, stationAnswer, stationAfter, Sound}
-use Rattle.history.specs.UplinkHistory.{stationRun, stationAt}
+use Rattle.history.proofs.UplinkStation.{UplinkStation, newStation, stationAnswer, stationAfter, Sound}
+use Rattle.history.proofs.UplinkHistory.{stationRun, stationAt}
 use Rattle.history.proofs.QuestionLaws.{Passed, question-passed}
 use Rattle.history.proofs.AnswerTable.{given-shape}
 

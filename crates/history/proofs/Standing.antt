@@ -14,8 +14,8 @@ use Rattle.uplink.specs.HalfSlot.{Half, HalfSlot}
 use Rattle.uplink.specs.Request.{reservedBy}
 use Rattle.history.specs.UplinkCall.{CapacityRequest, asked, UplinkCall, advance, request, other, question}
 use Rattle.history.specs.UplinkModel.{UplinkModel, newModel, takenBy, modelView, freed, modelVerdict, reserved, settled, modelAfter}
-use Rattle.history.specs.UplinkHistory.{modelRun, modelAt, advances}
-use Rattle.history.specs.UplinkClaim.{Standing}
+use Rattle.history.proofs.UplinkHistory.{modelRun, modelAt, advances}
+use Rattle.history.proofs.UplinkStatement.{Standing}
 use Rattle.history.proofs.ModelLaws.{held-not-free, freed-same, freed-other, halfSlot, takes-source}
 use Rattle.history.proofs.ReservedLaws.{offset, request-now, Reserved, reserved-is}
 use Rattle.history.proofs.RunLaws.{run-append, run-now, shift-clock, keeps, within}

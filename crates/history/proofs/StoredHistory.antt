@@ -44,11 +44,11 @@ use Rattle.dl_build.proofs.OrderLaws.{order-all}
 use Rattle.sched_core.specs.Questions.{isBlockLength}
 use Rattle.history.specs.UplinkCall as uplinkCall
 use Rattle.history.specs.UplinkCall.{CapacityRequest, asked, UplinkReply, done, refused, granted, asReply, question}
-use Rattle.history.specs.UplinkStation as uplinkStation
-use Rattle.history.specs.UplinkStation.{UplinkStation, stationAnswer, Sound}
+use Rattle.history.proofs.UplinkStation as uplinkStation
+use Rattle.history.proofs.UplinkStation.{UplinkStation, stationAnswer, Sound}
 use Rattle.history.specs.Call.{AckOffer, RecordOffer, recordOf, Call, advance, request, enqueueAck, enqueueRecord, build, read, ackQuestion, recordQuestion}
 use Rattle.history.specs.Queues.{Queues, queueAt, joins, afterRequest, canBuild, afterAck, afterRecord, built, afterBuild}
-use Rattle.history.specs.Station.{cellLoads, Station, newStation, callOf, stationAfter, stationRun, stationAt}
+use Rattle.history.proofs.Station.{cellLoads, Station, newStation, callOf, stationAfter, stationRun, stationAt}
 use Rattle.history.proofs.QuestionLaws.{Passed, question-passed}
 use Rattle.history.proofs.SoundHistory.{sound-after, new-sound}
 use Rattle.history.proofs.WholeSimulation.{RecordPassed, record-passed, AckPassed, ack-passed}

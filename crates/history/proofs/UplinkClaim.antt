@@ -11,9 +11,9 @@ use Rattle.uplink.specs.HalfSlot.{Half}
 use Rattle.uplink.specs.UplinkEntry.{tableView}
 use Rattle.history.specs.UplinkCall.{UplinkCall}
 use Rattle.history.specs.UplinkModel.{newModel, takenBy}
-use Rattle.history.specs.UplinkStation.{newStation}
-use Rattle.history.specs.UplinkHistory.{modelAt, stationAt}
-use Rattle.history.specs.UplinkClaim.{Standing, UplinkClaim}
+use Rattle.history.proofs.UplinkStation.{newStation}
+use Rattle.history.proofs.UplinkHistory.{modelAt, stationAt}
+use Rattle.history.proofs.UplinkStatement.{Standing, UplinkClaim}
 use Rattle.history.proofs.Match.{same-halves}
 use Rattle.history.proofs.Simulation.{Alike, histories, new-alike}
 use Rattle.history.proofs.Derived.{derived}

@@ -15,16 +15,16 @@ use Rattle.history.specs.UplinkCall as uplinkCall
 use Rattle.history.specs.UplinkCall.{CapacityRequest, UplinkCall}
 use Rattle.history.specs.UplinkModel as uplinkModel
 use Rattle.history.specs.UplinkModel.{UplinkModel, modelEntry, takenBy}
-use Rattle.history.specs.UplinkStation.{Sound}
-use Rattle.history.specs.UplinkHistory as uplinkHistory
-use Rattle.history.specs.UplinkHistory.{advances}
-use Rattle.history.specs.UplinkClaim as uplinkClaim
-use Rattle.history.specs.UplinkClaim.{farthest}
+use Rattle.history.proofs.UplinkStation.{Sound}
+use Rattle.history.proofs.UplinkHistory as uplinkHistory
+use Rattle.history.proofs.UplinkHistory.{advances}
+use Rattle.history.proofs.UplinkStatement as uplinkClaim
+use Rattle.history.specs.Demand3.{farthest}
 use Rattle.history.specs.Call.{Call, advance, request, enqueueAck, enqueueRecord, build, read}
 use Rattle.history.specs.Queues.{queueAt}
 use Rattle.history.specs.Model as model
 use Rattle.history.specs.Model.{Model, newModel, modelAfter, modelRun, modelAt}
-use Rattle.history.specs.Station.{Station, newStation, stationAfter, stationRun, stationAt}
+use Rattle.history.proofs.Station.{Station, newStation, stationAfter, stationRun, stationAt}
 use Rattle.history.specs.Demand3.{reserved, slotsAdvanced, Standing}
 use Rattle.history.proofs.EntryLaws.{holder-entry}
 use Rattle.history.proofs.Simulation.{Alike}

@@ -24,13 +24,13 @@ use Rattle.dl_send.specs.Send.{Sent}
 use Rattle.sched_core.specs.Questions.{legalTimeslot, isBlockLength}
 use Rattle.history.specs.UplinkCall.{CapacityRequest, UplinkCall, UplinkReply, done, refused, granted}
 use Rattle.history.specs.UplinkModel as uplinkModel
-use Rattle.history.specs.UplinkStation as uplinkStation
+use Rattle.history.proofs.UplinkStation as uplinkStation
 use Rattle.history.specs.Call.{AckOffer, RecordOffer, recordOf, Call, advance, request, enqueueAck, enqueueRecord, build, read, Reply, replied, ackQuestion, recordQuestion}
 use Rattle.history.specs.Queues.{Queues, queueAt, joins, afterRequest, someQueued, canBuild, uplinkCall, afterAck, afterRecord, built, afterBuild, buildReply, queuesAfter, replyOf}
 use Rattle.history.specs.Model as model
 use Rattle.history.specs.Model.{NamedSdu, namedLoads, Model, newModel, modelAfter, modelReply, modelRun}
-use Rattle.history.specs.Station as station
-use Rattle.history.specs.Station.{cellLoads, Station, newStation, stationAfter, stationReply, stationRun}
+use Rattle.history.proofs.Station as station
+use Rattle.history.proofs.Station.{cellLoads, Station, newStation, stationAfter, stationReply, stationRun}
 use Rattle.history.proofs.QuestionLaws.{one-passed}
 use Rattle.history.proofs.Simulation.{Alike, alike-after, same-replies, new-alike}
 use Rattle.history.proofs.QueueMaps.{Held, same-count, joins-held, set-held, same-built}

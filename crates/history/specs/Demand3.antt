@@ -7,7 +7,7 @@ use mathlib.Core.Logic.{_↔_, _⊎_}
 use mathlib.Core.Bool.{false}
 use mathlib.Core.Option.{none, some}
 use mathlib.Core.List.{List, [], _∷_, _++_, map, List·Memᴰ}
-use Prim.Native.Nat.{ℕ, zero, suc, _+_, _≤_, _<_}
+use Prim.Native.Nat.{ℕ, zero, suc, _+_, _*_, _≤_, _<_}
 use lib.ListN.{length, getD}
 use Rattle.optional.specs.declared.OptU8.{OptU8}
 use Rattle.optional.specs.declared.OptU32.{OptU32}
@@ -31,11 +31,14 @@ use Rattle.sched_core.specs.Calls.{ownerCall, usageCall}
 use Rattle.sched_core.specs.Invariant.{SoundMemory}
 use Rattle.history.specs.UplinkCall.{CapacityRequest, granted}
 use Rattle.history.specs.UplinkModel as uplink
-use Rattle.history.specs.UplinkClaim.{farthest}
 use Rattle.history.specs.Call.{Call, advance, request, enqueueAck, enqueueRecord, build, read, replied, block}
 use Rattle.history.specs.Queues.{queueAt}
 use Rattle.history.specs.Model.{NamedSdu, Model, modelReply, modelAt, queueNow, pdusBuilt, namesBuilt, pending, replaces}
 use Rattle.history.specs.Memory.{memoryReply, memoryAt}
+
+-- "4,320 to a hyperframe": the slots of 65,535 hyperframes
+abbrev pub farthest : ℕ
+farthest = 65535 * 4320
 
 -- what the model reserves for a request
 abbrev pub reserved : CapacityRequest → Model → List HalfSlot

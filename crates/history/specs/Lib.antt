@@ -1,12 +1,8 @@
 pub mod UplinkCall
 pub mod UplinkModel
-pub mod UplinkStation
-pub mod UplinkHistory
-pub mod UplinkClaim
 pub mod Call
 pub mod Queues
 pub mod Model
-pub mod Station
 pub mod Memory
 pub mod Demand3
 pub mod StarredCases

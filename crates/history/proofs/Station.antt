@@ -8,8 +8,8 @@ use Rattle.dl_queue.specs.Queue.{zeroCell}
 use Rattle.dl_merge.specs.Merge.{mergeCells}
 use Rattle.dl_send.specs.Send.{cellSdu}
 use Rattle.history.specs.UplinkCall.{UplinkCall}
-use Rattle.history.specs.UplinkStation as uplink
-use Rattle.history.specs.UplinkStation.{UplinkStation}
+use Rattle.history.proofs.UplinkStation as uplink
+use Rattle.history.proofs.UplinkStation.{UplinkStation}
 use Rattle.history.specs.Call.{Call, Reply}
 use Rattle.history.specs.Queues.{Queues, Loads, noQueues, uplinkCall, queuesAfter, replyOf}
 

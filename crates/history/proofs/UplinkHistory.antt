@@ -4,7 +4,7 @@ use Prim.Native.Nat.{ℕ, zero, suc}
 use Rattle.tdma_time.specs.declared.TdmaTime.{TdmaTime}
 use Rattle.history.specs.UplinkCall.{UplinkCall, advance, request, other, UplinkReply}
 use Rattle.history.specs.UplinkModel.{UplinkModel, newModel, modelAfter, modelReply}
-use Rattle.history.specs.UplinkStation.{UplinkStation, newStation, stationAfter, stationReply}
+use Rattle.history.proofs.UplinkStation.{UplinkStation, newStation, stationAfter, stationReply}
 
 unfoldable pub modelRun : List UplinkCall → UplinkModel → UplinkModel
 modelRun [] m = m

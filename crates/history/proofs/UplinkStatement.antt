@@ -14,13 +14,10 @@ use Rattle.uplink.specs.HalfSlot.{Half, HalfSlot}
 use Rattle.uplink.specs.UplinkEntry.{tableView}
 use Rattle.uplink.specs.Request.{msHalfSlots}
 use Rattle.history.specs.UplinkCall.{CapacityRequest, UplinkCall, request, granted}
+use Rattle.history.specs.Demand3.{farthest}
 use Rattle.history.specs.UplinkModel.{newModel, modelReply, reserved}
-use Rattle.history.specs.UplinkStation.{newStation, Sound}
-use Rattle.history.specs.UplinkHistory.{modelReplies, stationReplies, modelAt, stationAt, advances}
-
--- "4,320 to a hyperframe": the slots of 65,535 hyperframes
-abbrev pub farthest : ℕ
-farthest = 65535 * 4320
+use Rattle.history.proofs.UplinkStation.{newStation, Sound}
+use Rattle.history.proofs.UplinkHistory.{modelReplies, stationReplies, modelAt, stationAt, advances}
 
 -- Half-slot y stands reserved under number w: a request of number w reserved it, and its slot is not passed: it stood `off` slots
 -- after the request, and the time was not advanced by more since.
