@@ -8,8 +8,10 @@ use mathlib.Core.List.{List, [], _∷_, _++_, map, List·Memᴰ}
 use Prim.Native.Nat.{ℕ, zero, suc, _+_, _-_, _<_}
 use native.Mathlib.Omega.{arith}
 use native.Mathlib.Nat.{not-suc-le-zero, le-of-suc-le-suc}
+use lib.Dec.{eqb}
 use lib.ListN.{length, getD}
 use lib.Seq.{getD-set-same}
+use Rattle.sizes.specs.Sizes.{blockOctets}
 use Rattle.optional.specs.declared.OptU8.{OptU8}
 use Rattle.optional.proofs.Tests.{and-right}
 use Rattle.tdma_time.specs.declared.TdmaTime.{TdmaTime}
@@ -33,20 +35,19 @@ use Rattle.dl_send.specs.Send.{cellSdu, blockOf}
 use Rattle.dl_send.proofs.BlockLaws.{built-read}
 use Rattle.dl_send.proofs.KeptLaws.{all-loaded}
 use Rattle.dl_build.specs.Build.{inOrder, buildList}
-use Rattle.sched_core.specs.Questions.{isBlockLength}
-use Rattle.history.specs.UplinkCall.{UplinkReply, refused, granted}
-use Rattle.history.specs.UplinkModel as uplinkModel
-use Rattle.history.specs.Call.{Call, request, build, Reply, replied, block, noBlock}
-use Rattle.history.specs.Queues.{Queues, queueAt, someQueued, canBuild, built, afterBuild, buildReply, replyOf}
-use Rattle.history.specs.Model.{NamedSdu, namedLoads, Model, newModel, callOf, modelAfter, modelReply, modelAt, queueNow, pdusBuilt, namesBuilt, pending, replaces}
-use Rattle.history.proofs.Station.{cellLoads, Station, newStation, stationReply, stationAt}
+use Rattle.history.specs.Call.{Call, build, refused, block, noBlock, Stepped, stepped, unlessRefused, buildQuestion}
+use Rattle.history.specs.Queues.{Queues, queueAt, withQueueAt, someQueued, canBuild}
+use Rattle.history.specs.UplinkModel.{modelVerdict}
+use Rattle.history.specs.Model.{NamedSdu, Model, became, counted, namedBuilt, built, modelStep, modelAt, queueNow, pdusBuilt, namesBuilt, pending, replaces}
 use Rattle.history.specs.Demand3.{GrantRead, Origin, DerivedAt, ItsGrant}
+use Rattle.history.proofs.Lists.{Lists, cellsBuilt, listsAt}
 use Rattle.history.proofs.Derived.{GrantOf, grant-of, derived}
-use Rattle.history.proofs.WholeSimulation.{WholeAlike, whole-histories, whole-new, whole-reply, same-pdus}
+use Rattle.history.proofs.WholeSimulation.{whole-histories, same-pdus}
 use Rattle.history.proofs.GrantNames.{Along, along-length, along-at, numberIn, grantIn, GrantIn, built-tied}
 use Rattle.history.proofs.NamedHistory.{Faithful, at-more, named-history}
 use Rattle.history.proofs.KeptNames.{build-keeps}
-use Rattle.history.proofs.StoredHistory.{InCell, ordered-stored, stored-history}
+use Rattle.history.proofs.StoredHistory.{InCell, ordered-stored}
+use Rattle.history.proofs.RefinedHistory.{refined-history}
 
 -- ---- the reader's list
 
@@ -73,88 +74,73 @@ queue-inside (q ∷ qs) zero e = omega arith
 queue-inside (q ∷ qs) (suc i) e = let h = queue-inside qs i e in omega arith
 
 -- what is read in the block of a sound queue
-queue-read : (ys : List (Item (List ℕ))) → All InCell ys → readBlock 34 (blockOf 34 (blockBits (built cellLoads ys .pdus))) ≡ reader.replyOf (reader.headers (placed 0 (built cellLoads ys .pdus)))
-unfolding built buildList
-queue-read ys h = built-read cellSdu 34 (inOrder (mergeCells ys)) (omega arith) (omega arith) (all-loaded (inOrder (mergeCells ys)) (ordered-stored ys h))
+queue-read : (ys : List (Item (List ℕ))) → All InCell ys → readBlock blockOctets (blockOf blockOctets (blockBits (cellsBuilt ys .pdus))) ≡ reader.replyOf (reader.headers (placed 0 (cellsBuilt ys .pdus)))
+unfolding cellsBuilt buildList
+queue-read ys h = built-read cellSdu blockOctets (inOrder (mergeCells ys)) (omega arith) (omega arith) (all-loaded (inOrder (mergeCells ys)) (ordered-stored ys h))
 
 -- ---- the request that a grant comes from
-
-unreplied : {p q : UplinkReply} → _≡_ {A = Reply} (replied p) (replied q) → p ≡ q
-unreplied e = cc
 
 module _ (x : TdmaTime) (xs : List Call) (t number octet name : ℕ) (o : Origin x xs t number octet name) where
   abbrev at : Model
   at = modelAt x (o .before)
 
-  abbrev queued : ℕ
-  queued = length (queueAt (at .queues) (o .asker .timeslot))
-
-  its-reply : uplinkModel.modelReply (callOf (request (o .asker)) at) (at .uplink) ≡ granted (o .capacity) (o .delay) (o .marker)
-  unfolding modelReply replyOf
-  its-reply = unreplied (o .reply)
-
   short-delay : o .delay < 16
-  unfolding uplinkModel.modelVerdict
+  unfolding modelVerdict
   short-delay =
-      let g : GrantOf (o .asker) queued (at .uplink) (o .capacity) (o .delay) = grant-of (o .asker) queued (at .uplink) (o .capacity) (o .delay) (o .marker) its-reply in
+      let g : GrantOf (o .asker) at (o .capacity) (o .delay) = grant-of (o .asker) at (o .capacity) (o .delay) (o .marker) (o .reply) in
       omega (arith, verdict-grant _ _ _ (g .run) (g .verdict) .low, g .delay-is)
 
   origin-derived : (b : ℕ) → DerivedAt at (o .asker) octet b
   origin-derived b =
       let cap : capacityOf octet ≡ o .capacity = ap capacityOf (sym (o .its-octet)) ∙ capacity-in-octet (o .capacity) (o .delay) short-delay in
       let del : delayOf octet ≡ o .delay = ap delayOf (sym (o .its-octet)) ∙ delay-in-octet (o .capacity) (o .delay) short-delay in
-      rw (cap, del) (derived (o .asker) queued (at .uplink) (o .capacity) (o .delay) (o .marker) its-reply b)
+      rw (cap, del) (derived (o .asker) at (o .capacity) (o .delay) (o .marker) (o .reply) b)
 
 -- ---- a block built in a history
 
--- the octets of a block
-abbrev octetsOf : Reply → List ℕ
-octetsOf (replied r) = []
-octetsOf (block octets tags) = octets
-octetsOf noBlock = []
-
-abbrev isBlock : Reply → ℕ
-isBlock (replied r) = 0
-isBlock (block octets tags) = 1
-isBlock noBlock = 0
-
 module _ (x : TdmaTime) (v : Valid x) (before : List Call) (b : List ℕ) where
-  abbrev s : Station
-  s = stationAt x before
-
   abbrev m : Model
   m = modelAt x before
 
   abbrev t : ℕ
   t = timeslot (m .uplink .now)
 
-  alike : WholeAlike s m
-  alike = whole-histories before (newStation x) (newModel x) (whole-new x v)
-
   abbrev pdus : List Pdu
   pdus = pdusBuilt m
 
+  abbrev Replied : List ℕ → List ℕ → Type 0
+  Replied octets tags = modelStep (build b) m .reply ≡ block octets tags
+
+  -- what a build comes to that is not refused, and can be done
+  abbrev done : Stepped Model
+  done =
+      became m (m .uplink) (withQueueAt (m .queues) t (namedBuilt (queueNow m) .left))
+      (block (blockOf blockOctets (blockBits pdus)) (namedBuilt (queueNow m) .tags))
+
   -- it was built, of the model's PDUs
-  block-built : (octets tags : List ℕ) → stationReply (build b) s ≡ block octets tags
-      → (isBlockLength b ≡ true) × (canBuild (m .uplink .now) (m .queues) ≡ true) × (octets ≡ blockOf 34 (blockBits pdus))
-  unfolding modelReply replyOf buildReply pdusBuilt
-  block-built octets tags e = go (isBlockLength b) (canBuild (m .uplink .now) (m .queues)) (sym (whole-reply (build b) s m alike) ∙ e)
+  block-built : (octets tags : List ℕ) → Replied octets tags
+      → (canBuild (m .uplink .now) (m .queues) ≡ true) × (modelStep (build b) m .after ≡ done .after) × (octets ≡ blockOf blockOctets (blockBits pdus))
+  unfolding modelStep unlessRefused built pdusBuilt
+  block-built octets tags e = go (eqb (buildQuestion b) 0) (canBuild (m .uplink .now) (m .queues)) e
     where
-      go : (right can : Bool) → cond right (cond can (block (blockOf 34 (blockBits pdus)) (built namedLoads (queueAt (m .queues) t) .tags)) noBlock) (replied (refused 2)) ≡ block octets tags
-          → (right ≡ true) × (can ≡ true) × (octets ≡ blockOf 34 (blockBits pdus))
-      go true true q = (refl, refl, sym (ap octetsOf q))
-      go false can q = absurd (let z : _≡_ {A = ℕ} 0 1 = ap isBlock q in omega arith)
-      go true false q = absurd (let z : _≡_ {A = ℕ} 0 1 = ap isBlock q in omega arith)
+      step : Bool → Bool → Stepped Model
+      step right can = cond right (cond can done (stepped (counted m) noBlock)) (stepped (counted m) (refused (buildQuestion b)))
+
+      go : (right can : Bool) → step right can .reply ≡ block octets tags
+          → (can ≡ true) × (step right can .after ≡ done .after) × (octets ≡ blockOf blockOctets (blockBits pdus))
+      go true true q = (refl, refl, cc)
+      go false can q = absurd (let z : _≡_ {A = ℕ} 0 1 = cc in omega arith)
+      go true false q = absurd (let z : _≡_ {A = ℕ} 0 1 = cc in omega arith)
 
   -- what stays of the queue
-  block-left : (octets tags : List ℕ) → stationReply (build b) s ≡ block octets tags → queueNow (modelAt x (before ++ build b ∷ [])) ≡ built namedLoads (queueNow m) .left
-  unfolding modelAfter uplinkModel.modelAfter afterBuild canBuild
+  block-left : (octets tags : List ℕ) → Replied octets tags → queueNow (modelAt x (before ++ build b ∷ [])) ≡ namedBuilt (queueNow m) .left
+  unfolding canBuild
   block-left octets tags e =
-      let (right, can, same) = block-built octets tags e in
-      ap queueNow (at-more x before (build b))
-      ∙ rw (right, can) (getD-set-same (m .queues) (t - 1) _ [] (queue-inside (m .queues) (t - 1) (and-right (usable (m .uplink .now)) _ can)))
+      let (can, after, same) = block-built octets tags e in
+      ap queueNow (at-more x before (build b) ∙ after)
+      ∙ getD-set-same (m .queues) (t - 1) _ [] (queue-inside (m .queues) (t - 1) (and-right (usable (m .uplink .now)) _ can))
 
-  pub block-kept : (octets tags : List ℕ) → stationReply (build b) s ≡ block octets tags
+  pub block-kept : (octets tags : List ℕ) → Replied octets tags
       → (front back : List (Item NamedSdu)) (g : Item NamedSdu) (name : ℕ) → queueNow m ≡ front ++ g ∷ back → pending g ≡ some name
       → ((y : Item NamedSdu) → List·Memᴰ y back → replaces y g ≡ false)
       → List·Memᴰ (some name) (namesBuilt m) ⊎ List·Memᴰ (some name) (map pending (queueNow (modelAt x (before ++ build b ∷ []))))
@@ -162,14 +148,15 @@ module _ (x : TdmaTime) (v : Valid x) (before : List Call) (b : List ℕ) where
   block-kept octets tags e front back g name q n k = rw (block-left octets tags e, q) (build-keeps front back g name n k)
 
   -- what is read in it
-  pub block-listed : (octets tags : List ℕ) → stationReply (build b) s ≡ block octets tags → readBlock 34 octets ≡ reader.replyOf (reader.headers (placed 0 pdus))
+  pub block-listed : (octets tags : List ℕ) → Replied octets tags → readBlock blockOctets octets ≡ reader.replyOf (reader.headers (placed 0 pdus))
   unfolding pdusBuilt
   block-listed octets tags e =
+      let s : Lists = listsAt x before in
       let ys : List (Item (List ℕ)) = queueAt (s .queues) t in
-      let same : built cellLoads ys .pdus ≡ pdus = same-pdus (s .queues) (m .queues) (alike .queues) t in
-      let (right, can, from) = block-built octets tags e in
-      ap (readBlock 34) (from ∙ ap (λ (ps : List Pdu). blockOf 34 (blockBits ps)) (sym same))
-      ∙ queue-read ys (stored-history x v before t (omega arith))
+      let same : cellsBuilt ys .pdus ≡ pdus = same-pdus (s .queues) (m .queues) (whole-histories x v before .queues) t in
+      let (can, after, from) = block-built octets tags e in
+      ap (readBlock blockOctets) (from ∙ ap (λ (ps : List Pdu). blockOf blockOctets (blockBits ps)) (sym same))
+      ∙ queue-read ys (refined-history x v before .fit .queues t (omega arith))
       ∙ ap (λ (ps : List Pdu). reader.replyOf (reader.headers (placed 0 ps))) same
 
   -- the PDUs and their names, one by one
@@ -177,11 +164,11 @@ module _ (x : TdmaTime) (v : Valid x) (before : List Call) (b : List ℕ) where
   unfolding pdusBuilt namesBuilt
   names-tied = built-tied (Faithful x before t) (λ n. tt) (queueAt (m .queues) t) (named-history x before t (omega arith))
 
-  module _ (octets tags : List ℕ) (e : stationReply (build b) s ≡ block octets tags) where
-    many-listed : readBlock 34 octets .count ≡ length pdus
+  module _ (octets tags : List ℕ) (e : Replied octets tags) where
+    many-listed : readBlock blockOctets octets .count ≡ length pdus
     many-listed = ap (λ (y : BlockHeaders). y .count) (block-listed octets tags e) ∙ placed-length 0 pdus
 
-    header-listed : (i : ℕ) → i < length pdus → getD (readBlock 34 octets .headers) i noHeader .header ≡ header (getD pdus i null)
+    header-listed : (i : ℕ) → i < length pdus → getD (readBlock blockOctets octets .headers) i noHeader .header ≡ header (getD pdus i null)
     header-listed i l = ap (λ (y : BlockHeaders). getD (y .headers) i noHeader .header) (block-listed octets tags e) ∙ placed-at 0 pdus _ i l
 
     its-grant : (h : ResourceHeader) (octet name : ℕ) → Faithful x before t (numberOf (h .address)) (OptU8.Of octet) (some name) → ItsGrant x before h octet name
@@ -208,15 +195,15 @@ module _ (x : TdmaTime) (v : Valid x) (before : List Call) (b : List ℕ) where
         go (header (getD pdus i null)) (header-listed i inside)
         (rw q at (along-at (GrantIn (Faithful x before t)) pdus (namesBuilt m) names-tied i inside null none))
       where
-        inside : i < readBlock 34 octets .count
+        inside : i < readBlock blockOctets octets .count
         inside = rw (many-listed, along-length (GrantIn (Faithful x before t)) pdus (namesBuilt m) names-tied) (some-inside (namesBuilt m) i name q)
 
-        by-grant : (h : ResourceHeader) (grant : OptU8) → h .«slot_granting_element» ≡ grant → getD (readBlock 34 octets .headers) i noHeader .header ≡ PduHeader.Resource h
+        by-grant : (h : ResourceHeader) (grant : OptU8) → h .«slot_granting_element» ≡ grant → getD (readBlock blockOctets octets .headers) i noHeader .header ≡ PduHeader.Resource h
             → Faithful x before t (numberOf (h .address)) grant (some name) → (h : ResourceHeader) × (octet : ℕ) × GrantRead octets i h octet × ItsGrant x before h octet name
         by-grant h OptU8.Absent g e k = absurd k
         by-grant h (OptU8.Of octet) g e k = (h, octet, record { listed = inside; header = e; grant = g }, its-grant h octet name k)
 
-        go : (p : PduHeader) → getD (readBlock 34 octets .headers) i noHeader .header ≡ p → Faithful x before t (numberIn p) (grantIn p) (some name)
+        go : (p : PduHeader) → getD (readBlock blockOctets octets .headers) i noHeader .header ≡ p → Faithful x before t (numberIn p) (grantIn p) (some name)
             → (h : ResourceHeader) × (octet : ℕ) × GrantRead octets i h octet × ItsGrant x before h octet name
         go (PduHeader.Resource h) e k = by-grant h _ refl e k
         go (PduHeader.Frag f) e k = absurd k

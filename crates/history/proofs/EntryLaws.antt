@@ -13,7 +13,7 @@ use Rattle.uplink.specs.declared.Entry.{Entry}
 use Rattle.uplink.specs.HalfSlot.{Half, firstHalf, secondHalf, halvesAt}
 use Rattle.uplink.specs.UplinkEntry.{emptyEntry, holder, withHalf, withHalves, withMarker}
 use Rattle.dl_merge.specs.Merge.{orElse}
-use Rattle.history.specs.UplinkModel.{Taken, sameHalf, takenBy, modelView, markedBy, modelEntry, freed, takes}
+use Rattle.history.specs.UplinkModel.{Taken, sameHalf, takenBy, modelView, markedBy, modelEntry, freed, takeHalves}
 use Rattle.history.proofs.ModelLaws.{taken-on, freed-same, freed-other, halfSlot, takes-off}
 
 -- what an entry shows of its halves
@@ -49,8 +49,8 @@ freed-marked (x ∷ xs) u t k = go (eqb (x .what .time) u) refl (freed-marked xs
     go true e ih = ih ∙ sym (marked-off x xs t (λ q. k (sym q ∙ eqb-true _ _ e)))
     go false e ih = rw ih
 
-takes-unmarked : (hs : List Half) (c who : ℕ) (marker : OptU8) (xs : List Taken) (t : ℕ) → clock c ≢ t → markedBy (takes (halvesAt hs c) who marker xs) t ≡ markedBy xs t
-unfolding takes halvesAt
+takes-unmarked : (hs : List Half) (c who : ℕ) (marker : OptU8) (xs : List Taken) (t : ℕ) → clock c ≢ t → markedBy (takeHalves (halvesAt hs c) who marker xs) t ≡ markedBy xs t
+unfolding takeHalves halvesAt
 takes-unmarked [] c who marker xs t e = refl
 takes-unmarked (x ∷ hs) c who marker xs t e = takes-unmarked hs c who marker _ t e ∙ marked-off _ xs t e
 
@@ -66,7 +66,7 @@ pub entry-stays : (xs : List Taken) (n c : ℕ) → clock c ≢ n → modelEntry
 entry-stays xs n c e = entry-same (freed xs n) xs c (λ h. freed-other xs n (clock c) h e) (freed-marked xs n (clock c) e)
 
 -- where halves of another slot are taken
-pub entry-off : (hs : List Half) (c who : ℕ) (marker : OptU8) (xs : List Taken) (x : ℕ) → clock c ≢ clock x → modelEntry (takes (halvesAt hs c) who marker xs) x ≡ modelEntry xs x
+pub entry-off : (hs : List Half) (c who : ℕ) (marker : OptU8) (xs : List Taken) (x : ℕ) → clock c ≢ clock x → modelEntry (takeHalves (halvesAt hs c) who marker xs) x ≡ modelEntry xs x
 entry-off hs c who marker xs x e = entry-same _ xs x (λ h. takes-off hs c who marker xs (clock x) h e) (takes-unmarked hs c who marker xs (clock x) e)
 
 -- slots that show one time
@@ -106,12 +106,12 @@ module _ (c who : ℕ) (marker : OptU8) where
       go OptU8.Absent = refl
       go (OptU8.Of m) = refl
 
-  all-more : (hs : List Half) (xs : List Taken) → withMarker (modelEntry xs c) marker ≡ modelEntry xs c → withHalves (modelEntry xs c) hs who ≡ modelEntry (takes (halvesAt hs c) who marker xs) c
-  unfolding withHalves takes halvesAt
+  all-more : (hs : List Half) (xs : List Taken) → withMarker (modelEntry xs c) marker ≡ modelEntry xs c → withHalves (modelEntry xs c) hs who ≡ modelEntry (takeHalves (halvesAt hs c) who marker xs) c
+  unfolding withHalves takeHalves halvesAt
   all-more [] xs e = refl
   all-more (h ∷ hs) xs e = ap (λ (y : Entry). withHalves y hs who) (ap (λ (y : Entry). withHalf y h who) (sym e) ∙ one-more xs h) ∙ all-more hs (taken h ∷ xs) (once-marked xs h)
 
-  pub entry-more : (hs : List Half) → SomeHalf hs → (xs : List Taken) → withHalves (withMarker (modelEntry xs c) marker) hs who ≡ modelEntry (takes (halvesAt hs c) who marker xs) c
-  unfolding withHalves takes halvesAt
+  pub entry-more : (hs : List Half) → SomeHalf hs → (xs : List Taken) → withHalves (withMarker (modelEntry xs c) marker) hs who ≡ modelEntry (takeHalves (halvesAt hs c) who marker xs) c
+  unfolding withHalves takeHalves halvesAt
   entry-more [] k xs = absurd k
   entry-more (h ∷ hs) k xs = ap (λ (y : Entry). withHalves y hs who) (one-more xs h) ∙ all-more hs (taken h ∷ xs) (once-marked xs h)

@@ -8,6 +8,7 @@ use Prim.Native.Nat.{ℕ, zero, suc, _+_, _-_, _*_, _/_, _<_}
 use native.Mathlib.Nat.{le-of-suc-le-suc, not-suc-le-zero}
 use lib.Dec.{leb, ltb}
 use lib.ListN.{length, getD}
+use Rattle.sizes.specs.Sizes.{blockWidth}
 use Rattle.optional.specs.declared.OptU8.{OptU8}
 use Rattle.optional.specs.declared.OptU16.{OptU16}
 use Rattle.fillbits.specs.Fill.{fillWanted}
@@ -27,8 +28,7 @@ use Rattle.bs_frag.specs.declared.Outcome.the-variants.{Finished, Waiting, Star
 use Rattle.dl_send.specs.Send.{kept, isUnderway, nullIn, turn, sendAll}
 use Rattle.dl_send.proofs.KeptLaws.{all-append}
 use Rattle.dl_build.specs.Build.{inOrder, buildList}
-use Rattle.history.specs.Queues.{built}
-use Rattle.history.specs.Model.{NamedSdu, namedSdu, namedLoads, nameIn, namesSent}
+use Rattle.history.specs.Model.{NamedSdu, namedSdu, namedBuilt, nameIn, namesSent}
 
 -- ---- two lists, element by element
 
@@ -182,10 +182,10 @@ module _ (R : ℕ → OptU8 → Option ℕ → Type 0) where
 
   -- ---- a build
 
-  pub built-left : (xs : List (Item NamedSdu)) → All (Tied R) xs → All (Tied R) (built namedLoads xs .left)
-  unfolding built buildList
-  built-left xs h = left-tied 268 (inOrder (mergeNamed [] xs)) (merged-tied xs h)
+  pub built-left : (xs : List (Item NamedSdu)) → All (Tied R) xs → All (Tied R) (namedBuilt xs .left)
+  unfolding namedBuilt buildList
+  built-left xs h = left-tied blockWidth (inOrder (mergeNamed [] xs)) (merged-tied xs h)
 
-  pub built-tied : ((n : ℕ) → R n OptU8.Absent none) → (xs : List (Item NamedSdu)) → All (Tied R) xs → Along (GrantIn R) (built namedLoads xs .pdus) (namesSent 268 (inOrder (mergeNamed [] xs)))
-  unfolding built buildList
-  built-tied bare xs h = pdus-tied R bare 268 (inOrder (mergeNamed [] xs)) (merged-tied xs h)
+  pub built-tied : ((n : ℕ) → R n OptU8.Absent none) → (xs : List (Item NamedSdu)) → All (Tied R) xs → Along (GrantIn R) (namedBuilt xs .pdus) (namesSent blockWidth (inOrder (mergeNamed [] xs)))
+  unfolding namedBuilt buildList
+  built-tied bare xs h = pdus-tied R bare blockWidth (inOrder (mergeNamed [] xs)) (merged-tied xs h)

@@ -9,10 +9,12 @@ use Prim.Native.Nat.{ℕ, _+_}
 use native.Mathlib.Omega.{arith}
 use lib.Dec.{eqb, leb, ltb}
 use borrow.Author.Tests.{eqb-true, eq-eqb}
+use Rattle.sizes.specs.Sizes.{blockWidth}
 use Rattle.optional.proofs.Tests.{and-left, and-right}
 use Rattle.uplink.proofs.Basics.{not-both}
 use Rattle.dl_record.specs.declared.Kind.{Kind}
 use Rattle.dl_record.specs.declared.Record.{Record}
+use Rattle.dl_record.specs.Questions.{isGrant}
 use Rattle.dl_queue.specs.Queue.{Item, item}
 use Rattle.dl_merge.specs.Merge.{isGrantOrAck, isKept, isRecord, joined, takes, only, put, puts, merge, nameAfter, freshName, joinName, mergeNamed}
 use Rattle.dl_merge.proofs.MergeLaws.{All}
@@ -21,8 +23,7 @@ use Rattle.bs_frag.proofs.Laws.{next-first}
 use Rattle.bs_frag.specs.declared.Outcome.the-variants.{Waiting}
 use Rattle.dl_send.specs.Send.{kept, isUnderway, turn, sendAll}
 use Rattle.dl_build.specs.Build.{inOrder, buildList}
-use Rattle.history.specs.Queues.{built}
-use Rattle.history.specs.Model.{NamedSdu, namedSdu, namedLoads, nameIn, namesSent, isGrant, pendingAs, pending, replaces}
+use Rattle.history.specs.Model.{NamedSdu, namedSdu, namedBuilt, nameIn, namesSent, pendingAs, pending, replaces}
 
 -- ---- some element of a list
 
@@ -216,10 +217,10 @@ module _ (number name : ℕ) where
 
   -- ---- a build
 
-  order-keeps : (xs : List (Item NamedSdu)) → Any (Has Kind.Record number name) xs ⊎ Any (Has Kind.Waiting number name) xs → Fate (namesSent 268 (inOrder xs)) (sendAll namedSdu 268 (inOrder xs) .left)
+  order-keeps : (xs : List (Item NamedSdu)) → Any (Has Kind.Record number name) xs ⊎ Any (Has Kind.Waiting number name) xs → Fate (namesSent blockWidth (inOrder xs)) (sendAll namedSdu blockWidth (inOrder xs) .left)
   unfolding inOrder
-  order-keeps xs (inl h) = send-keeps Kind.Record refl 268 _ (any-right (Has Kind.Record number name) (only isUnderway xs) (only isRecord xs) (only-has Kind.Record isRecord refl xs h))
-  order-keeps xs (inr h) = send-keeps Kind.Waiting refl 268 _ (any-left (Has Kind.Waiting number name) (only isUnderway xs) (only isRecord xs) (only-has Kind.Waiting isUnderway refl xs h))
+  order-keeps xs (inl h) = send-keeps Kind.Record refl blockWidth _ (any-right (Has Kind.Record number name) (only isUnderway xs) (only isRecord xs) (only-has Kind.Record isRecord refl xs h))
+  order-keeps xs (inr h) = send-keeps Kind.Waiting refl blockWidth _ (any-left (Has Kind.Waiting number name) (only isUnderway xs) (only isRecord xs) (only-has Kind.Waiting isUnderway refl xs h))
 
   left-pending : (xs : List (Item NamedSdu)) → Any (Has Kind.Waiting number name) xs → List·Memᴰ (some name) (map pending xs)
   left-pending [] h = absurd h
@@ -227,10 +228,10 @@ module _ (number name : ℕ) where
   left-pending (x ∷ xs) (inr h) = List·Memᴰ·tail (left-pending xs h)
 
 pub build-keeps : (front back : List (Item NamedSdu)) (g : Item NamedSdu) (name : ℕ) → pending g ≡ some name → ((y : Item NamedSdu) → List·Memᴰ y back → replaces y g ≡ false)
-    → List·Memᴰ (some name) (namesSent 268 (inOrder (mergeNamed [] (front ++ g ∷ back)))) ⊎ List·Memᴰ (some name) (map pending (built namedLoads (front ++ g ∷ back) .left))
-unfolding built buildList
+    → List·Memᴰ (some name) (namesSent blockWidth (inOrder (mergeNamed [] (front ++ g ∷ back)))) ⊎ List·Memᴰ (some name) (map pending (namedBuilt (front ++ g ∷ back) .left))
+unfolding namedBuilt buildList
 build-keeps front back g name e k =
-    ⊎-elim inl (λ a. inr (left-pending (g .rec .number) name (built namedLoads (front ++ g ∷ back) .left) a)) (order-keeps (g .rec .number) name (mergeNamed [] (front ++ g ∷ back)) (go (g .rec .kind) refl e k))
+    ⊎-elim inl (λ a. inr (left-pending (g .rec .number) name (namedBuilt (front ++ g ∷ back) .left) a)) (order-keeps (g .rec .number) name (mergeNamed [] (front ++ g ∷ back)) (go (g .rec .kind) refl e k))
   where
     go : (kind : Kind) → g .rec .kind ≡ kind → pendingAs kind (g .load .name) ≡ some name
         → ((y : Item NamedSdu) → List·Memᴰ y back → isGrant kind && isGrant (y .rec .kind) && eqb (y .rec .number) (g .rec .number) ≡ false)

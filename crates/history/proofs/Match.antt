@@ -16,7 +16,7 @@ use Rattle.uplink.specs.UplinkEntry.{emptyEntry, Table, FourRowsOfEighteen, emp
 use Rattle.uplink.specs.Request.{halvesOf}
 use Rattle.uplink.proofs.VerdictLaws.{Near}
 use Rattle.uplink.proofs.TableLaws.{store-shape, store-same, store-other, entry-clock, empty-shape, empty-entry}
-use Rattle.history.specs.UplinkModel.{Taken, takenBy, modelView, markedBy, modelEntry, freed, takes}
+use Rattle.history.specs.UplinkModel.{Taken, takenBy, modelView, markedBy, modelEntry, freed, takeHalves}
 use Rattle.history.proofs.ModelLaws.{takes-append}
 use Rattle.history.proofs.EntryLaws.{holder-entry, entry-freed, entry-stays, entry-off, entry-time, SomeHalf, entry-more}
 
@@ -53,34 +53,34 @@ halves-some cap = go (eqb cap 0) (eqb cap 15)
 
 module _ (n : ℕ) (t : Table) (xs : List Taken) (m : Matched n t xs) where
   reserve-one : (hs : List Half) → SomeHalf hs → (who : ℕ) (k : OptU8) (c : ℕ) → n ≤ c → c < n + 68
-      → Matched n (store t c (withHalves (withMarker (entryAt t c) k) hs who)) (takes (halvesAt hs c) who k xs)
+      → Matched n (store t c (withHalves (withMarker (entryAt t c) k) hs who)) (takeHalves (halvesAt hs c) who k xs)
   reserve-one hs some who k c low high = record { shape = store-shape t c _ (m .shape); agree = agree′; ahead = ahead′ }
     where
       e : Entry
       e = withHalves (withMarker (entryAt t c) k) hs who
 
-      agree′ : (x : ℕ) → n ≤ x → x < n + 69 → entryAt (store t c e) x ≡ modelEntry (takes (halvesAt hs c) who k xs) x
+      agree′ : (x : ℕ) → n ≤ x → x < n + 69 → entryAt (store t c e) x ≡ modelEntry (takeHalves (halvesAt hs c) who k xs) x
       agree′ x l g = elim (ℕ-discrete x c) [ yes p ↦ at p | no p ↦ off p ]
         where
-          at : x ≡ c → entryAt (store t c e) x ≡ modelEntry (takes (halvesAt hs c) who k xs) x
+          at : x ≡ c → entryAt (store t c e) x ≡ modelEntry (takeHalves (halvesAt hs c) who k xs) x
           at p =
               rw (p, store-same t c e (m .shape) c refl)
               (ap (λ (y : Entry). withHalves (withMarker y k) hs who) (m .agree c low (omega arith)) ∙ entry-more c who k hs some xs)
 
-          off : x ≢ c → entryAt (store t c e) x ≡ modelEntry (takes (halvesAt hs c) who k xs) x
+          off : x ≢ c → entryAt (store t c e) x ≡ modelEntry (takeHalves (halvesAt hs c) who k xs) x
           off p =
               store-other t c e (m .shape) x (apart-cell n x c l (omega arith) low (omega arith) p)
               ∙ m .agree x l g
               ∙ sym (entry-off hs c who k xs x (λ q. apart-clock n x c l (omega arith) low (omega arith) p (sym q)))
 
-      ahead′ : (x : ℕ) → n + 68 ≤ x → x < n + cycle → modelEntry (takes (halvesAt hs c) who k xs) x ≡ emptyEntry
+      ahead′ : (x : ℕ) → n + 68 ≤ x → x < n + cycle → modelEntry (takeHalves (halvesAt hs c) who k xs) x ≡ emptyEntry
       ahead′ x l g = entry-off hs c who k xs x (λ q. apart-clock n c x low (omega arith) (omega arith) g (omega arith) q) ∙ m .ahead x l g
 
 -- ---- a run of slots reserved
 
 pub reserve-matched : (n : ℕ) (hs : List Half) → SomeHalf hs → (who : ℕ) (k : OptU8) (cs : List ℕ) → All (Near n) cs → (t : Table) (xs : List Taken) → Matched n t xs
-    → Matched n (reserve t hs who k cs) (takes (halvesOfSlots hs cs) who k xs)
-unfolding reserve halvesOfSlots takes
+    → Matched n (reserve t hs who k cs) (takeHalves (halvesOfSlots hs cs) who k xs)
+unfolding reserve halvesOfSlots takeHalves
 reserve-matched n hs some who k [] near t xs m = m
 reserve-matched n hs some who k (c ∷ cs) near t xs m =
     rw (takes-append (halvesAt hs c) (halvesOfSlots hs cs) who k xs)

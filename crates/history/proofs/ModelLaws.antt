@@ -14,7 +14,7 @@ use Rattle.tdma_time.specs.Time.{clock}
 use Rattle.tdma_time.proofs.Basics.{either, All, all-map}
 use Rattle.uplink.specs.HalfSlot.{Half, firstHalf, secondHalf, HalfSlot, halvesAt}
 use Rattle.uplink.proofs.Basics.{not-both}
-use Rattle.history.specs.UplinkModel.{Taken, sameHalf, takenBy, freed, takes}
+use Rattle.history.specs.UplinkModel.{Taken, sameHalf, takenBy, freed, takeHalves}
 
 -- ---- halves and holders
 
@@ -65,20 +65,20 @@ freed-other (x ∷ xs) u t h k = go (eqb (x .what .time) u) refl (freed-other xs
 
 -- ---- half-slots taken
 
-pub takes-append : (ys zs : List HalfSlot) (who : ℕ) (marker : OptU8) (xs : List Taken) → takes (ys ++ zs) who marker xs ≡ takes zs who marker (takes ys who marker xs)
-unfolding takes
+pub takes-append : (ys zs : List HalfSlot) (who : ℕ) (marker : OptU8) (xs : List Taken) → takeHalves (ys ++ zs) who marker xs ≡ takeHalves zs who marker (takeHalves ys who marker xs)
+unfolding takeHalves
 takes-append [] zs who marker xs = refl
 takes-append (y ∷ ys) zs who marker xs = takes-append ys zs who marker _
 
 -- those of another slot
-pub takes-off : (hs : List Half) (c who : ℕ) (marker : OptU8) (xs : List Taken) (t : ℕ) (h : Half) → clock c ≢ t → takenBy (takes (halvesAt hs c) who marker xs) t h ≡ takenBy xs t h
-unfolding takes halvesAt
+pub takes-off : (hs : List Half) (c who : ℕ) (marker : OptU8) (xs : List Taken) (t : ℕ) (h : Half) → clock c ≢ t → takenBy (takeHalves (halvesAt hs c) who marker xs) t h ≡ takenBy xs t h
+unfolding takeHalves halvesAt
 takes-off [] c who marker xs t h e = refl
 takes-off (x ∷ hs) c who marker xs t h e = takes-off hs c who marker _ t h e ∙ taken-off _ xs t h e
 
 -- what the number holds it keeps
-takes-keeps : (ys : List HalfSlot) (who : ℕ) (marker : OptU8) (xs : List Taken) (t : ℕ) (h : Half) → takenBy xs t h ≡ OptU32.Of who → takenBy (takes ys who marker xs) t h ≡ OptU32.Of who
-unfolding takes takenBy
+takes-keeps : (ys : List HalfSlot) (who : ℕ) (marker : OptU8) (xs : List Taken) (t : ℕ) (h : Half) → takenBy xs t h ≡ OptU32.Of who → takenBy (takeHalves ys who marker xs) t h ≡ OptU32.Of who
+unfolding takeHalves takenBy
 takes-keeps [] who marker xs t h e = e
 takes-keeps (y ∷ ys) who marker xs t h e = takes-keeps ys who marker _ t h (go (eqb (y .time) t && sameHalf (y .half) h))
   where
@@ -87,12 +87,12 @@ takes-keeps (y ∷ ys) who marker xs t h e = takes-keeps ys who marker _ t h (go
     go false = e
 
 -- each of them is held by the number
-pub takes-has : (y : HalfSlot) (ys : List HalfSlot) (who : ℕ) (marker : OptU8) (xs : List Taken) → List·Memᴰ y ys → takenBy (takes ys who marker xs) (y .time) (y .half) ≡ OptU32.Of who
-unfolding takes
+pub takes-has : (y : HalfSlot) (ys : List HalfSlot) (who : ℕ) (marker : OptU8) (xs : List Taken) → List·Memᴰ y ys → takenBy (takeHalves ys who marker xs) (y .time) (y .half) ≡ OptU32.Of who
+unfolding takeHalves
 takes-has y [] who marker xs m = absurd (List·Memᴰ·not-nil m)
 takes-has y (z ∷ ys) who marker xs m = ⊎-elim here (takes-has y ys who marker _) (List·Memᴰ·cases-cons m)
   where
-    here : y ≡ z → takenBy (takes ys who marker (record { what = z; who = who; marker = marker } ∷ xs)) (y .time) (y .half) ≡ OptU32.Of who
+    here : y ≡ z → takenBy (takeHalves ys who marker (record { what = z; who = who; marker = marker } ∷ xs)) (y .time) (y .half) ≡ OptU32.Of who
     here e = rw e (takes-keeps ys who marker _ (z .time) (z .half) (taken-on _ xs (z .time) (z .half) refl ∙ rw (same-self (z .half))))
 
 -- ---- what is held stays held where free half-slots are taken
@@ -103,8 +103,8 @@ Free xs y = takenBy xs (y .time) (y .half) ≡ OptU32.Absent
 abbrev Other : ℕ → Half → HalfSlot → Type 0
 Other t h y = eqb (y .time) t && sameHalf (y .half) h ≡ false
 
-takes-other : (ys : List HalfSlot) (who : ℕ) (marker : OptU8) (xs : List Taken) (t : ℕ) (h : Half) → All (Other t h) ys → takenBy (takes ys who marker xs) t h ≡ takenBy xs t h
-unfolding takes takenBy
+takes-other : (ys : List HalfSlot) (who : ℕ) (marker : OptU8) (xs : List Taken) (t : ℕ) (h : Half) → All (Other t h) ys → takenBy (takeHalves ys who marker xs) t h ≡ takenBy xs t h
+unfolding takeHalves takenBy
 takes-other [] who marker xs t h k = refl
 takes-other (y ∷ ys) who marker xs t h k = takes-other ys who marker _ t h (k .1) ∙ rw (k .0)
 
@@ -118,7 +118,7 @@ free-other xs t h w e y f = ⊎-elim clash (λ n. n) (either _)
         let taken : takenBy xs (y .time) (y .half) ≡ OptU32.Of w = rw (et, eh) e in
         absurd (held-not-free (sym taken ∙ f))
 
-pub takes-stays : (ys : List HalfSlot) (who : ℕ) (marker : OptU8) (xs : List Taken) (t : ℕ) (h : Half) (w : ℕ) → All (Free xs) ys → takenBy xs t h ≡ OptU32.Of w → takenBy (takes ys who marker xs) t h ≡ OptU32.Of w
+pub takes-stays : (ys : List HalfSlot) (who : ℕ) (marker : OptU8) (xs : List Taken) (t : ℕ) (h : Half) (w : ℕ) → All (Free xs) ys → takenBy xs t h ≡ OptU32.Of w → takenBy (takeHalves ys who marker xs) t h ≡ OptU32.Of w
 takes-stays ys who marker xs t h w f e = takes-other ys who marker xs t h (all-map (free-other xs t h w e) ys f) ∙ e
 
 -- ---- what is held was taken now, or held before
@@ -126,9 +126,9 @@ takes-stays ys who marker xs t h w f e = takes-other ys who marker xs t h (all-m
 abbrev pub halfSlot : ℕ → Half → HalfSlot
 halfSlot t h = record { time = t; half = h }
 
-pub takes-source : (ys : List HalfSlot) (who : ℕ) (marker : OptU8) (xs : List Taken) (t : ℕ) (h : Half) (w : ℕ) → takenBy (takes ys who marker xs) t h ≡ OptU32.Of w
+pub takes-source : (ys : List HalfSlot) (who : ℕ) (marker : OptU8) (xs : List Taken) (t : ℕ) (h : Half) (w : ℕ) → takenBy (takeHalves ys who marker xs) t h ≡ OptU32.Of w
     → (List·Memᴰ (halfSlot t h) ys × (who ≡ w)) ⊎ (takenBy xs t h ≡ OptU32.Of w)
-unfolding takes takenBy
+unfolding takeHalves takenBy
 takes-source [] who marker xs t h w e = inr e
 takes-source (y ∷ ys) who marker xs t h w e = go (takes-source ys who marker _ t h w e)
   where

@@ -6,15 +6,18 @@ use mathlib.Core.Option.{Option, none, some}
 use mathlib.Core.List.{List, [], _∷_, _++_, append-assoc, append-nil}
 use Prim.Native.Nat.{ℕ, zero, suc, _-_, _≤_}
 use native.Mathlib.Omega.{arith}
-use lib.Dec.{eqb, leb}
+use lib.Dec.{leb}
 use lib.ListN.{length, getD, set, length-append}
 use lib.Seq.{append-snoc}
-use borrow.Author.Tests.{eqb-true, leb-true}
+use borrow.Author.Tests.{leb-true}
+use Rattle.sizes.specs.Sizes.{timeslots}
 use Rattle.optional.specs.declared.OptU8.{OptU8}
 use Rattle.optional.proofs.Tests.{and-left, and-right}
 use Rattle.tdma_time.specs.declared.TdmaTime.{TdmaTime}
 use Rattle.tdma_time.specs.Time.{timeslot}
 use Rattle.slot_codes.specs.Codes.{grantOctet}
+use Rattle.uplink.specs.Search.{Run}
+use Rattle.uplink.specs.Request.{Verdict, noRun, tooLate, grant}
 use Rattle.uplink.proofs.Basics.{not-both}
 use Rattle.mac_pdus.specs.Legal.{absentU8, legalQueued, legalOffered}
 use Rattle.dl_record.specs.Record.{grantRecord, ackRecord, resourceOf}
@@ -22,15 +25,15 @@ use Rattle.dl_queue.specs.Queue.{Item, item}
 use Rattle.dl_merge.proofs.MergeLaws.{All, all-weaken}
 use Rattle.dl_merge.proofs.NameLaws.{Tied}
 use Rattle.dl_send.proofs.KeptLaws.{all-append}
-use Rattle.sched_core.specs.Questions.{legalTimeslot, isBlockLength}
-use Rattle.history.specs.UplinkCall.{CapacityRequest, UplinkReply, done, refused, granted}
-use Rattle.history.specs.UplinkModel as uplinkModel
-use Rattle.history.specs.Call.{AckOffer, RecordOffer, recordOf, Call, advance, request, enqueueAck, enqueueRecord, build, read, replied, ackQuestion, recordQuestion}
-use Rattle.history.specs.Queues.{Queues, noQueues, queueAt, joins, afterRequest, canBuild, afterAck, afterRecord, built, afterBuild, replyOf}
-use Rattle.history.specs.Model.{NamedSdu, named, namedLoads, Model, newModel, callOf, modelAfter, modelReply, modelRun, modelAt}
+use Rattle.sched_core.specs.Questions.{legalTimeslot}
+use Rattle.history.specs.Call.{CapacityRequest, asked, RecordOffer, recordOf, Call, advance, request, enqueueAck, enqueueRecord, build, read}
+use Rattle.history.specs.Call.{granted, noBlock, Stepped, stepped, unlessRefused, run, requestQuestion}
+use Rattle.history.specs.Queues.{Queues, noQueues, queueAt, queuedAt, withQueueAt, appended, canBuild}
+use Rattle.history.specs.UplinkModel.{modelVerdict}
+use Rattle.history.specs.Model.{NamedSdu, named, bare, ofSdu, Model, newModel, counted, requested, namedBuilt, built, modelStep, modelAt}
 use Rattle.history.specs.Demand3.{Origin}
-use Rattle.history.proofs.Derived.{GrantOf, grant-of}
-use Rattle.history.proofs.WholeSimulation.{RecordPassed, record-passed, ack-passed}
+use Rattle.history.proofs.Steps.{run-more, unless-after}
+use Rattle.history.proofs.QuestionLaws.{Passed, question-passed, RecordPassed, record-passed, ack-passed}
 use Rattle.history.proofs.GrantNames.{built-left}
 
 -- a record's grant is that of the request it is named after; without a grant it has no name
@@ -103,10 +106,10 @@ set-each {C} P qs t ys h k e u g = ⊎-elim at off (getD-set-either qs (t - 1) (
     off p = rw p (e u g)
 
 -- and where one record joins
-pub joins-each : {C : Type 0} (P : ℕ → Item C → Type 0) (qs : Queues C) (t : ℕ) (y : Item C) → 1 ≤ t → P t y → ((u : ℕ) → 1 ≤ u → All (P u) (queueAt qs u))
-    → (u : ℕ) → 1 ≤ u → All (P u) (queueAt (joins qs t y) u)
-unfolding joins
-joins-each P qs t y h k e = set-each P qs t _ h (all-append (P t) (queueAt qs t) (y ∷ []) (e t h) (k, tt)) e
+pub appended-each : {C : Type 0} (P : ℕ → Item C → Type 0) (qs : Queues C) (t : ℕ) (y : Item C) → 1 ≤ t → P t y → ((u : ℕ) → 1 ≤ u → All (P u) (queueAt qs u))
+    → (u : ℕ) → 1 ≤ u → All (P u) (queueAt (appended qs t y) u)
+unfolding appended
+appended-each P qs t y h k e = set-each P qs t _ h (all-append (P t) (queueAt qs t) (y ∷ []) (e t h) (k, tt)) e
 
 pub none-each : {C : Type 0} (P : ℕ → Item C → Type 0) (u : ℕ) → All (P u) (queueAt (noQueues {C = C}) u)
 none-each {C} P u = go (u - 1)
@@ -119,18 +122,12 @@ none-each {C} P u = go (u - 1)
     go (suc (suc (suc (suc i)))) = tt
 
 pub timeslot-low : (t : ℕ) → legalTimeslot t ≡ true → 1 ≤ t
-timeslot-low t e = leb-true 1 t (and-left (leb 1 t) (leb t 4) e)
+timeslot-low t e = leb-true 1 t (and-left (leb 1 t) (leb t timeslots) e)
 
 -- ---- through a history
 
-run-append : (xs ys : List Call) (m : Model) → modelRun (xs ++ ys) m ≡ modelRun ys (modelRun xs m)
-unfolding modelRun
-run-append [] ys m = refl
-run-append (x ∷ xs) ys m = run-append xs ys (modelAfter x m)
-
-pub at-more : (x : TdmaTime) (xs : List Call) (c : Call) → modelAt x (xs ++ c ∷ []) ≡ modelAfter c (modelAt x xs)
-unfolding modelRun
-at-more x xs c = run-append xs (c ∷ []) (newModel x)
+pub at-more : (x : TdmaTime) (xs : List Call) (c : Call) → modelAt x (xs ++ c ∷ []) ≡ modelStep c (modelAt x xs) .after
+at-more x xs c = run-more modelStep xs c (newModel x)
 
 more-everywhere : (x : TdmaTime) (xs : List Call) (c : Call) (qs : Queues NamedSdu) → Everywhere x xs qs → Everywhere x (xs ++ c ∷ []) qs
 unfolding Everywhere
@@ -145,9 +142,8 @@ module _ (x : TdmaTime) (xs : List Call) (k : modelAt x xs .count ≡ length xs)
   m = modelAt x xs
 
   -- a request's own grant
-  new-good : (a : CapacityRequest) (c d : ℕ) (marker : OptU8) → uplinkModel.modelReply (callOf (request a) m) (m .uplink) ≡ granted c d marker
+  new-good : (a : CapacityRequest) (c d : ℕ) (marker : OptU8) → modelStep (request a) m .reply ≡ granted c d marker
       → Good x (xs ++ request a ∷ []) (a .timeslot) (item (grantRecord (a .kind) (a .number) (grantOctet c d) marker) (named (m .count)))
-  unfolding modelReply replyOf
   new-good a c d marker e =
       record {
         before = xs;
@@ -160,76 +156,84 @@ module _ (x : TdmaTime) (xs : List Call) (k : modelAt x xs .count ≡ length xs)
         capacity = c;
         delay = d;
         marker = marker;
-        reply = ap replied e;
+        reply = e;
         its-octet = refl;
       }
 
-  after-request : (a : CapacityRequest) → Everywhere x (xs ++ request a ∷ []) (m .queues) → (reply : UplinkReply) → uplinkModel.modelReply (callOf (request a) m) (m .uplink) ≡ reply
-      → Everywhere x (xs ++ request a ∷ []) (afterRequest a (named (m .count)) reply (m .queues))
-  unfolding Everywhere
-  after-request a e done q = e
-  after-request a e (refused j) q = e
-  after-request a e (granted c d marker) q =
-      let o : GrantOf a (length (queueAt (m .queues) (a .timeslot))) (m .uplink) c d = grant-of a (length (queueAt (m .queues) (a .timeslot))) (m .uplink) c d marker q in
-      joins-each (Good x (xs ++ request a ∷ [])) (m .queues) (a .timeslot) _ (o .passed .timeslot-low) (new-good a c d marker q) e
-
-  after-ack : (o : AckOffer) (ys : List Call) → Everywhere x ys (m .queues) → Everywhere x ys (afterAck namedLoads o (m .queues))
-  unfolding afterAck Everywhere
-  after-ack o ys e = go (eqb (ackQuestion o (length (queueAt (m .queues) (o .timeslot)))) 0) refl
+  after-request : (a : CapacityRequest) → Everywhere x (xs ++ request a ∷ []) (m .queues) → requestQuestion a (queuedAt (m .queues) (a .timeslot)) ≡ 0
+      → Everywhere x (xs ++ request a ∷ []) (requested a (modelVerdict (m .uplink) (asked a)) m .after .queues)
+  unfolding Everywhere modelStep unlessRefused requested
+  after-request a e q = go (modelVerdict (m .uplink) (asked a)) (λ g r. rw (q, r)) refl
     where
-      y : Item NamedSdu
-      y = item (ackRecord (o .kind) (o .number)) (namedLoads .bare)
-
-      go : (b : Bool) → eqb (ackQuestion o (length (queueAt (m .queues) (o .timeslot)))) 0 ≡ b → (t : ℕ) → 1 ≤ t → All (Good x ys t) (queueAt (cond b (joins (m .queues) (o .timeslot) y) (m .queues)) t)
-      go true q = joins-each (Good x ys) (m .queues) (o .timeslot) y (timeslot-low (o .timeslot) (ack-passed o _ (eqb-true _ _ q) .its-timeslot)) (bare-good x ys (o .timeslot) y refl refl) e
-      go false q = e
+      go : (w : Verdict)
+          → ((g : Run) → modelVerdict (m .uplink) (asked a) ≡ grant g → modelStep (request a) m .reply ≡ requested a (grant g) m .reply)
+          → modelVerdict (m .uplink) (asked a) ≡ w → Everywhere x (xs ++ request a ∷ []) (requested a w m .after .queues)
+      go noRun f r = e
+      go tooLate f r = e
+      go (grant g) f r =
+          appended-each (Good x (xs ++ request a ∷ [])) (m .queues) (a .timeslot) _ (question-passed a _ q .timeslot-low) (new-good a _ _ _ (f g r)) e
 
   offer-bare : (o : RecordOffer) → legalOffered (resourceOf (recordOf o) 0 0) ≡ true → absentU8 (o .header .«slot_granting_element») ≡ true
   unfolding legalOffered
   offer-bare o h = and-right (legalQueued (resourceOf (recordOf o) 0 0)) (absentU8 (o .header .«slot_granting_element»)) h
 
-  after-record : (o : RecordOffer) (ys : List Call) → Everywhere x ys (m .queues) → Everywhere x ys (afterRecord namedLoads o (m .queues))
-  unfolding afterRecord Everywhere
-  after-record o ys e = go (eqb (recordQuestion o (length (queueAt (m .queues) (o .timeslot)))) 0) refl
-    where
-      y : Item NamedSdu
-      y = item (recordOf o) (namedLoads .ofSdu (o .bits) (o .octets))
+  -- a record without grant joins
+  bare-joins : (ys : List Call) (t : ℕ) (y : Item NamedSdu) → 1 ≤ t → absentU8 (y .rec .header .«slot_granting_element») ≡ true → y .load .name ≡ none
+      → Everywhere x ys (m .queues) → Everywhere x ys (appended (m .queues) t y)
+  unfolding Everywhere
+  bare-joins ys t y low b n e = appended-each (Good x ys) (m .queues) t y low (bare-good x ys t y b n) e
 
-      go : (b : Bool) → eqb (recordQuestion o (length (queueAt (m .queues) (o .timeslot)))) 0 ≡ b → (t : ℕ) → 1 ≤ t → All (Good x ys t) (queueAt (cond b (joins (m .queues) (o .timeslot) y) (m .queues)) t)
-      go true q =
-          let p : RecordPassed o (length (queueAt (m .queues) (o .timeslot))) = record-passed o _ (eqb-true _ _ q) in
-          joins-each (Good x ys) (m .queues) (o .timeslot) y (timeslot-low (o .timeslot) (p .its-timeslot)) (bare-good x ys (o .timeslot) y (offer-bare o (p .header)) refl) e
-      go false q = e
-
-  after-build : (ys : List Call) → Everywhere x ys (m .queues) → Everywhere x ys (afterBuild namedLoads (m .uplink .now) (m .queues))
-  unfolding afterBuild Everywhere
-  after-build ys e = go (canBuild (m .uplink .now) (m .queues))
+  after-build : (ys : List Call) → Everywhere x ys (m .queues) → Everywhere x ys (built m .after .queues)
+  unfolding built Everywhere
+  after-build ys e = go (canBuild (m .uplink .now) (m .queues)) _ (set-each (Good x ys) (m .queues) t _ (omega arith) (built-left (Faithful x ys t) (queueAt (m .queues) t) (e t (omega arith))) e)
     where
       t : ℕ
       t = timeslot (m .uplink .now)
 
-      go : (b : Bool) → (u : ℕ) → 1 ≤ u → All (Good x ys u) (queueAt (cond b (set (m .queues) (t - 1) (built namedLoads (queueAt (m .queues) t) .left)) (m .queues)) u)
-      go true = set-each (Good x ys) (m .queues) t _ (omega arith) (built-left (Faithful x ys t) (queueAt (m .queues) t) (e t (omega arith))) e
-      go false = e
+      go : (b : Bool) (y : Stepped Model) → Everywhere x ys (y .after .queues) → Everywhere x ys (cond b y (stepped (counted m) noBlock) .after .queues)
+      go true y h = h
+      go false y h = e
 
-  after-call : (c : Call) → Everywhere x (xs ++ c ∷ []) (m .queues) → Everywhere x (xs ++ c ∷ []) (modelAfter c m .queues)
-  unfolding modelAfter
+  after-call : (c : Call) → Everywhere x (xs ++ c ∷ []) (m .queues) → Everywhere x (xs ++ c ∷ []) (modelStep c m .after .queues)
+  unfolding modelStep Everywhere
   after-call advance e = e
-  after-call (request a) e = after-request a e _ refl
-  after-call (enqueueAck o) e = after-ack o _ e
-  after-call (enqueueRecord o) e = after-record o _ e
-  after-call (build b) e = go (isBlockLength b)
-    where
-      go : (right : Bool) → Everywhere x (xs ++ build b ∷ []) (cond right (afterBuild namedLoads (m .uplink .now) (m .queues)) (m .queues))
-      go true = after-build _ e
-      go false = e
-  after-call (read q) e = e
+  after-call (request a) e = unless-after (λ (n : Model). Everywhere x (xs ++ request a ∷ []) (n .queues)) _ (counted m) _ e (after-request a e)
+  after-call (enqueueAck o) e =
+      unless-after (λ (n : Model). Everywhere x (xs ++ enqueueAck o ∷ []) (n .queues)) _ (counted m) _ e
+      (λ q.
+      let low : 1 ≤ o .timeslot = timeslot-low (o .timeslot) (ack-passed o _ q .its-timeslot) in
+      bare-joins (xs ++ enqueueAck o ∷ []) (o .timeslot) (item (ackRecord (o .kind) (o .number)) bare) low refl refl e)
+  after-call (enqueueRecord o) e =
+      unless-after (λ (n : Model). Everywhere x (xs ++ enqueueRecord o ∷ []) (n .queues)) _ (counted m) _ e
+      (λ q.
+      let p : RecordPassed o (queuedAt (m .queues) (o .timeslot)) = record-passed o _ q in
+      let low : 1 ≤ o .timeslot = timeslot-low (o .timeslot) (p .its-timeslot) in
+      bare-joins (xs ++ enqueueRecord o ∷ []) (o .timeslot) (item (recordOf o) (ofSdu (o .bits) (o .octets))) low (offer-bare o (p .header)) refl e)
+  after-call (build b) e = unless-after (λ (n : Model). Everywhere x (xs ++ build b ∷ []) (n .queues)) _ (counted m) _ e (λ q. after-build _ e)
+  after-call (read q) e = unless-after (λ (n : Model). Everywhere x (xs ++ read q ∷ []) (n .queues)) _ (counted m) _ e (λ k. e)
+
+step-count : (c : Call) (m : Model) → modelStep c m .after .count ≡ suc (m .count)
+unfolding modelStep requested built
+step-count advance m = refl
+step-count (request a) m = unless-after (λ (n : Model). n .count ≡ suc (m .count)) _ (counted m) _ refl (λ e. go (modelVerdict (m .uplink) (asked a)))
+  where
+    go : (w : Verdict) → requested a w m .after .count ≡ suc (m .count)
+    go noRun = refl
+    go tooLate = refl
+    go (grant g) = refl
+step-count (enqueueAck o) m = unless-after (λ (n : Model). n .count ≡ suc (m .count)) _ (counted m) _ refl (λ e. refl)
+step-count (enqueueRecord o) m = unless-after (λ (n : Model). n .count ≡ suc (m .count)) _ (counted m) _ refl (λ e. refl)
+step-count (build b) m = unless-after (λ (n : Model). n .count ≡ suc (m .count)) _ (counted m) _ refl (λ e. go (canBuild (m .uplink .now) (m .queues)) _ refl)
+  where
+    go : (b : Bool) (y : Stepped Model) → y .after .count ≡ suc (m .count) → cond b y (stepped (counted m) noBlock) .after .count ≡ suc (m .count)
+    go true y h = h
+    go false y h = refl
+step-count (read q) m = unless-after (λ (n : Model). n .count ≡ suc (m .count)) _ (counted m) _ refl (λ e. refl)
 
 named-more : (x : TdmaTime) (xs : List Call) (c : Call) → Named x xs → Named x (xs ++ c ∷ [])
-unfolding modelAfter
 named-more x xs c i =
     record {
-      counted = ap (λ (f : Model). f .count) (at-more x xs c) ∙ ap suc (i .counted) ∙ omega (arith, length-append xs (c ∷ []));
+      counted = ap (λ (f : Model). f .count) (at-more x xs c) ∙ step-count c _ ∙ ap suc (i .counted) ∙ omega (arith, length-append xs (c ∷ []));
       everywhere = rw (at-more x xs c) (after-call x xs (i .counted) c (more-everywhere x xs c _ (i .everywhere)));
     }
 
@@ -238,7 +242,7 @@ named-all x [] xs i = rw append-nil i
 named-all x (y ∷ ys) xs i = rw append-snoc at (named-all x ys (xs ++ y ∷ []) (named-more x xs y i))
 
 named-run : (x : TdmaTime) (xs : List Call) → Named x xs
-unfolding modelRun newModel Everywhere
+unfolding run newModel Everywhere
 named-run x xs = named-all x xs [] (record { counted = refl; everywhere = λ t h. none-each (Good x []) t })
 
 -- the records of the timeslot whose turn it is

@@ -3,6 +3,7 @@ use mathlib.Core.Path.{_≡_, refl, sym, ap, ap₂, _∙_}
 use mathlib.Core.List.{List, [], _∷_, _++_, map}
 use Prim.Native.Nat.{ℕ, zero, suc, _-_}
 use lib.ListN.{length, set, length-map, List·getD-map}
+use Rattle.sizes.specs.Sizes.{blockWidth}
 use Rattle.dl_record.specs.declared.Record.{Record}
 use Rattle.dl_queue.specs.Queue.{Item}
 use Rattle.dl_merge.specs.Merge.{merge, always, keep, mergeCells, mergeNamed}
@@ -11,9 +12,9 @@ use Rattle.dl_send.specs.Send.{Sent, cellSdu}
 use Rattle.dl_send.proofs.MapLaws.{Steady, SameSdu, reloadSent}
 use Rattle.dl_build.specs.Build.{buildList}
 use Rattle.dl_build.proofs.AfterBuild.{build-map}
-use Rattle.history.specs.Queues.{Queues, queueAt, joins, built}
-use Rattle.history.specs.Model.{NamedSdu, namedSdu, namedLoads}
-use Rattle.history.proofs.Station.{cellLoads}
+use Rattle.history.specs.Queues.{Queues, queueAt, appended}
+use Rattle.history.specs.Model.{NamedSdu, namedSdu, namedBuilt}
+use Rattle.history.proofs.Lists.{cellsBuilt}
 
 -- ---- lists
 
@@ -42,9 +43,9 @@ module _ {C D : Type 0} (f : Record → C → D) where
   length-queue : (qs : Queues C) (t : ℕ) → length (queueAt (reloads qs) t) ≡ length (queueAt qs t)
   length-queue qs t = ap length (queue-map qs t) ∙ length-map (queueAt qs t) (reload f)
 
-  joins-map : (qs : Queues C) (t : ℕ) (x : Item C) → reloads (joins qs t x) ≡ joins (reloads qs) t (reload f x)
-  unfolding joins
-  joins-map qs t x =
+  appended-map : (qs : Queues C) (t : ℕ) (x : Item C) → reloads (appended qs t x) ≡ appended (reloads qs) t (reload f x)
+  unfolding appended
+  appended-map qs t x =
       map-set (map (reload f)) qs (t - 1) (queueAt qs t ++ x ∷ [])
       ∙ ap (set (reloads qs) (t - 1)) (map-append (reload f) (queueAt qs t) (x ∷ []) ∙ ap (λ (l : List (Item D)). l ++ reload f x ∷ []) (sym (queue-map qs t)))
 
@@ -55,7 +56,7 @@ ownSdu s n = s
 
 -- what a build makes of records with their SDUs
 sdusBuilt : List (Item (List ℕ)) → Sent (List ℕ)
-sdusBuilt xs = buildList ownSdu 268 (merge (always []) keep xs)
+sdusBuilt xs = buildList ownSdu blockWidth (merge (always []) keep xs)
 
 abbrev pub steadyBits : Steady sduBits
 steadyBits k n r c = refl
@@ -63,13 +64,13 @@ steadyBits k n r c = refl
 abbrev pub steadyNames : Steady (unnamed {S = List ℕ} {N = ℕ})
 steadyNames k n r c = refl
 
-cells-built : (xs : List (Item (List ℕ))) → reloadSent sduBits steadyBits (built cellLoads xs) ≡ sdusBuilt (map (reload sduBits) xs)
-unfolding built sdusBuilt
-cells-built xs = sym (build-map sduBits steadyBits cellSdu ownSdu 268 (mergeCells xs) (all-every (SameSdu sduBits cellSdu ownSdu) (λ x. refl) (mergeCells xs))) ∙ ap (buildList ownSdu 268) (merge-sdus xs)
+cells-built : (xs : List (Item (List ℕ))) → reloadSent sduBits steadyBits (cellsBuilt xs) ≡ sdusBuilt (map (reload sduBits) xs)
+unfolding cellsBuilt sdusBuilt
+cells-built xs = sym (build-map sduBits steadyBits cellSdu ownSdu blockWidth (mergeCells xs) (all-every (SameSdu sduBits cellSdu ownSdu) (λ x. refl) (mergeCells xs))) ∙ ap (buildList ownSdu blockWidth) (merge-sdus xs)
 
-names-built : (ys : List (Item NamedSdu)) → reloadSent unnamed steadyNames (built namedLoads ys) ≡ sdusBuilt (map (reload unnamed) ys)
-unfolding built sdusBuilt
-names-built ys = sym (build-map unnamed steadyNames namedSdu ownSdu 268 (mergeNamed [] ys) (all-every (SameSdu unnamed namedSdu ownSdu) (λ x. refl) (mergeNamed [] ys))) ∙ ap (buildList ownSdu 268) (merge-unnamed [] ys)
+names-built : (ys : List (Item NamedSdu)) → reloadSent unnamed steadyNames (namedBuilt ys) ≡ sdusBuilt (map (reload unnamed) ys)
+unfolding namedBuilt sdusBuilt
+names-built ys = sym (build-map unnamed steadyNames namedSdu ownSdu blockWidth (mergeNamed [] ys) (all-every (SameSdu unnamed namedSdu ownSdu) (λ x. refl) (mergeNamed [] ys))) ∙ ap (buildList ownSdu blockWidth) (merge-unnamed [] ys)
 
 -- ---- station and model
 
@@ -84,13 +85,13 @@ module _ (qs : Queues (List ℕ)) (ms : Queues NamedSdu) (h : Held qs ms) where
   pub same-count : (t : ℕ) → length (queueAt qs t) ≡ length (queueAt ms t)
   same-count t = sym (length-queue sduBits qs t) ∙ ap (λ (q : Queues (List ℕ)). length (queueAt q t)) h ∙ length-queue unnamed ms t
 
-  pub joins-held : (t : ℕ) (x : Item (List ℕ)) (y : Item NamedSdu) → reload sduBits x ≡ reload unnamed y → Held (joins qs t x) (joins ms t y)
-  joins-held t x y e = joins-map sduBits qs t x ∙ ap₂ (λ (q : Queues (List ℕ)) (z : Item (List ℕ)). joins q t z) h e ∙ sym (joins-map unnamed ms t y)
+  pub appended-held : (t : ℕ) (x : Item (List ℕ)) (y : Item NamedSdu) → reload sduBits x ≡ reload unnamed y → Held (appended qs t x) (appended ms t y)
+  appended-held t x y e = appended-map sduBits qs t x ∙ ap₂ (λ (q : Queues (List ℕ)) (z : Item (List ℕ)). appended q t z) h e ∙ sym (appended-map unnamed ms t y)
 
   pub set-held : (i : ℕ) (xs : List (Item (List ℕ))) (ys : List (Item NamedSdu)) → map (reload sduBits) xs ≡ map (reload unnamed) ys → Held (set qs i xs) (set ms i ys)
   set-held i xs ys e =
       map-set (map (reload sduBits)) qs i xs ∙ ap₂ (λ (q : Queues (List ℕ)) (z : List (Item (List ℕ))). set q i z) h e ∙ sym (map-set (map (reload unnamed)) ms i ys)
 
   -- a build writes the same PDUs and finishes the same records, and what it leaves is the same
-  pub same-built : (t : ℕ) → reloadSent sduBits steadyBits (built cellLoads (queueAt qs t)) ≡ reloadSent unnamed steadyNames (built namedLoads (queueAt ms t))
+  pub same-built : (t : ℕ) → reloadSent sduBits steadyBits (cellsBuilt (queueAt qs t)) ≡ reloadSent unnamed steadyNames (namedBuilt (queueAt ms t))
   same-built t = cells-built (queueAt qs t) ∙ ap sdusBuilt (same-queue t) ∙ sym (names-built (queueAt ms t))

@@ -3,6 +3,7 @@ use mathlib.Core.Path.{_≡_, refl, ap, _∙_}
 use mathlib.Core.Bool.{Bool, true, false, cond}
 use Prim.Native.Nat.{ℕ}
 use native.Mathlib.Omega.{arith}
+use lib.Dec.{eqb}
 use Rattle.tdma_time.specs.Time.{valid, timeOf, slotOf, clock}
 use Rattle.tdma_time.proofs.TimeLaws.{slotOf-timeOf, timeOf-valid, valid-true}
 use Rattle.uplink.specs.declared.Entry.{Entry}
@@ -16,27 +17,31 @@ use Rattle.sched_core.specs.declared.UsageReply.{UsageReply}
 use Rattle.sched_core.specs.Station.{tableOf}
 use Rattle.sched_core.specs.Questions.{Memory, soundStation, ask}
 use Rattle.sched_core.specs.Calls.{ownerCall, usageCall}
-use Rattle.history.specs.Call.{Reading, owner, usage, readQuestion}
-use Rattle.history.specs.Queues.{numbered}
-use Rattle.history.proofs.Station.{cellLoads}
-use Rattle.history.specs.Memory.{ownerReply, usageReply, readReply}
+use Rattle.history.specs.Call.{Query, owner, usage, read, done, refused, stepped, unlessRefused, readQuestion}
+use Rattle.history.specs.Memory.{ownerReply, usageReply, memoryStep}
+use Rattle.history.proofs.Steps.{Agree}
 
 -- ---- refused for their time only
 
-pub read-reply : (q : Reading) (m : Memory) → soundStation (m .station) ≡ true → readReply q m ≡ numbered cellLoads (readQuestion q)
-unfolding ownerCall usageCall ask readQuestion
-read-reply (owner x half) m e = rw e (go (valid x))
+pub read-agrees : {S : Type 0} (R : Memory → S → Type 0) (q : Query) (m : Memory) (s : S) → R m s → soundStation (m .station) ≡ true
+    → Agree R (memoryStep (read q) m) (unlessRefused (readQuestion q) s (stepped s done))
+unfolding memoryStep ownerCall usageCall ask readQuestion unlessRefused
+read-agrees R (owner x half) m s h e = rw e (go (valid x))
   where
     go : (b : Bool)
-        → ownerReply (cond b (OwnerReply.Owner (ownerOf half (entryAt (tableOf (m .station)) (slotOf x)))) (OwnerReply.Refused Refusal.Unsound)) ≡ numbered cellLoads (cond b 0 1)
-    go true = refl
-    go false = refl
-read-reply (usage x) m e = rw e (go (valid x))
+        → Agree R
+        (stepped m (ownerReply (cond b (OwnerReply.Owner (ownerOf half (entryAt (tableOf (m .station)) (slotOf x)))) (OwnerReply.Refused Refusal.Unsound))))
+        (cond (eqb (cond b 0 1) 0) (stepped s done) (stepped s (refused (cond b 0 1))))
+    go true = record { after = h; reply = refl }
+    go false = record { after = h; reply = refl }
+read-agrees R (usage x) m s h e = rw e (go (valid x))
   where
     go : (b : Bool)
-        → usageReply (cond b (UsageReply.Usage (usageOf (entryAt (tableOf (m .station)) (slotOf x)))) (UsageReply.Refused Refusal.Unsound)) ≡ numbered cellLoads (cond b 0 1)
-    go true = refl
-    go false = refl
+        → Agree R
+        (stepped m (usageReply (cond b (UsageReply.Usage (usageOf (entryAt (tableOf (m .station)) (slotOf x)))) (UsageReply.Refused Refusal.Unsound))))
+        (cond (eqb (cond b 0 1) 0) (stepped s done) (stepped s (refused (cond b 0 1))))
+    go true = record { after = h; reply = refl }
+    go false = record { after = h; reply = refl }
 
 -- ---- what they answer
 

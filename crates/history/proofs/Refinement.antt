@@ -1,7 +1,5 @@
--- The memory that the code works on refines the station of lists: each call has the same reply and leaves the same lists (`refined-after`,
--- `refined-reply`). Assumes nothing.
+-- The memory that the code works on refines the station of lists: advances, requests and queueings step alike. Assumes nothing.
 use mathlib.Core.Path.{_≡_, refl, sym, ap, subst, _∙_}
-use mathlib.Core.Logic.{_≢_}
 use mathlib.Core.Bool.{Bool, true, false, cond}
 use mathlib.Core.List.{List, [], _∷_, _++_}
 use Prim.Native.Nat.{ℕ, _-_, _*_, _^_, _≤_, _<_}
@@ -10,6 +8,8 @@ use lib.Dec.{leb, ltb}
 use lib.ListN.{length, getD, set, length-set, List·getD-map}
 use lib.Seq.{length-paste}
 use borrow.Author.Tests.{eq-eqb, leb-true, ltb-true, le-leb}
+use Rattle.sizes.specs.Sizes.{timeslots, perTimeslot, queuePlaces, cellOctets, storeOctets}
+use Rattle.optional.specs.declared.OptU8.{OptU8}
 use Rattle.optional.proofs.Tests.{and-left, and-right, and-intro}
 use Rattle.tdma_time.specs.declared.TdmaTime.{TdmaTime}
 use Rattle.tdma_time.specs.Time.{valid, nextTime}
@@ -19,11 +19,9 @@ use Rattle.uplink.specs.declared.CapAnswer.{CapAnswer}
 use Rattle.uplink.specs.declared.CapReply.{CapReply}
 use Rattle.uplink.specs.UplinkEntry.{Table, emptyEntry, cleared, all, soundTable, soundCounters}
 use Rattle.uplink.specs.Request as uplink
-use Rattle.uplink.specs.Request.{answer, replyNumber}
-use Rattle.uplink.specs.GrantedExactly.{Proper}
+use Rattle.uplink.specs.Request.{answer}
 use Rattle.uplink.proofs.Everywhere.{at-all}
 use Rattle.uplink.proofs.TableLaws.{store-shape}
-use Rattle.uplink.proofs.GrantedExactly.{granted-exactly}
 use Rattle.dl_record.specs.Record.{grantRecord, ackRecord}
 use Rattle.dl_record.specs.Record.{resourceOf}
 use Rattle.dl_record.specs.Questions.{legalAddress, presentSdu}
@@ -40,34 +38,32 @@ use Rattle.sched_core.specs.declared.Refusal.{Refusal}
 use Rattle.sched_core.specs.declared.Reply as core
 use Rattle.sched_core.specs.declared.RequestReply.{RequestReply}
 use Rattle.sched_core.specs.Station.{tableOf, stationOf}
-use Rattle.sched_core.specs.Questions.{Memory, soundCount, soundStation, isStationSound, areLengthsRight, isQueueSound, ask, refusalNumber, legalTimeslot, isTimeslotLegal, isRequirementLegal, isAddressLegal, isHeaderLegal, isSduPresent, isQueueOpen}
+use Rattle.sched_core.specs.Questions.{Memory, memory, soundCount, soundStation, isStationSound, areLengthsRight, isQueueSound, ask, legalTimeslot, isTimeslotLegal, isRequirementLegal, isAddressLegal, isHeaderLegal, isSduPresent, isQueueOpen}
 use Rattle.sched_core.specs.Calls.{Outcome, outcome, grantQueued, requestAnswered, requestOutcome, requestCall, advanceCall, advanceMemory, withRecord, withSdu, ackCall, tmaCall}
-use Rattle.history.specs.UplinkCall.{CapacityRequest, asked, UplinkReply, done, refused, asReply, question}
-use Rattle.history.specs.UplinkCall as uplinkCall
-use Rattle.history.proofs.UplinkStation as uplinkStation
-use Rattle.history.proofs.UplinkStation.{stationAnswer, Sound}
-use Rattle.history.specs.Call.{AckOffer, RecordOffer, recordOf, ackQuestion, recordQuestion, advance, request, enqueueAck, enqueueRecord}
-use Rattle.history.specs.Queues.{Queues, queueAt, joins, afterRequest, afterAck, afterRecord, numbered}
-use Rattle.history.proofs.Station.{cellLoads, Station, stationAfter}
-use Rattle.history.specs.Memory.{queueReply, requestReply}
+use Rattle.history.specs.Call.{CapacityRequest, asked, AckOffer, RecordOffer, recordOf, advance, request, enqueueAck, enqueueRecord}
+use Rattle.history.specs.Call.{done, refused, Stepped, stepped, unlessRefused, requestQuestion, ackQuestion, recordQuestion}
+use Rattle.history.specs.Queues.{Queues, queueAt, queuedAt, appended}
+use Rattle.history.specs.Memory.{queueReply, requestReply, answered, memoryStep}
+use Rattle.history.proofs.Steps.{Agree}
+use Rattle.history.proofs.Lists.{nextUplink, stationAnswer, Sound, Lists, requestedLists, listsStep}
 use Rattle.uplink.proofs.Basics.{four}
 use Rattle.history.proofs.QuestionLaws.{Passed}
-use Rattle.history.proofs.StoredHistory.{GrantFits, grant-passed}
+use Rattle.history.proofs.StoredHistory.{GrantFits, grant-fits}
 use Rattle.history.proofs.Asked.{three-yes, request-asked, ack-asked, record-asked}
 
 -- a memory of the lengths that its types give it, sound, with the time, the counters, the table and the lists of a station
-pub record Refines (m : Memory) (s : Station) : Type 0 where
+pub record Refines (m : Memory) (s : Lists) : Type 0 where
   pub time : m .station .time ≡ s .uplink .now
   pub markers : m .station .«next_usage_marker» ≡ s .uplink .markers
   pub table : tableOf (m .station) ≡ s .uplink .table
   pub lists : queuesOf (m .station .queued) (m .records) (m .store) ≡ s .queues
   pub sound : soundQueue (m .station .queued) (m .records) (m .store) ≡ true
   pub octets : Octets (m .store)
-  pub counts : length (m .station .queued) ≡ 4
-  pub places : length (m .records) ≡ 64
-  pub cells : length (m .store) ≡ 16384
+  pub counts : length (m .station .queued) ≡ timeslots
+  pub places : length (m .records) ≡ queuePlaces
+  pub cells : length (m .store) ≡ storeOctets
 
-module _ (m : Memory) (s : Station) (h : Refines m s) (u : Sound (s .uplink)) where
+module _ (m : Memory) (s : Lists) (h : Refines m s) (u : Sound (s .uplink)) where
   -- ---- questions 1, 2 and 1 again
 
   abbrev ns : List ℕ
@@ -80,7 +76,7 @@ module _ (m : Memory) (s : Station) (h : Refines m s) (u : Sound (s .uplink)) wh
       ∙ ap (λ (qs : Queues (List ℕ)). length (queueAt qs t)) (h .lists)
 
   all-counts : all soundCount ns ≡ true
-  all-counts = at-all soundCount ns 0 (λ i l. le-leb (getD ns i 0) 16 (queue-at ns (m .records) (m .store) (h .sound) i l .0))
+  all-counts = at-all soundCount ns 0 (λ i l. le-leb (getD ns i 0) perTimeslot (queue-at ns (m .records) (m .store) (h .sound) i l .0))
 
   pub station-sound : soundStation (m .station) ≡ true
   unfolding soundStation
@@ -95,8 +91,8 @@ module _ (m : Memory) (s : Station) (h : Refines m s) (u : Sound (s .uplink)) wh
 
   -- ---- an advance
 
-  pub advanced : Refines (advanceMemory m .memory) (stationAfter advance s)
-  unfolding advanceMemory advanceCall ask stationAfter uplinkStation.stationAfter
+  advanced : Refines (advanceMemory m .memory) (listsStep advance s .after)
+  unfolding advanceMemory advanceCall ask listsStep nextUplink
   advanced =
       rw station-sound
       (record {
@@ -114,15 +110,19 @@ module _ (m : Memory) (s : Station) (h : Refines m s) (u : Sound (s .uplink)) wh
         cells = h .cells;
       })
 
-  pub advance-reply : queueReply (advanceMemory m .reply) ≡ done
+  advance-reply : queueReply (advanceMemory m .reply) ≡ done
   unfolding advanceMemory advanceCall ask
   advance-reply = rw station-sound
+
+  pub advance-agrees : Agree Refines (memoryStep advance m) (listsStep advance s)
+  unfolding memoryStep listsStep
+  advance-agrees = record { after = advanced; reply = advance-reply }
 
   -- ---- a request
 
   module _ (a : CapacityRequest) where
     abbrev queued : ℕ
-    queued = length (queueAt (s .queues) (a .timeslot))
+    queued = queuedAt (s .queues) (a .timeslot)
 
     -- what the search answers
     abbrev given : CapAnswer
@@ -132,65 +132,37 @@ module _ (m : Memory) (s : Station) (h : Refines m s) (u : Sound (s .uplink)) wh
     unfolding stationAnswer
     same-answer = λ i. answer (h .table i) (h .markers i) (h .time i) (asked a)
 
-    -- the station of lists where the questions are passed, or not
-    outcomeOf : Bool → ℕ → Station
-    outcomeOf b k =
+    abbrev answeredAs : CapReply → Outcome RequestReply
+    answeredAs x = requestOutcome (grantQueued (m .station) (m .records) (a .timeslot) (a .kind) (a .number) given x) (m .store)
+
+    -- a refusal leaves the memory
+    unchanged : Refines (memory (m .station) (m .records) (m .store)) s
+    unchanged =
         record {
-          uplink = cond b (record { now = s .uplink .now; markers = stationAnswer (s .uplink) (asked a) .«next_usage_marker»; table = uplink.tableOf (stationAnswer (s .uplink) (asked a)) }) (s .uplink);
-          queues = afterRequest a zeroCell (cond b (asReply (stationAnswer (s .uplink) (asked a) .reply)) (refused k)) (s .queues);
+          time = h .time;
+          markers = h .markers;
+          table = h .table;
+          lists = h .lists;
+          sound = h .sound;
+          octets = h .octets;
+          counts = h .counts;
+          places = h .places;
+          cells = h .cells;
         }
 
     module _ (p : Passed a queued) where
-      proper : Proper (s .uplink .table) (s .uplink .markers) (s .uplink .now) (asked a)
-      proper =
-          record {
-            shape = u .shape;
-            entries = u .entries;
-            four = u .four;
-            counters = u .counters;
-            time = u .time;
-            timeslot-low = p .timeslot-low;
-            timeslot-high = p .timeslot-high;
-            code = p .code;
-            number = p .number;
-          }
-
-      -- a refusal leaves table and counters
-      unchanged : (x : CapReply) → stationAnswer (s .uplink) (asked a) .reply ≡ x → replyNumber x ≢ 0
-          → (uplink.tableOf (stationAnswer (s .uplink) (asked a)) ≡ s .uplink .table) × (stationAnswer (s .uplink) (asked a) .«next_usage_marker» ≡ s .uplink .markers)
-      unfolding stationAnswer
-      unchanged x e n = granted-exactly (s .uplink .table) (s .uplink .markers) (s .uplink .now) (asked a) proper .refused (rw e n)
-
-      refusal-refines : (x : CapReply) → stationAnswer (s .uplink) (asked a) .reply ≡ x → replyNumber x ≢ 0
-          → Refines m (record { uplink = record { now = s .uplink .now; markers = stationAnswer (s .uplink) (asked a) .«next_usage_marker»; table = uplink.tableOf (stationAnswer (s .uplink) (asked a)) }; queues = s .queues })
-      refusal-refines x e n =
-          let k = unchanged x e n in
-          record {
-            time = h .time;
-            markers = h .markers ∙ sym (k .1);
-            table = h .table ∙ sym (k .0);
-            lists = h .lists;
-            sound = h .sound;
-            octets = h .octets;
-            counts = h .counts;
-            places = h .places;
-            cells = h .cells;
-          }
-
       inside : a .timeslot - 1 < length ns
       inside = omega (arith, h .counts, p .timeslot-low, p .timeslot-high)
 
-      open-place : getD ns (a .timeslot - 1) 0 < 16
+      open-place : getD ns (a .timeslot - 1) 0 < perTimeslot
       open-place = rw (count-at (a .timeslot)) (p .room)
 
-      answered-refines : (x : CapReply) → stationAnswer (s .uplink) (asked a) .reply ≡ x
-          → Refines (requestOutcome (grantQueued (m .station) (m .records) (a .timeslot) (a .kind) (a .number) given x) (m .store) .memory)
-          (record { uplink = record { now = s .uplink .now; markers = stationAnswer (s .uplink) (asked a) .«next_usage_marker»; table = uplink.tableOf (stationAnswer (s .uplink) (asked a)) }; queues = afterRequest a zeroCell (asReply x) (s .queues) })
-      unfolding grantQueued joins
-      answered-refines CapReply.NoRun e = refusal-refines CapReply.NoRun e (omega arith)
-      answered-refines CapReply.TooLate e = refusal-refines CapReply.TooLate e (omega arith)
-      answered-refines (CapReply.Granted c d marker) e =
-          let g : GrantFits a c d marker = grant-passed a queued (s .uplink) u p c d marker (ap asReply e) in
+      granted-refines : (c d : ℕ) (marker : OptU8) → stationAnswer (s .uplink) (asked a) .reply ≡ CapReply.Granted c d marker
+          → Refines (answeredAs (CapReply.Granted c d marker) .memory)
+          (requestedLists a (stationAnswer (s .uplink) (asked a)) (CapReply.Granted c d marker) s .after)
+      unfolding grantQueued requestedLists appended
+      granted-refines c d marker e =
+          let g : GrantFits a c d marker = grant-fits a queued (s .uplink) u p c d marker e in
           let q : HoldsQueues _ _ (m .store) =
           grant-joins ns (m .records) (m .store) (a .timeslot - 1) inside open-place (omega (arith, h .places, h .counts)) (omega (arith, h .cells, h .counts)) (h .sound)
           (a .kind) (a .number) (grantOctet c d) marker (h .octets) (g .address) (g .octet) (g .six) in
@@ -206,72 +178,59 @@ module _ (m : Memory) (s : Station) (h : Refines m s) (u : Sound (s .uplink)) wh
             cells = h .cells;
           }
 
-    passed : legalTimeslot (a .timeslot) ≡ true → leb (a .code) 15 ≡ true → legalAddress (a .kind) (a .number) ≡ true → ltb queued 16 ≡ true → Passed a queued
+      answered-agrees : (x : CapReply) → stationAnswer (s .uplink) (asked a) .reply ≡ x
+          → Agree Refines (answered requestReply (answeredAs x)) (requestedLists a (stationAnswer (s .uplink) (asked a)) x s)
+      unfolding grantQueued requestedLists
+      answered-agrees CapReply.NoRun e = record { after = unchanged; reply = refl }
+      answered-agrees CapReply.TooLate e = record { after = unchanged; reply = refl }
+      answered-agrees (CapReply.Granted c d marker) e = record { after = granted-refines c d marker e; reply = refl }
+
+    passed : legalTimeslot (a .timeslot) ≡ true → leb (a .code) 15 ≡ true → legalAddress (a .kind) (a .number) ≡ true → ltb queued perTimeslot ≡ true → Passed a queued
     unfolding legalAddress
     passed b3 b4 b5 b8 =
         record {
-          timeslot-low = leb-true _ _ (and-left (leb 1 (a .timeslot)) (leb (a .timeslot) 4) b3);
-          timeslot-high = leb-true _ _ (and-right (leb 1 (a .timeslot)) (leb (a .timeslot) 4) b3);
+          timeslot-low = leb-true _ _ (and-left (leb 1 (a .timeslot)) (leb (a .timeslot) timeslots) b3);
+          timeslot-high = leb-true _ _ (and-right (leb 1 (a .timeslot)) (leb (a .timeslot) timeslots) b3);
           code = leb-true _ _ b4;
           kind = leb-true _ _ (and-left (leb (a .kind) 2) (ltb (a .number) (2 ^ 24)) b5);
           number = ltb-true _ _ (and-right (leb (a .kind) 2) (ltb (a .number) (2 ^ 24)) b5);
           room = ltb-true _ _ b8;
         }
 
-    abbrev answeredAs : CapReply → Outcome RequestReply
-    answeredAs x = requestOutcome (grantQueued (m .station) (m .records) (a .timeslot) (a .kind) (a .number) given x) (m .store)
-
     abbrev no : Refusal → Outcome RequestReply
     no r = outcome (RequestReply.Refused r) m
 
     request-asks : requestCall m (a .timeslot) (a .code) (a .kind) (a .number)
-        ≡ cond (legalTimeslot (a .timeslot)) (cond (leb (a .code) 15) (cond (legalAddress (a .kind) (a .number)) (cond (ltb queued 16) (answeredAs (given .reply)) (no Refusal.QueueFull)) (no Refusal.Address)) (no Refusal.Requirement)) (no Refusal.Timeslot)
+        ≡ cond (legalTimeslot (a .timeslot)) (cond (leb (a .code) 15) (cond (legalAddress (a .kind) (a .number)) (cond (ltb queued perTimeslot) (answeredAs (given .reply)) (no Refusal.QueueFull)) (no Refusal.Address)) (no Refusal.Requirement)) (no Refusal.Timeslot)
     unfolding requestCall requestAnswered ask
     request-asks =
         three-yes (isStationSound (m .station)) (areLengthsRight m) (isQueueSound m)
         (isTimeslotLegal (a .timeslot) ∷ isRequirementLegal (a .code) ∷ isAddressLegal (a .kind) (a .number) ∷ isQueueOpen m (a .timeslot) ∷ []) (answeredAs (given .reply)) no station-sound lengths-right (h .sound)
         ∙ ap (λ (b : Bool). cond (legalTimeslot (a .timeslot)) (cond (leb (a .code) 15) (cond (legalAddress (a .kind) (a .number)) (cond b (answeredAs (given .reply)) (no Refusal.QueueFull)) (no Refusal.Address)) (no Refusal.Requirement)) (no Refusal.Timeslot))
-        (ap (λ (n : ℕ). ltb n 16) (count-at (a .timeslot)))
+        (ap (λ (n : ℕ). ltb n perTimeslot) (count-at (a .timeslot)))
 
-    refused-refines : (r : Refusal) → Refines m (outcomeOf false (refusalNumber r))
-    unfolding outcomeOf
-    refused-refines r = record { time = h .time; markers = h .markers; table = h .table; lists = h .lists; sound = h .sound; octets = h .octets; counts = h .counts; places = h .places; cells = h .cells }
-
-    granted-refines : Passed a queued → Refines (answeredAs (given .reply) .memory) (outcomeOf true 0)
-    unfolding outcomeOf
-    granted-refines p =
-        subst (λ (x : CapReply). Refines (answeredAs x .memory) (outcomeOf true 0)) (sym (ap (λ (y : CapAnswer). y .reply) same-answer))
-        (answered-refines p (stationAnswer (s .uplink) (asked a) .reply) refl)
-
-    pub request-refines : Refines (requestCall m (a .timeslot) (a .code) (a .kind) (a .number) .memory) (stationAfter (request a) s)
-    unfolding stationAfter uplinkStation.stationAfter uplinkStation.stationReply question legalAddress outcomeOf
-    request-refines =
-        subst (λ (o : Outcome RequestReply). Refines (o .memory) (stationAfter (request a) s)) (sym request-asks)
-        (request-asked (λ (o : Outcome RequestReply) (x : Station). Refines (o .memory) x) outcomeOf (answeredAs (given .reply)) no refused-refines
-        (legalTimeslot (a .timeslot)) (leb (a .code) 15) (legalAddress (a .kind) (a .number)) (ltb queued 16) (λ b3 b4 b5 b8. granted-refines (passed b3 b4 b5 b8)))
-
-    answered-reply : (x : CapReply) → requestReply (answeredAs x .reply) ≡ asReply x
-    unfolding grantQueued
-    answered-reply CapReply.NoRun = refl
-    answered-reply CapReply.TooLate = refl
-    answered-reply (CapReply.Granted c d marker) = refl
-
-    pub request-reply : requestReply (requestCall m (a .timeslot) (a .code) (a .kind) (a .number) .reply) ≡ uplinkStation.stationReply (uplinkCall.request a queued) (s .uplink)
-    unfolding uplinkStation.stationReply question legalAddress
-    request-reply =
-        subst (λ (o : Outcome RequestReply). requestReply (o .reply) ≡ uplinkStation.stationReply (uplinkCall.request a queued) (s .uplink)) (sym request-asks)
-        (request-asked (λ (o : Outcome RequestReply) (x : UplinkReply). requestReply (o .reply) ≡ x) (λ b k. cond b (asReply (stationAnswer (s .uplink) (asked a) .reply)) (refused k)) (answeredAs (given .reply)) no (λ r. refl)
-        (legalTimeslot (a .timeslot)) (leb (a .code) 15) (legalAddress (a .kind) (a .number)) (ltb queued 16)
-        (λ b3 b4 b5 b8. answered-reply (given .reply) ∙ ap (λ (y : CapAnswer). asReply (y .reply)) same-answer))
+    pub request-agrees : Agree Refines (memoryStep (request a) m) (listsStep (request a) s)
+    unfolding memoryStep listsStep unlessRefused requestQuestion legalAddress
+    request-agrees =
+        let x : CapAnswer = stationAnswer (s .uplink) (asked a) in
+        let granting : Passed a queued → Agree Refines (answered requestReply (answeredAs (given .reply))) (requestedLists a x (x .reply) s) =
+        λ p.
+        subst (λ (r : CapReply). Agree Refines (answered requestReply (answeredAs r)) (requestedLists a x (x .reply) s))
+        (sym (ap (λ (y : CapAnswer). y .reply) same-answer)) (answered-agrees p (x .reply) refl) in
+        subst (λ (o : Outcome RequestReply). Agree Refines (answered requestReply o) (listsStep (request a) s)) (sym request-asks)
+        (request-asked (λ (o : Outcome RequestReply) (y : Stepped Lists). Agree Refines (answered requestReply o) y)
+        (λ b k. cond b (requestedLists a x (x .reply) s) (stepped s (refused k))) (answeredAs (given .reply)) no (λ r. record { after = h; reply = refl })
+        (legalTimeslot (a .timeslot)) (leb (a .code) 15) (legalAddress (a .kind) (a .number)) (ltb queued perTimeslot)
+        (λ b3 b4 b5 b8. granting (passed b3 b4 b5 b8)))
 
   -- ---- an ack
 
   module _ (o : AckOffer) where
     abbrev ack-queued : ℕ
-    ack-queued = length (queueAt (s .queues) (o .timeslot))
+    ack-queued = queuedAt (s .queues) (o .timeslot)
 
     abbrev joined-ack : Queues (List ℕ)
-    joined-ack = joins (s .queues) (o .timeslot) (item (ackRecord (o .kind) (o .number)) zeroCell)
+    joined-ack = appended (s .queues) (o .timeslot) (item (ackRecord (o .kind) (o .number)) zeroCell)
 
     abbrev ack-done : Outcome core.Reply
     ack-done = outcome core.Reply.Done (withRecord m (o .timeslot) (ackRecord (o .kind) (o .number)))
@@ -280,19 +239,19 @@ module _ (m : Memory) (s : Station) (h : Refines m s) (u : Sound (s .uplink)) wh
     ack-no r = outcome (core.Reply.Refused r) m
 
     ack-asks : ackCall m (o .timeslot) (o .kind) (o .number)
-        ≡ cond (legalTimeslot (o .timeslot)) (cond (legalAddress (o .kind) (o .number)) (cond (ltb ack-queued 16) ack-done (ack-no Refusal.QueueFull)) (ack-no Refusal.Address)) (ack-no Refusal.Timeslot)
+        ≡ cond (legalTimeslot (o .timeslot)) (cond (legalAddress (o .kind) (o .number)) (cond (ltb ack-queued perTimeslot) ack-done (ack-no Refusal.QueueFull)) (ack-no Refusal.Address)) (ack-no Refusal.Timeslot)
     unfolding ackCall ask
     ack-asks =
         three-yes (isStationSound (m .station)) (areLengthsRight m) (isQueueSound m) (isTimeslotLegal (o .timeslot) ∷ isAddressLegal (o .kind) (o .number) ∷ isQueueOpen m (o .timeslot) ∷ []) ack-done ack-no station-sound lengths-right (h .sound)
         ∙ ap (λ (b : Bool). cond (legalTimeslot (o .timeslot)) (cond (legalAddress (o .kind) (o .number)) (cond b ack-done (ack-no Refusal.QueueFull)) (ack-no Refusal.Address)) (ack-no Refusal.Timeslot))
-        (ap (λ (n : ℕ). ltb n 16) (count-at (o .timeslot)))
+        (ap (λ (n : ℕ). ltb n perTimeslot) (count-at (o .timeslot)))
 
-    ack-joined : legalTimeslot (o .timeslot) ≡ true → legalAddress (o .kind) (o .number) ≡ true → ltb ack-queued 16 ≡ true
+    ack-joined : legalTimeslot (o .timeslot) ≡ true → legalAddress (o .kind) (o .number) ≡ true → ltb ack-queued perTimeslot ≡ true
         → Refines (ack-done .memory) (record { uplink = s .uplink; queues = joined-ack })
-    unfolding joins
+    unfolding appended
     ack-joined b3 b5 b8 =
-        let low : 1 ≤ o .timeslot = leb-true _ _ (and-left (leb 1 (o .timeslot)) (leb (o .timeslot) 4) b3) in
-        let high : o .timeslot ≤ 4 = leb-true _ _ (and-right (leb 1 (o .timeslot)) (leb (o .timeslot) 4) b3) in
+        let low : 1 ≤ o .timeslot = leb-true _ _ (and-left (leb 1 (o .timeslot)) (leb (o .timeslot) timeslots) b3) in
+        let high : o .timeslot ≤ timeslots = leb-true _ _ (and-right (leb 1 (o .timeslot)) (leb (o .timeslot) timeslots) b3) in
         let q : HoldsQueues _ _ (m .store) =
         ack-joins ns (m .records) (m .store) (o .timeslot - 1) (omega (arith, h .counts, low, high)) (rw (count-at (o .timeslot)) (ltb-true _ _ b8))
         (omega (arith, h .places, h .counts)) (omega (arith, h .cells, h .counts)) (h .sound) (o .kind) (o .number) (h .octets) b5 in
@@ -308,29 +267,24 @@ module _ (m : Memory) (s : Station) (h : Refines m s) (u : Sound (s .uplink)) wh
           cells = h .cells;
         }
 
-    pub ack-refines : Refines (ackCall m (o .timeslot) (o .kind) (o .number) .memory) (stationAfter (enqueueAck o) s)
-    unfolding stationAfter uplinkStation.stationAfter afterAck ackQuestion
-    ack-refines =
-        subst (λ (y : Outcome core.Reply). Refines (y .memory) (stationAfter (enqueueAck o) s)) (sym ack-asks)
-        (ack-asked (λ (y : Outcome core.Reply) (x : Station). Refines (y .memory) x) (λ b k. record { uplink = s .uplink; queues = cond b joined-ack (s .queues) }) ack-done ack-no
-        (λ r. record { time = h .time; markers = h .markers; table = h .table; lists = h .lists; sound = h .sound; octets = h .octets; counts = h .counts; places = h .places; cells = h .cells })
-        (legalTimeslot (o .timeslot)) (legalAddress (o .kind) (o .number)) (ltb ack-queued 16) ack-joined)
-
-    pub ack-reply : queueReply (ackCall m (o .timeslot) (o .kind) (o .number) .reply) ≡ numbered cellLoads (ackQuestion o ack-queued)
-    unfolding ackQuestion
-    ack-reply =
-        subst (λ (y : Outcome core.Reply). queueReply (y .reply) ≡ numbered cellLoads (ackQuestion o ack-queued)) (sym ack-asks)
-        (ack-asked (λ (y : Outcome core.Reply) (x : UplinkReply). queueReply (y .reply) ≡ x) (λ b k. cond b done (refused k)) ack-done ack-no (λ r. refl)
-        (legalTimeslot (o .timeslot)) (legalAddress (o .kind) (o .number)) (ltb ack-queued 16) (λ b3 b5 b8. refl))
+    pub ack-agrees : Agree Refines (memoryStep (enqueueAck o) m) (listsStep (enqueueAck o) s)
+    unfolding memoryStep listsStep unlessRefused ackQuestion
+    ack-agrees =
+        subst (λ (y : Outcome core.Reply). Agree Refines (answered queueReply y) (listsStep (enqueueAck o) s)) (sym ack-asks)
+        (ack-asked (λ (y : Outcome core.Reply) (z : Stepped Lists). Agree Refines (answered queueReply y) z)
+        (λ b k. cond b (stepped (record { uplink = s .uplink; queues = joined-ack }) done) (stepped s (refused k))) ack-done ack-no
+        (λ r. record { after = h; reply = refl })
+        (legalTimeslot (o .timeslot)) (legalAddress (o .kind) (o .number)) (ltb ack-queued perTimeslot)
+        (λ b3 b5 b8. record { after = ack-joined b3 b5 b8; reply = refl }))
 
   -- ---- a record
 
   module _ (o : RecordOffer) where
     abbrev rec-queued : ℕ
-    rec-queued = length (queueAt (s .queues) (o .timeslot))
+    rec-queued = queuedAt (s .queues) (o .timeslot)
 
     abbrev joined-rec : Queues (List ℕ)
-    joined-rec = joins (s .queues) (o .timeslot) (item (recordOf o) (cellOf (o .bits) (o .octets)))
+    joined-rec = appended (s .queues) (o .timeslot) (item (recordOf o) (cellOf (o .bits) (o .octets)))
 
     abbrev rec-done : Outcome core.Reply
     rec-done = outcome core.Reply.Done (withSdu m (o .timeslot) (recordOf o) (o .octets))
@@ -345,20 +299,20 @@ module _ (m : Memory) (s : Station) (h : Refines m s) (u : Sound (s .uplink)) wh
     nest b =
         cond (legalTimeslot (o .timeslot)) (cond (legalAddress (o .kind) (o .number)) (cond header-fine (cond (presentSdu (o .bits) (o .octets)) (cond b rec-done (rec-no Refusal.QueueFull)) (rec-no Refusal.Sdu)) (rec-no Refusal.Header)) (rec-no Refusal.Address)) (rec-no Refusal.Timeslot)
 
-    rec-asks : tmaCall m (o .timeslot) (o .kind) (o .number) (o .tag) (o .header) (o .bits) (o .octets) ≡ nest (ltb rec-queued 16)
+    rec-asks : tmaCall m (o .timeslot) (o .kind) (o .number) (o .tag) (o .header) (o .bits) (o .octets) ≡ nest (ltb rec-queued perTimeslot)
     unfolding tmaCall ask
     rec-asks =
         three-yes (isStationSound (m .station)) (areLengthsRight m) (isQueueSound m)
         (isTimeslotLegal (o .timeslot) ∷ isAddressLegal (o .kind) (o .number) ∷ isHeaderLegal (recordOf o) ∷ isSduPresent (o .bits) (o .octets) ∷ isQueueOpen m (o .timeslot) ∷ []) rec-done rec-no station-sound lengths-right (h .sound)
-        ∙ ap nest (ap (λ (n : ℕ). ltb n 16) (count-at (o .timeslot)))
+        ∙ ap nest (ap (λ (n : ℕ). ltb n perTimeslot) (count-at (o .timeslot)))
 
-    rec-joined : legalTimeslot (o .timeslot) ≡ true → legalAddress (o .kind) (o .number) ≡ true → header-fine ≡ true → presentSdu (o .bits) (o .octets) ≡ true → ltb rec-queued 16 ≡ true
+    rec-joined : legalTimeslot (o .timeslot) ≡ true → legalAddress (o .kind) (o .number) ≡ true → header-fine ≡ true → presentSdu (o .bits) (o .octets) ≡ true → ltb rec-queued perTimeslot ≡ true
         → Refines (rec-done .memory) (record { uplink = s .uplink; queues = joined-rec })
-    unfolding joins
+    unfolding appended
     rec-joined b3 b5 b6 b7 b8 =
-        let low : 1 ≤ o .timeslot = leb-true _ _ (and-left (leb 1 (o .timeslot)) (leb (o .timeslot) 4) b3) in
-        let high : o .timeslot ≤ 4 = leb-true _ _ (and-right (leb 1 (o .timeslot)) (leb (o .timeslot) 4) b3) in
-        let room : getD ns (o .timeslot - 1) 0 < 16 = rw (count-at (o .timeslot)) (ltb-true _ _ b8) in
+        let low : 1 ≤ o .timeslot = leb-true _ _ (and-left (leb 1 (o .timeslot)) (leb (o .timeslot) timeslots) b3) in
+        let high : o .timeslot ≤ timeslots = leb-true _ _ (and-right (leb 1 (o .timeslot)) (leb (o .timeslot) timeslots) b3) in
+        let room : getD ns (o .timeslot - 1) 0 < perTimeslot = rw (count-at (o .timeslot)) (ltb-true _ _ b8) in
         let q : HoldsQueues _ _ _ =
         offered-joins ns (m .records) (m .store) (o .timeslot - 1) (omega (arith, h .counts, low, high)) room
         (omega (arith, h .places, h .counts)) (omega (arith, h .cells, h .counts)) (h .sound) (o .kind) (o .number) (o .tag) (o .header) (o .bits) (o .octets) (h .octets) b5 b6 b7 in
@@ -371,20 +325,15 @@ module _ (m : Memory) (s : Station) (h : Refines m s) (u : Sound (s .uplink)) wh
           octets = q .octets;
           counts = length-set ns _ _ ∙ h .counts;
           places = length-set (m .records) _ _ ∙ h .places;
-          cells = length-paste (m .store) (256 * nextPlace ns (o .timeslot - 1)) (cellOf (o .bits) (o .octets)) 256 (omega (arith, h .cells, low, high, room)) (omega (arith, length-cellOf (o .bits) (o .octets))) ∙ h .cells;
+          cells = length-paste (m .store) (cellOctets * nextPlace ns (o .timeslot - 1)) (cellOf (o .bits) (o .octets)) cellOctets (omega (arith, h .cells, low, high, room)) (omega (arith, length-cellOf (o .bits) (o .octets))) ∙ h .cells;
         }
 
-    pub rec-refines : Refines (tmaCall m (o .timeslot) (o .kind) (o .number) (o .tag) (o .header) (o .bits) (o .octets) .memory) (stationAfter (enqueueRecord o) s)
-    unfolding stationAfter uplinkStation.stationAfter afterRecord recordQuestion
-    rec-refines =
-        subst (λ (y : Outcome core.Reply). Refines (y .memory) (stationAfter (enqueueRecord o) s)) (sym rec-asks)
-        (record-asked (λ (y : Outcome core.Reply) (x : Station). Refines (y .memory) x) (λ b k. record { uplink = s .uplink; queues = cond b joined-rec (s .queues) }) rec-done rec-no
-        (λ r. record { time = h .time; markers = h .markers; table = h .table; lists = h .lists; sound = h .sound; octets = h .octets; counts = h .counts; places = h .places; cells = h .cells })
-        (legalTimeslot (o .timeslot)) (legalAddress (o .kind) (o .number)) header-fine (presentSdu (o .bits) (o .octets)) (ltb rec-queued 16) rec-joined)
-
-    pub rec-reply : queueReply (tmaCall m (o .timeslot) (o .kind) (o .number) (o .tag) (o .header) (o .bits) (o .octets) .reply) ≡ numbered cellLoads (recordQuestion o rec-queued)
-    unfolding recordQuestion
-    rec-reply =
-        subst (λ (y : Outcome core.Reply). queueReply (y .reply) ≡ numbered cellLoads (recordQuestion o rec-queued)) (sym rec-asks)
-        (record-asked (λ (y : Outcome core.Reply) (x : UplinkReply). queueReply (y .reply) ≡ x) (λ b k. cond b done (refused k)) rec-done rec-no (λ r. refl)
-        (legalTimeslot (o .timeslot)) (legalAddress (o .kind) (o .number)) header-fine (presentSdu (o .bits) (o .octets)) (ltb rec-queued 16) (λ b3 b5 b6 b7 b8. refl))
+    pub rec-agrees : Agree Refines (memoryStep (enqueueRecord o) m) (listsStep (enqueueRecord o) s)
+    unfolding memoryStep listsStep unlessRefused recordQuestion
+    rec-agrees =
+        subst (λ (y : Outcome core.Reply). Agree Refines (answered queueReply y) (listsStep (enqueueRecord o) s)) (sym rec-asks)
+        (record-asked (λ (y : Outcome core.Reply) (z : Stepped Lists). Agree Refines (answered queueReply y) z)
+        (λ b k. cond b (stepped (record { uplink = s .uplink; queues = joined-rec }) done) (stepped s (refused k))) rec-done rec-no
+        (λ r. record { after = h; reply = refl })
+        (legalTimeslot (o .timeslot)) (legalAddress (o .kind) (o .number)) header-fine (presentSdu (o .bits) (o .octets)) (ltb rec-queued perTimeslot)
+        (λ b3 b5 b6 b7 b8. record { after = rec-joined b3 b5 b6 b7 b8; reply = refl }))

@@ -1,7 +1,7 @@
 -- What a request reserves was free, stands in the 68 slots from now on, and is then held under its number (`reserved-is`). Assumes nothing.
 use mathlib.Core.Path.{_≡_, refl, ap, _∙_}
 use mathlib.Core.Bool.{Bool, true, false, _||_, not, cond}
-use mathlib.Core.List.{List, [], _∷_, List·Memᴰ, List·Memᴰ·not-nil}
+use mathlib.Core.List.{List, [], _∷_, List·Memᴰ}
 use Prim.Native.Nat.{ℕ, _+_, _-_, _<_}
 use native.Mathlib.Omega.{arith}
 use lib.ListN.{length, getD}
@@ -15,11 +15,15 @@ use Rattle.slot_codes.specs.Codes.{slotsWanted, wantsHalf}
 use Rattle.slot_codes.proofs.CodesLaws.{capacity-of-half}
 use Rattle.uplink.specs.HalfSlot.{Half, firstHalf, secondHalf, HalfSlot, vacant, halvesAt, halvesOfSlots}
 use Rattle.uplink.specs.Search.{Run}
-use Rattle.uplink.specs.Request.{Request, fits, Verdict, noRun, tooLate, grant, capacity, halvesOf, reservedBy}
+use Rattle.uplink.specs.Request.{Request, fits, Verdict, noRun, tooLate, grant, capacity, halvesOf, reservedBy, markerOf}
 use Rattle.uplink.proofs.VerdictLaws.{Near, Granted, verdict-grant, granted-near, granted-fits, granted-length}
 use Rattle.uplink.proofs.Basics.{not-both}
-use Rattle.history.specs.UplinkCall.{CapacityRequest, asked, request, question}
-use Rattle.history.specs.UplinkModel.{UplinkModel, Taken, takenBy, modelView, modelVerdict, reserved, settled, modelAfter}
+use Rattle.history.specs.Call.{CapacityRequest, asked, request, refused, stepped, unlessRefused, requestQuestion}
+use Rattle.history.specs.Queues.{queuedAt}
+use Rattle.history.specs.UplinkModel.{Taken, takenBy, modelView, takeHalves, modelVerdict, takenFor}
+use Rattle.history.specs.Model.{Model, counted, reserved, requested, modelStep}
+use Rattle.history.specs.Demand3.{slotsAgreed}
+use Rattle.history.proofs.Steps.{unless-after}
 use Rattle.history.proofs.ModelLaws.{Free, takes-has, takes-stays}
 
 -- a fact of each half of each slot is one of each half-slot
@@ -41,7 +45,7 @@ abbrev pub NearBy : ℕ → HalfSlot → Type 0
 NearBy n y = (c : ℕ) × Near n c × (y .time ≡ clock c)
 
 -- how far from n a slot near it stands
-pub offset : (n c : ℕ) → Near n c → (k : ℕ) × (n + k ≡ c) × (k < 68)
+pub offset : (n c : ℕ) → Near n c → (k : ℕ) × (n + k ≡ c) × (k < slotsAgreed)
 offset n c h = (c - n, omega arith, omega arith)
 
 module _ (xs : List Taken) (n : ℕ) (r : Request) (g : Run) (k : Granted (modelView xs) n r g) where
@@ -85,49 +89,63 @@ grant-free xs n r g k = go (wantsHalf (r .code)) refl (granted-fits (modelView x
 -- ---- a request
 
 -- it does not change the time
-pub request-now : (a : CapacityRequest) (queued : ℕ) (m : UplinkModel) → modelAfter (request a queued) m .now ≡ m .now
-unfolding modelAfter settled
-request-now a queued m = go (eqb (question a queued) 0)
+pub request-now : (a : CapacityRequest) (m : Model) → modelStep (request a) m .after .uplink .now ≡ m .uplink .now
+unfolding modelStep requested takenFor
+request-now a m = unless-after (λ (n : Model). n .uplink .now ≡ m .uplink .now) _ (counted m) _ refl (λ e. go (modelVerdict (m .uplink) (asked a)))
   where
-    go : (b : Bool) → cond b (settled (asked a) (modelVerdict m (asked a)) m) m .now ≡ m .now
-    go true = refl
-    go false = refl
+    go : (w : Verdict) → requested a w m .after .uplink .now ≡ m .uplink .now
+    go noRun = refl
+    go tooLate = refl
+    go (grant g) = refl
 
--- what is held stays held
-pub request-stays : (a : CapacityRequest) (queued : ℕ) (m : UplinkModel) (t : ℕ) (h : Half) (w : ℕ) → takenBy (m .taken) t h ≡ OptU32.Of w → takenBy (modelAfter (request a queued) m .taken) t h ≡ OptU32.Of w
-unfolding modelAfter settled modelVerdict reservedBy takenBy
-request-stays a queued m t h w o = go (eqb (question a queued) 0)
+-- it takes what it reserves
+pub request-taken : (a : CapacityRequest) (m : Model)
+    → modelStep (request a) m .after .uplink .taken ≡ takeHalves (reserved a m) (a .number) (markerOf (m .uplink .markers) (asked a)) (m .uplink .taken)
+unfolding modelStep unlessRefused requested takenFor reserved reservedBy takeHalves
+request-taken a m = go (eqb (requestQuestion a (queuedAt (m .queues) (a .timeslot))) 0) (modelVerdict (m .uplink) (asked a))
   where
-    free : (v : Verdict) → modelVerdict m (asked a) ≡ v → All (Free (m .taken)) (reservedBy (modelView (m .taken)) (a .code) v)
-    free noRun e = tt
-    free tooLate e = tt
-    free (grant g) e = grant-free (m .taken) (m .now) (asked a) g (verdict-grant (modelView (m .taken)) (m .now) (asked a) g e)
+    go : (b : Bool) (w : Verdict)
+        → cond b (requested a w m) (stepped (counted m) (refused (requestQuestion a (queuedAt (m .queues) (a .timeslot))))) .after .uplink .taken
+        ≡ takeHalves (cond b (reservedBy (modelView (m .uplink .taken)) (a .code) w) []) (a .number) (markerOf (m .uplink .markers) (asked a)) (m .uplink .taken)
+    go true noRun = refl
+    go true tooLate = refl
+    go true (grant g) = refl
+    go false w = refl
 
-    go : (b : Bool) → takenBy (cond b (settled (asked a) (modelVerdict m (asked a)) m) m .taken) t h ≡ OptU32.Of w
-    go true = takes-stays _ (a .number) _ (m .taken) t h w (free (modelVerdict m (asked a)) refl) o
-    go false = o
+-- what it reserves is near and was free
+module _ (a : CapacityRequest) (m : Model) where
+  reserved-all : (P : HalfSlot → Type 0) → ((g : Run) → Granted (modelView (m .uplink .taken)) (m .uplink .now) (asked a) g
+      → All P (reservedBy (modelView (m .uplink .taken)) (a .code) (grant g))) → All P (reserved a m)
+  unfolding reserved reservedBy modelVerdict
+  reserved-all P f = go (eqb (requestQuestion a (queuedAt (m .queues) (a .timeslot))) 0) (modelVerdict (m .uplink) (asked a)) refl
+    where
+      go : (b : Bool) (w : Verdict) → modelVerdict (m .uplink) (asked a) ≡ w → All P (cond b (reservedBy (modelView (m .uplink .taken)) (a .code) w) [])
+      go true noRun e = tt
+      go true tooLate e = tt
+      go true (grant g) e = f g (verdict-grant (modelView (m .uplink .taken)) (m .uplink .now) (asked a) g e)
+      go false w e = tt
+
+  reserved-near : All (NearBy (m .uplink .now)) (reserved a m)
+  reserved-near = reserved-all (NearBy (m .uplink .now)) (grant-near (m .uplink .taken) (m .uplink .now) (asked a))
+
+  reserved-free : All (Free (m .uplink .taken)) (reserved a m)
+  reserved-free = reserved-all (Free (m .uplink .taken)) (grant-free (m .uplink .taken) (m .uplink .now) (asked a))
+
+  -- what is held stays held
+  pub request-stays : (t : ℕ) (h : Half) (w : ℕ) → takenBy (m .uplink .taken) t h ≡ OptU32.Of w
+      → takenBy (modelStep (request a) m .after .uplink .taken) t h ≡ OptU32.Of w
+  request-stays t h w o = rw (request-taken a m) (takes-stays _ (a .number) _ (m .uplink .taken) t h w reserved-free o)
 
 -- what it reserves, and how it stands in the model after it
-pub record Reserved (a : CapacityRequest) (queued : ℕ) (m : UplinkModel) (y : HalfSlot) : Type 0 where
-  pub place : NearBy (m .now) y
-  pub free : Free (m .taken) y
-  pub held : takenBy (modelAfter (request a queued) m .taken) (y .time) (y .half) ≡ OptU32.Of (a .number)
+pub record Reserved (a : CapacityRequest) (m : Model) (y : HalfSlot) : Type 0 where
+  pub place : NearBy (m .uplink .now) y
+  pub free : Free (m .uplink .taken) y
+  pub held : takenBy (modelStep (request a) m .after .uplink .taken) (y .time) (y .half) ≡ OptU32.Of (a .number)
 
-pub reserved-is : (a : CapacityRequest) (queued : ℕ) (m : UplinkModel) (y : HalfSlot) → List·Memᴰ y (reserved a queued m) → Reserved a queued m y
-unfolding reserved modelAfter modelVerdict reservedBy settled
-reserved-is a queued m y k = go (eqb (question a queued) 0) refl k
-  where
-    by-verdict : eqb (question a queued) 0 ≡ true → (v : Verdict) → modelVerdict m (asked a) ≡ v → List·Memᴰ y (reservedBy (modelView (m .taken)) (a .code) v) → Reserved a queued m y
-    by-verdict q noRun e k = absurd (List·Memᴰ·not-nil k)
-    by-verdict q tooLate e k = absurd (List·Memᴰ·not-nil k)
-    by-verdict q (grant g) e k =
-        let given : Granted (modelView (m .taken)) (m .now) (asked a) g = verdict-grant (modelView (m .taken)) (m .now) (asked a) g e in
-        record {
-          place = all-at (NearBy (m .now)) _ (grant-near (m .taken) (m .now) (asked a) g given) k;
-          free = all-at (Free (m .taken)) _ (grant-free (m .taken) (m .now) (asked a) g given) k;
-          held = rw (q, e) (takes-has y _ (a .number) _ (m .taken) k);
-        }
-
-    go : (b : Bool) → eqb (question a queued) 0 ≡ b → List·Memᴰ y (cond b (reservedBy (modelView (m .taken)) (a .code) (modelVerdict m (asked a))) []) → Reserved a queued m y
-    go true e k = by-verdict e (modelVerdict m (asked a)) refl k
-    go false e k = absurd (List·Memᴰ·not-nil k)
+pub reserved-is : (a : CapacityRequest) (m : Model) (y : HalfSlot) → List·Memᴰ y (reserved a m) → Reserved a m y
+reserved-is a m y k =
+    record {
+      place = all-at (NearBy (m .uplink .now)) _ (reserved-near a m) k;
+      free = all-at (Free (m .uplink .taken)) _ (reserved-free a m) k;
+      held = rw (request-taken a m) (takes-has y _ (a .number) _ (m .uplink .taken) k);
+    }

@@ -1,18 +1,20 @@
--- Every record queued in the station is sound, with its cell (`stored-history`), so that every block built can be read. Assumes nothing.
-use mathlib.Core.Path.{_≡_, refl, ap}
+-- Every record queued in the station is sound, with its cell (`Fit`), so that every block built can be read. Assumes nothing.
+use mathlib.Core.Path.{_≡_, refl}
 use mathlib.Core.Bool.{Bool, true, false, not, cond}
 use mathlib.Core.List.{List, [], _∷_}
 use Prim.Native.Nat.{ℕ, _-_, _*_, _^_, _≤_, _<_}
 use native.Mathlib.Omega.{arith}
-use lib.Dec.{eqb, leb}
-use lib.ListN.{length, getD, set}
-use borrow.Author.Tests.{eqb-true, leb-true, lt-ltb, le-leb}
+use lib.Dec.{leb}
+use lib.ListN.{length, getD}
+use borrow.Author.Tests.{leb-true, lt-ltb, le-leb}
+use Rattle.sizes.specs.Sizes.{timeslots, cellOctets, sduBits, blockWidth, latestDelay}
 use Rattle.optional.specs.declared.OptU8.{OptU8}
 use Rattle.optional.proofs.Tests.{and-left, and-right, and-intro}
 use Rattle.tdma_time.specs.declared.TdmaTime.{TdmaTime}
 use Rattle.tdma_time.specs.Time.{Valid, slotOf, timeslot}
 use Rattle.slot_codes.specs.Codes.{grantOctet}
 use Rattle.slot_codes.proofs.CodesLaws.{capacity-below-16, grant-octet-fits}
+use Rattle.uplink.specs.declared.CapReply.{CapReply}
 use Rattle.uplink.specs.HalfSlot.{View, vacant, firstHalf}
 use Rattle.uplink.specs.UplinkEntry.{tableView, soundCounter, soundCounters}
 use Rattle.uplink.specs.Request.{Request, Verdict, noRun, tooLate, grant, verdict, capacity, draws, markerOf, replyTo, given, answer}
@@ -41,23 +43,19 @@ use Rattle.dl_send.specs.Send.{kept, isUnderway, turn, sendAll, cellSdu}
 use Rattle.dl_send.proofs.KeptLaws.{Stored, Staying, all-append, left-stays}
 use Rattle.dl_build.specs.Build.{inOrder, buildList}
 use Rattle.dl_build.proofs.OrderLaws.{order-all}
-use Rattle.sched_core.specs.Questions.{isBlockLength}
-use Rattle.history.specs.UplinkCall as uplinkCall
-use Rattle.history.specs.UplinkCall.{CapacityRequest, asked, UplinkReply, done, refused, granted, asReply, question}
-use Rattle.history.proofs.UplinkStation as uplinkStation
-use Rattle.history.proofs.UplinkStation.{UplinkStation, stationAnswer, Sound}
-use Rattle.history.specs.Call.{AckOffer, RecordOffer, recordOf, Call, advance, request, enqueueAck, enqueueRecord, build, read, ackQuestion, recordQuestion}
-use Rattle.history.specs.Queues.{Queues, queueAt, joins, afterRequest, canBuild, afterAck, afterRecord, built, afterBuild}
-use Rattle.history.proofs.Station.{cellLoads, Station, newStation, callOf, stationAfter, stationRun, stationAt}
-use Rattle.history.proofs.QuestionLaws.{Passed, question-passed}
-use Rattle.history.proofs.SoundHistory.{sound-after, new-sound}
-use Rattle.history.proofs.WholeSimulation.{RecordPassed, record-passed, AckPassed, ack-passed}
-use Rattle.history.proofs.NamedHistory.{set-each, joins-each, none-each, timeslot-low}
+use Rattle.history.specs.Call.{CapacityRequest, asked, AckOffer, RecordOffer, recordOf, Call, advance, request, enqueueAck, enqueueRecord, build, read}
+use Rattle.history.specs.Call.{noBlock, Stepped, stepped, requestQuestion}
+use Rattle.history.specs.Queues.{Queues, queueAt, queuedAt, canBuild}
+use Rattle.history.proofs.Steps.{unless-after}
+use Rattle.history.proofs.Lists.{UplinkStation, stationAnswer, Sound, Lists, newLists, requestedLists, cellsBuilt, slotNow, builtLists, listsStep}
+use Rattle.history.proofs.QuestionLaws.{Passed, question-passed, RecordPassed, record-passed, AckPassed, ack-passed}
+use Rattle.history.proofs.SoundUplink.{answer-sound, next-sound, new-sound}
+use Rattle.history.proofs.NamedHistory.{set-each, appended-each, none-each, timeslot-low}
 
 -- a sound record with its cell
 pub record InCell (y : Item (List ℕ)) : Type 0 where
   pub sound : soundPlace true (y .rec) (y .load) ≡ true
-  pub cell : length (y .load) ≡ 256
+  pub cell : length (y .load) ≡ cellOctets
   pub octets : Octets (y .load)
 
 -- each of a list is such exactly if the list is sound, of cells and of octets
@@ -95,7 +93,7 @@ legal-address : (a : CapacityRequest) (queued : ℕ) → Passed a queued → leg
 unfolding legalAddress
 legal-address a queued p = and-intro _ _ (le-leb _ _ (p .kind)) (lt-ltb _ _ (p .number))
 
-marker-six : (ms : List ℕ) (r : Request) → length ms ≡ 4 → soundCounters ms ≡ true → 1 ≤ r .timeslot → r .timeslot ≤ 4 → optFits 6 (markerOf ms r) ≡ true
+marker-six : (ms : List ℕ) (r : Request) → length ms ≡ timeslots → soundCounters ms ≡ true → 1 ≤ r .timeslot → r .timeslot ≤ timeslots → optFits 6 (markerOf ms r) ≡ true
 unfolding markerOf
 marker-six ms r l s a b = go (draws (r .code))
   where
@@ -109,28 +107,24 @@ marker-six ms r l s a b = go (draws (r .code))
     go true = lt-ltb count (2 ^ 6) (omega (arith, few))
     go false = refl
 
-abbrev kind : UplinkReply → ℕ
-kind done = 0
-kind (refused k) = 1
-kind (granted c d m) = 2
-
 -- where the questions are passed
-pub grant-passed : (a : CapacityRequest) (queued : ℕ) (s : UplinkStation) → Sound s → Passed a queued → (c d : ℕ) (marker : OptU8)
-    → asReply (stationAnswer s (asked a) .reply) ≡ granted c d marker → GrantFits a c d marker
+pub grant-fits : (a : CapacityRequest) (queued : ℕ) (s : UplinkStation) → Sound s → Passed a queued → (c d : ℕ) (marker : OptU8)
+    → stationAnswer s (asked a) .reply ≡ CapReply.Granted c d marker → GrantFits a c d marker
 unfolding stationAnswer answer given replyTo capacity
-grant-passed a queued s h p c d marker e = by-verdict (verdict v (slotOf (s .now)) (asked a)) refl e
+grant-fits a queued s h p c d marker e = by-verdict (verdict v (slotOf (s .now)) (asked a)) refl e
   where
     v : View
     v = tableView (s .table)
 
-    by-verdict : (w : Verdict) → verdict v (slotOf (s .now)) (asked a) ≡ w → asReply (replyTo v (s .markers) (asked a) w) ≡ granted c d marker → GrantFits a c d marker
-    by-verdict noRun f e = absurd (let z : _≡_ {A = ℕ} 1 2 = ap kind e in omega arith)
-    by-verdict tooLate f e = absurd (let z : _≡_ {A = ℕ} 1 2 = ap kind e in omega arith)
+    by-verdict : (w : Verdict) → verdict v (slotOf (s .now)) (asked a) ≡ w → replyTo v (s .markers) (asked a) w ≡ CapReply.Granted c d marker
+        → GrantFits a c d marker
+    by-verdict noRun f e = absurd (let z : _≡_ {A = ℕ} 0 1 = cc in omega arith)
+    by-verdict tooLate f e = absurd (let z : _≡_ {A = ℕ} 0 1 = cc in omega arith)
     by-verdict (grant g) f e =
         let ec : capacity v (a .code) (g .slots) ≡ c = cc in
         let ed : g .delay ≡ d = cc in
         let em : markerOf (s .markers) (asked a) ≡ marker = cc in
-        let low : g .delay ≤ 13 = verdict-grant v (slotOf (s .now)) (asked a) g f .low in
+        let low : g .delay ≤ latestDelay = verdict-grant v (slotOf (s .now)) (asked a) g f .low in
         let cap : c < 16 = rw (← ec) (capacity-below-16 (a .code) (not (vacant (v (getD (g .slots) 0 0) firstHalf)))) in
         record {
           low = p .timeslot-low;
@@ -139,22 +133,13 @@ grant-passed a queued s h p c d marker e = by-verdict (verdict v (slotOf (s .now
           six = rw (← em) (marker-six (s .markers) (asked a) (h .four) (h .counters) (p .timeslot-low) (p .timeslot-high));
         }
 
-grant-fits : (a : CapacityRequest) (queued : ℕ) (s : UplinkStation) → Sound s → (c d : ℕ) (marker : OptU8)
-    → uplinkStation.stationReply (uplinkCall.request a queued) s ≡ granted c d marker → GrantFits a c d marker
-unfolding uplinkStation.stationReply
-grant-fits a queued s h c d marker e = go (eqb (question a queued) 0) refl e
-  where
-    go : (b : Bool) → eqb (question a queued) 0 ≡ b → cond b (asReply (stationAnswer s (asked a) .reply)) (refused (question a queued)) ≡ granted c d marker → GrantFits a c d marker
-    go true q e = grant-passed a queued s h (question-passed a queued (eqb-true _ _ q)) c d marker e
-    go false q e = absurd (let z : _≡_ {A = ℕ} 1 2 = ap kind e in omega arith)
-
 -- ---- what is queued
 
 pub zero-octets : Octets zeroCell
 unfolding zeroCell
-zero-octets = octets-zero 256
+zero-octets = octets-zero cellOctets
 
-in-cell : (r : Record) (c : List ℕ) → soundRecord r ≡ true → cleanPast (r .bits) c ≡ true → length c ≡ 256 → Octets c → InCell (item r c)
+in-cell : (r : Record) (c : List ℕ) → soundRecord r ≡ true → cleanPast (r .bits) c ≡ true → length c ≡ cellOctets → Octets c → InCell (item r c)
 unfolding soundPlace
 in-cell r c a b l o = record { sound = and-intro (soundRecord r) (cleanPast (r .bits) c) a b; cell = l; octets = o }
 
@@ -167,8 +152,8 @@ ack-in-cell o a = in-cell _ zeroCell (ack-sound (o .kind) (o .number) a) zero-cl
 record-in-cell : (o : RecordOffer) (queued : ℕ) → RecordPassed o queued → InCell (item (recordOf o) (cellOf (o .bits) (o .octets)))
 unfolding presentSdu
 record-in-cell o queued p =
-    let small : o .bits ≤ 2048 = leb-true _ _ (and-left _ _ (p .sdu)) in
-    let there : o .bits ≤ 8 * length (o .octets) = leb-true _ _ (and-right (leb (o .bits) 2048) _ (p .sdu)) in
+    let small : o .bits ≤ sduBits = leb-true _ _ (and-left _ _ (p .sdu)) in
+    let there : o .bits ≤ 8 * length (o .octets) = leb-true _ _ (and-right (leb (o .bits) sduBits) _ (p .sdu)) in
     in-cell (recordOf o) (cellOf (o .bits) (o .octets)) (offered-sound (o .kind) (o .number) (o .tag) (o .header) (o .bits) (o .octets) (p .address) (p .header) (p .sdu))
     (clean-cellOf (o .bits) (o .octets) small there) (length-cellOf (o .bits) (o .octets)) (octets-cellOf (o .bits) (o .octets))
 
@@ -216,11 +201,11 @@ left-octets room (y ∷ ys) h =
     let n : Next = turn cellSdu room y in
     all-append OctetItem (kept (n .outcome) y) (sendAll cellSdu (n .room) ys .left) (kept-octets (n .outcome) y (h .0)) (left-octets (n .room) ys (h .1))
 
-pub built-in-cells : (ys : List (Item (List ℕ))) → All InCell ys → All InCell (built cellLoads ys .left)
-unfolding built buildList
+pub built-in-cells : (ys : List (Item (List ℕ))) → All InCell ys → All InCell (cellsBuilt ys .left)
+unfolding cellsBuilt buildList
 built-in-cells ys h =
-    both (sendAll cellSdu 268 (inOrder (mergeCells ys)) .left) (left-stays 268 (inOrder (mergeCells ys)) (omega arith) (ordered-stored ys h))
-    (left-octets 268 (inOrder (mergeCells ys)) (order-all OctetItem (mergeCells ys) (all-weaken InCell OctetItem (λ y p. p .octets) (mergeCells ys) (merged-in-cells ys h))))
+    both (sendAll cellSdu blockWidth (inOrder (mergeCells ys)) .left) (left-stays blockWidth (inOrder (mergeCells ys)) (omega arith) (ordered-stored ys h))
+    (left-octets blockWidth (inOrder (mergeCells ys)) (order-all OctetItem (mergeCells ys) (all-weaken InCell OctetItem (λ y p. p .octets) (mergeCells ys) (merged-in-cells ys h))))
   where
     both : (zs : List (Item (List ℕ))) → All Staying zs → All OctetItem zs → All InCell zs
     both [] a b = tt
@@ -234,58 +219,51 @@ Everywhere qs = (t : ℕ) → 1 ≤ t → All InCell (queueAt qs t)
 abbrev each : ℕ → Item (List ℕ) → Type 0
 each t y = InCell y
 
-after-request : (a : CapacityRequest) (qs : Queues (List ℕ)) → Everywhere qs → (reply : UplinkReply) → ((c d : ℕ) (marker : OptU8) → reply ≡ granted c d marker → GrantFits a c d marker)
-    → Everywhere (afterRequest a zeroCell reply qs)
-after-request a qs e done f = e
-after-request a qs e (refused k) f = e
-after-request a qs e (granted c d marker) f =
-    let g : GrantFits a c d marker = f c d marker refl in
-    joins-each each qs (a .timeslot) _ (g .low) (grant-in-cell a c d marker g) e
+-- the station is sound, and so is each of its records with its cell
+pub record Fit (s : Lists) : Type 0 where
+  pub uplink : Sound (s .uplink)
+  pub queues : Everywhere (s .queues)
 
-after-ack : (o : AckOffer) (qs : Queues (List ℕ)) → Everywhere qs → Everywhere (afterAck cellLoads o qs)
-unfolding afterAck
-after-ack o qs e = go (eqb (ackQuestion o (length (queueAt qs (o .timeslot)))) 0) refl
+after-request : (a : CapacityRequest) (s : Lists) → Fit s → Passed a (queuedAt (s .queues) (a .timeslot)) → (r : CapReply) → stationAnswer (s .uplink) (asked a) .reply ≡ r
+    → Fit (requestedLists a (stationAnswer (s .uplink) (asked a)) r s .after)
+unfolding requestedLists
+after-request a s h p CapReply.NoRun e = h
+after-request a s h p CapReply.TooLate e = h
+after-request a s h p (CapReply.Granted c d marker) e =
+    let g : GrantFits a c d marker = grant-fits a _ (s .uplink) (h .uplink) p c d marker e in
+    record {
+      uplink = answer-sound (s .uplink) (h .uplink) a _ p;
+      queues = appended-each each (s .queues) (a .timeslot) _ (g .low) (grant-in-cell a c d marker g) (h .queues);
+    }
+
+after-build : (s : Lists) → Fit s → Fit (builtLists s .after)
+unfolding builtLists
+after-build s h = go (canBuild (slotNow s) (s .queues)) _ (record { uplink = h .uplink; queues = set-each each (s .queues) t _ (omega arith) (built-in-cells (queueAt (s .queues) t) (h .queues t (omega arith))) (h .queues) })
   where
-    go : (b : Bool) → eqb (ackQuestion o (length (queueAt qs (o .timeslot)))) 0 ≡ b → Everywhere (cond b (joins qs (o .timeslot) (item (ackRecord (o .kind) (o .number)) zeroCell)) qs)
-    go true q = let p : AckPassed o (length (queueAt qs (o .timeslot))) = ack-passed o _ (eqb-true _ _ q) in joins-each each qs (o .timeslot) _ (timeslot-low (o .timeslot) (p .its-timeslot)) (ack-in-cell o (p .address)) e
-    go false q = e
+    t : ℕ
+    t = timeslot (slotNow s)
 
-after-record : (o : RecordOffer) (qs : Queues (List ℕ)) → Everywhere qs → Everywhere (afterRecord cellLoads o qs)
-unfolding afterRecord
-after-record o qs e = go (eqb (recordQuestion o (length (queueAt qs (o .timeslot)))) 0) refl
-  where
-    go : (b : Bool) → eqb (recordQuestion o (length (queueAt qs (o .timeslot)))) 0 ≡ b → Everywhere (cond b (joins qs (o .timeslot) (item (recordOf o) (cellOf (o .bits) (o .octets)))) qs)
-    go true q =
-        let p : RecordPassed o (length (queueAt qs (o .timeslot))) = record-passed o _ (eqb-true _ _ q) in
-        joins-each each qs (o .timeslot) _ (timeslot-low (o .timeslot) (p .its-timeslot)) (record-in-cell o _ p) e
-    go false q = e
+    go : (b : Bool) (y : Stepped Lists) → Fit (y .after) → Fit (cond b y (stepped s noBlock) .after)
+    go true y k = k
+    go false y k = h
 
-after-build : (now : ℕ) (qs : Queues (List ℕ)) → Everywhere qs → Everywhere (afterBuild cellLoads now qs)
-unfolding afterBuild
-after-build now qs e = go (canBuild now qs)
-  where
-    go : (b : Bool) → Everywhere (cond b (set qs (timeslot now - 1) (built cellLoads (queueAt qs (timeslot now)) .left)) qs)
-    go true = set-each each qs (timeslot now) _ (omega arith) (built-in-cells (queueAt qs (timeslot now)) (e (timeslot now) (omega arith))) e
-    go false = e
+pub fit-step : (c : Call) (s : Lists) → Fit s → Fit (listsStep c s .after)
+unfolding listsStep
+fit-step advance s h = record { uplink = next-sound (s .uplink) (h .uplink); queues = h .queues }
+fit-step (request a) s h = unless-after Fit _ s _ h (λ q. after-request a s h (question-passed a _ q) _ refl)
+fit-step (enqueueAck o) s h =
+    unless-after Fit _ s _ h
+    (λ q.
+    let p : AckPassed o (queuedAt (s .queues) (o .timeslot)) = ack-passed o _ q in
+    record { uplink = h .uplink; queues = appended-each each (s .queues) (o .timeslot) _ (timeslot-low (o .timeslot) (p .its-timeslot)) (ack-in-cell o (p .address)) (h .queues) })
+fit-step (enqueueRecord o) s h =
+    unless-after Fit _ s _ h
+    (λ q.
+    let p : RecordPassed o (queuedAt (s .queues) (o .timeslot)) = record-passed o _ q in
+    record { uplink = h .uplink; queues = appended-each each (s .queues) (o .timeslot) _ (timeslot-low (o .timeslot) (p .its-timeslot)) (record-in-cell o _ p) (h .queues) })
+fit-step (build b) s h = unless-after Fit _ s _ h (λ q. after-build s h)
+fit-step (read q) s h = unless-after Fit _ s _ h (λ k. h)
 
-after-call : (c : Call) (s : Station) → Sound (s .uplink) → Everywhere (s .queues) → Everywhere (stationAfter c s .queues)
-unfolding stationAfter
-after-call advance s h e = e
-after-call (request a) s h e = after-request a (s .queues) e _ (grant-fits a (length (queueAt (s .queues) (a .timeslot))) (s .uplink) h)
-after-call (enqueueAck o) s h e = after-ack o (s .queues) e
-after-call (enqueueRecord o) s h e = after-record o (s .queues) e
-after-call (build b) s h e = go (isBlockLength b)
-  where
-    go : (right : Bool) → Everywhere (cond right (afterBuild cellLoads (slotOf (s .uplink .now)) (s .queues)) (s .queues))
-    go true = after-build _ (s .queues) e
-    go false = e
-after-call (read q) s h e = e
-
-stored-run : (xs : List Call) (s : Station) → Sound (s .uplink) → Everywhere (s .queues) → Everywhere (stationRun xs s .queues)
-unfolding stationRun stationAfter
-stored-run [] s h e = e
-stored-run (c ∷ xs) s h e = stored-run xs (stationAfter c s) (sound-after (callOf c s) (s .uplink) h) (after-call c s h e)
-
-pub stored-history : (x : TdmaTime) → Valid x → (xs : List Call) (t : ℕ) → 1 ≤ t → All InCell (queueAt (stationAt x xs .queues) t)
-unfolding newStation
-stored-history x v xs t h = stored-run xs (newStation x) (new-sound x v) (λ u g. none-each each u) t h
+pub new-fit : (x : TdmaTime) → Valid x → Fit (newLists x)
+unfolding newLists
+new-fit x v = record { uplink = new-sound x v; queues = λ t h. none-each each t }

@@ -1,19 +1,32 @@
--- The calls of a history with their arguments, their questions and their replies. Assumes nothing.
+-- The calls of a history with their arguments, their questions, and what a call comes to. Assumes nothing.
 use mathlib.Core.Bool.{not, cond}
-use mathlib.Core.List.{List}
+use mathlib.Core.List.{List, [], _∷_}
 use Prim.Native.Nat.{ℕ}
-use lib.Dec.{ltb}
+use lib.Dec.{eqb, leb, ltb}
+use Rattle.sizes.specs.Sizes.{perTimeslot}
+use Rattle.optional.specs.declared.OptU8.{OptU8}
 use Rattle.optional.specs.declared.OptU16.{OptU16}
 use Rattle.tdma_time.specs.declared.TdmaTime.{TdmaTime}
 use Rattle.tdma_time.specs.Time.{valid}
 use Rattle.uplink.specs.declared.PhyBlockNum.{PhyBlockNum}
+use Rattle.uplink.specs.Request.{Request}
 use Rattle.mac_pdus.specs.Legal.{legalOffered}
 use Rattle.dl_record.specs.declared.QueuedHeader.{QueuedHeader}
 use Rattle.dl_record.specs.declared.Record.{Record}
 use Rattle.dl_record.specs.Record.{offeredRecord, resourceOf}
 use Rattle.dl_record.specs.Questions.{legalAddress, presentSdu}
-use Rattle.sched_core.specs.Questions.{legalTimeslot}
-use Rattle.history.specs.UplinkCall.{CapacityRequest, UplinkReply}
+use Rattle.sched_core.specs.Questions.{legalTimeslot, isBlockLength}
+
+-- a request for capacity, as the call is given it: timeslot, requirement code, address kind and number
+pub record CapacityRequest : Type 0 where
+  pub timeslot : ℕ
+  pub code : ℕ
+  pub kind : ℕ
+  pub number : ℕ
+
+-- what the search is asked
+abbrev pub asked : CapacityRequest → Request
+asked a = record { timeslot = a .timeslot; code = a .code; number = a .number }
 
 -- "the queue call takes acks and records": an ack
 pub record AckOffer : Type 0 where
@@ -35,11 +48,11 @@ abbrev pub recordOf : RecordOffer → Record
 recordOf o = offeredRecord (o .kind) (o .number) (o .tag) (o .header) (o .bits)
 
 -- "those that only read the station": who holds a half of the slot at a time or both, and how that slot is used
-pub data Reading : Type 0 where
-  owner : TdmaTime → PhyBlockNum → Reading
-  usage : TdmaTime → Reading
+pub data Query : Type 0 where
+  owner : TdmaTime → PhyBlockNum → Query
+  usage : TdmaTime → Query
 
-abbrev pub timeRead : Reading → TdmaTime
+abbrev pub timeRead : Query → TdmaTime
 timeRead (owner x half) = x
 timeRead (usage x) = x
 
@@ -50,24 +63,59 @@ pub data Call : Type 0 where
   enqueueAck : AckOffer → Call
   enqueueRecord : RecordOffer → Call
   build : List ℕ → Call
-  read : Reading → Call
+  read : Query → Call
 
--- what the uplink or the queue replies; a block's octets with the tags of finished records; or none built
+-- "On a no, the number is the whole reply"; a grant has its capacity, its delay, and a marker or none; a block's octets come with the tags of
+-- finished records; or none is built
 pub data Reply : Type 0 where
-  replied : UplinkReply → Reply
+  done : Reply
+  refused : ℕ → Reply
+  granted : ℕ → ℕ → OptU8 → Reply
   block : List ℕ → List ℕ → Reply
   noBlock : Reply
+
+-- ---- a step: what a call leaves, and its reply
+
+pub record Stepped (S : Type 0) : Type 0 where
+  pub after : S
+  pub reply : Reply
+
+module _ {S : Type 0} where
+  abbrev pub stepped : S → Reply → Stepped S
+  stepped s r = record { after = s; reply = r }
+
+  -- "On a no, the number is the whole reply and each lent bit and the state are those that came in.": k is the number of the first question
+  -- that is answered no, or 0
+  unfoldable pub unlessRefused : ℕ → S → Stepped S → Stepped S
+  unlessRefused k s fine = cond (eqb k 0) fine (stepped s (refused k))
+
+  -- "In a history each call gets state, queue and store as the last one left them"
+  unfoldable pub run : (Call → S → Stepped S) → List Call → S → S
+  run step [] s = s
+  run step (c ∷ cs) s = run step cs (step c s .after)
 
 -- ---- questions, where so many are queued for the timeslot: the number of the first that is answered no, or 0
 
 -- 1: "a time given to the call is judged here too"
-unfoldable pub readQuestion : Reading → ℕ
+unfoldable pub readQuestion : Query → ℕ
 readQuestion q = cond (valid (timeRead q)) 0 1
+
+-- 2, of a build's block
+unfoldable pub buildQuestion : List ℕ → ℕ
+buildQuestion b = cond (isBlockLength b) 0 2
+
+-- 3, 4, 5 and 8; then come 9 and 10, which the search decides
+unfoldable pub requestQuestion : CapacityRequest → ℕ → ℕ
+requestQuestion a queued =
+    cond (not (legalTimeslot (a .timeslot))) 3
+    (cond (not (leb (a .code) 15)) 4
+    (cond (not (legalAddress (a .kind) (a .number))) 5
+    (cond (not (ltb queued perTimeslot)) 8 0)))
 
 -- 3, 5 and 8
 unfoldable pub ackQuestion : AckOffer → ℕ → ℕ
 ackQuestion o queued =
-    cond (not (legalTimeslot (o .timeslot))) 3 (cond (not (legalAddress (o .kind) (o .number))) 5 (cond (not (ltb queued 16)) 8 0))
+    cond (not (legalTimeslot (o .timeslot))) 3 (cond (not (legalAddress (o .kind) (o .number))) 5 (cond (not (ltb queued perTimeslot)) 8 0))
 
 -- 3, 5, 6, 7 and 8
 unfoldable pub recordQuestion : RecordOffer → ℕ → ℕ
@@ -75,4 +123,4 @@ recordQuestion o queued =
     cond (not (legalTimeslot (o .timeslot))) 3
     (cond (not (legalAddress (o .kind) (o .number))) 5
     (cond (not (legalOffered (resourceOf (recordOf o) 0 0))) 6
-    (cond (not (presentSdu (o .bits) (o .octets))) 7 (cond (not (ltb queued 16)) 8 0))))
+    (cond (not (presentSdu (o .bits) (o .octets))) 7 (cond (not (ltb queued perTimeslot)) 8 0))))

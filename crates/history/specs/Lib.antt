@@ -1,7 +1,6 @@
-pub mod UplinkCall
-pub mod UplinkModel
 pub mod Call
 pub mod Queues
+pub mod UplinkModel
 pub mod Model
 pub mod Memory
 pub mod Demand3

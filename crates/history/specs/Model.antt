@@ -1,25 +1,31 @@
 -- The reference model (document 01's book), whole: its uplink, and the queues with named grants. Assumes nothing.
-use mathlib.Core.Bool.{Bool, true, false, _&&_}
+use mathlib.Core.Bool.{Bool, true, false, _&&_, cond}
 use mathlib.Core.Option.{Option, none, some}
 use mathlib.Core.List.{List, [], _∷_, _++_, map}
 use Prim.Native.Nat.{ℕ, suc}
 use lib.Dec.{eqb}
 use lib.ListN.{take}
+use Rattle.sizes.specs.Sizes.{blockWidth, blockOctets}
 use Rattle.bitbuffer.specs.Bits.{bitsOf}
 use Rattle.tdma_time.specs.declared.TdmaTime.{TdmaTime}
 use Rattle.tdma_time.specs.Time.{timeslot}
-use Rattle.mac_reader.specs.PduList.{Pdu, whole, first, frag, final, null}
+use Rattle.slot_codes.specs.Codes.{grantOctet}
+use Rattle.uplink.specs.HalfSlot.{HalfSlot}
+use Rattle.uplink.specs.Request.{Verdict, noRun, tooLate, grant, capacity, reservedBy, markerOf}
+use Rattle.mac_reader.specs.PduList.{Pdu, whole, first, frag, final, null, blockBits}
 use Rattle.dl_record.specs.declared.Kind.{Kind}
-use Rattle.dl_queue.specs.Queue.{Item}
+use Rattle.dl_record.specs.Record.{grantRecord, ackRecord}
+use Rattle.dl_record.specs.Questions.{isGrant}
+use Rattle.dl_queue.specs.Queue.{Item, item}
 use Rattle.dl_merge.specs.Merge.{Named, mergeNamed}
 use Rattle.bs_frag.specs.NextPdu.{Next}
-use Rattle.dl_send.specs.Send.{nullIn, turn}
-use Rattle.dl_build.specs.Build.{inOrder}
-use Rattle.history.specs.UplinkCall.{UplinkCall}
-use Rattle.history.specs.UplinkModel as uplink
-use Rattle.history.specs.UplinkModel.{UplinkModel}
-use Rattle.history.specs.Call.{Call, Reply}
-use Rattle.history.specs.Queues.{Queues, Loads, noQueues, queueAt, uplinkCall, built, queuesAfter, replyOf}
+use Rattle.dl_send.specs.Send.{Sent, blockOf, nullIn, turn}
+use Rattle.dl_build.specs.Build.{inOrder, buildList}
+use Rattle.history.specs.Call.{CapacityRequest, asked, recordOf, Call, advance, request, enqueueAck, enqueueRecord, build, read}
+use Rattle.history.specs.Call.{done, refused, granted, block, noBlock, Reply, Stepped, stepped, unlessRefused, run}
+use Rattle.history.specs.Call.{readQuestion, buildQuestion, requestQuestion, ackQuestion, recordQuestion}
+use Rattle.history.specs.Queues.{Queues, noQueues, queueAt, queuedAt, withQueueAt, appended, canBuild}
+use Rattle.history.specs.UplinkModel.{UplinkModel, newUplink, modelView, advancedUplink, modelVerdict, takenFor}
 
 -- an SDU's bits, and the name of the grant in the header, if it has one: a place in the history
 abbrev pub NamedSdu : Type 0
@@ -28,18 +34,15 @@ NamedSdu = Named (List ℕ) ℕ
 abbrev pub namedSdu : NamedSdu → ℕ → List ℕ
 namedSdu c n = c .sdu
 
--- what goes with a request's grant
+-- what goes with a request's grant, with a record without SDU, and with one that has an SDU of n bits in these octets
 abbrev pub named : ℕ → NamedSdu
 named k = record { sdu = []; name = some k }
 
-abbrev pub namedLoads : Loads NamedSdu
-namedLoads =
-    record {
-      bare = record { sdu = []; name = none };
-      ofSdu = λ n octets. record { sdu = take n (bitsOf octets); name = none };
-      sdu = namedSdu;
-      merge = mergeNamed [];
-    }
+abbrev pub bare : NamedSdu
+bare = record { sdu = []; name = none }
+
+abbrev pub ofSdu : ℕ → List ℕ → NamedSdu
+ofSdu n octets = record { sdu = take n (bitsOf octets); name = none }
 
 -- the uplink, the queues, and how many calls there were
 pub record Model : Type 0 where
@@ -49,40 +52,78 @@ pub record Model : Type 0 where
 
 -- "It begins at the new station's time, markers at 4, no half-slot taken, nothing queued."
 unfoldable pub newModel : TdmaTime → Model
-newModel x = record { uplink = uplink.newModel x; queues = noQueues; count = 0 }
+newModel x = record { uplink = newUplink x; queues = noQueues; count = 0 }
 
--- "Questions about table or queue are asked of the book": the uplink's call and its reply
-abbrev pub callOf : Call → Model → UplinkCall
-callOf x m = uplinkCall x (m .queues)
+-- one call more: with this uplink, these queues and this reply
+abbrev pub became : Model → UplinkModel → Queues NamedSdu → Reply → Stepped Model
+became m u qs r = stepped (record { uplink = u; queues = qs; count = suc (m .count) }) r
 
--- "Its grant [..] is queued and named after the request": after its place in the history
-unfoldable pub modelAfter : Call → Model → Model
-modelAfter x m =
-    record {
-      uplink = uplink.modelAfter (callOf x m) (m .uplink);
-      queues = queuesAfter namedLoads (named (m .count)) (m .uplink .now) (uplink.modelReply (callOf x m) (m .uplink)) x (m .queues);
-      count = suc (m .count);
-    }
+-- "a refused call, or one that only reads, changes nothing": it is counted
+abbrev pub counted : Model → Model
+counted m = record { uplink = m .uplink; queues = m .queues; count = suc (m .count) }
 
-unfoldable pub modelReply : Call → Model → Reply
-modelReply x m = replyOf namedLoads (m .uplink .now) (uplink.modelReply (callOf x m) (m .uplink)) x (m .queues)
+-- ---- a request
 
-unfoldable pub modelRun : List Call → Model → Model
-modelRun [] m = m
-modelRun (x ∷ xs) m = modelRun xs (modelAfter x m)
+-- "The half-slots it takes, in order, [..] are its reserved list": none where a question is answered no
+unfoldable pub reserved : CapacityRequest → Model → List HalfSlot
+reserved a m =
+    cond (eqb (requestQuestion a (queuedAt (m .queues) (a .timeslot))) 0)
+    (reservedBy (modelView (m .uplink .taken)) (a .code) (modelVerdict (m .uplink) (asked a)))
+    []
 
--- the model after a list of calls on a new station at time x
-abbrev pub modelAt : TdmaTime → List Call → Model
-modelAt x xs = modelRun xs (newModel x)
+-- "9. Does the run exist?" "10. At most 13 before it?" "Its grant, with the delay counted there and any marker drawn as above, is queued and
+-- named after the request": after its place in the history
+unfoldable pub requested : CapacityRequest → Verdict → Model → Stepped Model
+requested a noRun m = stepped (counted m) (refused 9)
+requested a tooLate m = stepped (counted m) (refused 10)
+requested a (grant g) m =
+    let cap = capacity (modelView (m .uplink .taken)) (a .code) (g .slots) in
+    let marker = markerOf (m .uplink .markers) (asked a) in
+    let its = item (grantRecord (a .kind) (a .number) (grantOctet cap (g .delay)) marker) (named (m .count)) in
+    became m (takenFor (asked a) g (m .uplink)) (appended (m .queues) (a .timeslot) its) (granted cap (g .delay) marker)
 
--- ---- the block that the model builds now
+-- ---- a build
 
 abbrev pub queueNow : Model → List (Item NamedSdu)
 queueNow m = queueAt (m .queues) (timeslot (m .uplink .now))
 
+-- "A build works on the current timeslot, merges, then takes waiting and started records in queue order, then records": 268 bits
+unfoldable pub namedBuilt : List (Item NamedSdu) → Sent NamedSdu
+namedBuilt xs = buildList namedSdu blockWidth (mergeNamed [] xs)
+
+-- "What did not finish stays"; "Tags of finished records come back in order"
+unfoldable pub built : Model → Stepped Model
+built m =
+    let s : Sent NamedSdu = namedBuilt (queueNow m) in
+    cond (canBuild (m .uplink .now) (m .queues))
+    (became m (m .uplink) (withQueueAt (m .queues) (timeslot (m .uplink .now)) (s .left)) (block (blockOf blockOctets (blockBits (s .pdus))) (s .tags)))
+    (stepped (counted m) noBlock)
+
+-- ---- a call
+
+-- "Questions about table or queue are asked of the book"; "Queueings and builds follow the two sections above"
+unfoldable pub modelStep : Call → Model → Stepped Model
+modelStep advance m = became m (advancedUplink (m .uplink)) (m .queues) done
+modelStep (request a) m =
+    unlessRefused (requestQuestion a (queuedAt (m .queues) (a .timeslot))) (counted m) (requested a (modelVerdict (m .uplink) (asked a)) m)
+modelStep (enqueueAck o) m =
+    unlessRefused (ackQuestion o (queuedAt (m .queues) (o .timeslot))) (counted m)
+    (became m (m .uplink) (appended (m .queues) (o .timeslot) (item (ackRecord (o .kind) (o .number)) bare)) done)
+modelStep (enqueueRecord o) m =
+    unlessRefused (recordQuestion o (queuedAt (m .queues) (o .timeslot))) (counted m)
+    (became m (m .uplink) (appended (m .queues) (o .timeslot) (item (recordOf o) (ofSdu (o .bits) (o .octets)))) done)
+modelStep (build b) m = unlessRefused (buildQuestion b) (counted m) (built m)
+modelStep (read q) m = unlessRefused (readQuestion q) (counted m) (stepped (counted m) done)
+
+-- the model after a list of calls on a new station at time x
+abbrev pub modelAt : TdmaTime → List Call → Model
+modelAt x cs = run modelStep cs (newModel x)
+
+-- ---- the block that the model builds now
+
 -- its PDUs
 unfoldable pub pdusBuilt : Model → List Pdu
-pdusBuilt m = built namedLoads (queueNow m) .pdus
+pdusBuilt m = namedBuilt (queueNow m) .pdus
 
 -- "into the header written": the name goes with the MAC-RESOURCE that has the record's header; MAC-FRAG, MAC-END and the null PDU have none
 abbrev pub nameIn : Option ℕ → Pdu → Option ℕ
@@ -95,19 +136,14 @@ nameIn name null = none
 -- "a grant keeps its name through merging into the header written": for each PDU the name of the grant in its header, or none
 unfoldable pub namesSent : ℕ → List (Item NamedSdu) → List (Option ℕ)
 namesSent room [] = map (nameIn none) (nullIn room)
-namesSent room (x ∷ xs) = let s : Next = turn namedSdu room x in map (nameIn (x .load .name)) (s .pdus) ++ namesSent (s .room) xs
+namesSent room (x ∷ xs) =
+    let s : Next = turn namedSdu room x in
+    map (nameIn (x .load .name)) (s .pdus) ++ namesSent (s .room) xs
 
 unfoldable pub namesBuilt : Model → List (Option ℕ)
-namesBuilt m = namesSent 268 (inOrder (mergeNamed [] (queueNow m)))
+namesBuilt m = namesSent blockWidth (inOrder (mergeNamed [] (queueNow m)))
 
 -- ---- grants in no header yet
-
-abbrev pub isGrant : Kind → Bool
-isGrant Kind.Grant = true
-isGrant Kind.Ack = false
-isGrant Kind.Record = false
-isGrant Kind.Waiting = false
-isGrant Kind.Started = false
 
 -- the name of a grant that is queued, alone or in a record that waits, and in no header yet
 abbrev pub pendingAs : Kind → Option ℕ → Option ℕ

@@ -2,6 +2,7 @@
 use mathlib.Core.List.{List, [], _∷_, _++_}
 use Prim.Native.Nat.{ℕ, _-_}
 use lib.ListN.{length, replicate}
+use Rattle.sizes.specs.Sizes.{blockWidth}
 use Rattle.optional.specs.declared.OptU8.{OptU8}
 use Rattle.optional.specs.declared.OptU16.{OptU16}
 use Rattle.uplink.specs.StarredCases.{Case, uplinkCases}
@@ -14,7 +15,16 @@ use Rattle.dl_send.specs.Carried.{sduIn, over}
 
 -- "header 43 bits means SSI only": a record of so many SDU bits
 abbrev pub ssiOnly : ℕ → Record
-ssiOnly bits = record { kind = Kind.Record; «address_kind» = 0; number = 1; tag = OptU16.Absent; header = grantHeader 0 OptU8.Absent OptU8.Absent; bits = bits; sent = 0 }
+ssiOnly bits =
+    record {
+      kind = Kind.Record;
+      «address_kind» = 0;
+      number = 1;
+      tag = OptU16.Absent;
+      header = grantHeader 0 OptU8.Absent OptU8.Absent;
+      bits = bits;
+      sent = 0;
+    }
 
 abbrev pub lengthCode : Pdu → ℕ
 lengthCode (whole r b) = r .«length_ind»
@@ -30,7 +40,7 @@ pdusShown (p ∷ ps) = length (pduBits p) ∷ lengthCode p ∷ length (sduIn p) 
 
 -- the PDUs that a record writes in an empty block, and if it is not finished there, in a second one, as the first left it
 unfoldable pub sentIn : Record → List ℕ
-sentIn r = pdusShown (over (268 ∷ 268 ∷ []) Waiting r (replicate (r .bits) 1) .pdus)
+sentIn r = pdusShown (over (blockWidth ∷ blockWidth ∷ []) Waiting r (replicate (r .bits) 1) .pdus)
 
 unfoldable pub sduCases : List Case
 sduCases =

@@ -1,4 +1,4 @@
--- The reference model (document 01's book), its uplink: what the calls of a history come to, with no table. Assumes nothing.
+-- The reference model (document 01's book), its uplink: time, markers and what is taken, with no table. Assumes nothing.
 use mathlib.Core.Bool.{Bool, true, false, _&&_, cond}
 use mathlib.Core.List.{List, [], _∷_}
 use Prim.Native.Nat.{ℕ, _+_}
@@ -9,9 +9,9 @@ use Rattle.tdma_time.specs.declared.TdmaTime.{TdmaTime}
 use Rattle.tdma_time.specs.Time.{slotOf, clock}
 use Rattle.uplink.specs.declared.Entry.{Entry}
 use Rattle.uplink.specs.HalfSlot.{Half, firstHalf, secondHalf, HalfSlot, View}
-use Rattle.uplink.specs.Request.{Request, Verdict, verdict, reservedBy, markerOf, countersAfter, replyTo}
+use Rattle.uplink.specs.Search.{Run}
+use Rattle.uplink.specs.Request.{Request, Verdict, grant, verdict, reservedBy, markerOf, markersAfter}
 use Rattle.dl_merge.specs.Merge.{orElse}
-use Rattle.history.specs.UplinkCall.{CapacityRequest, asked, UplinkCall, advance, request, other, UplinkReply, done, refused, asReply, question}
 
 -- a half-slot that is taken, and the address number that it is taken under; beside it, for the usage call, the marker that its request drew, or none
 pub record Taken : Type 0 where
@@ -26,8 +26,8 @@ pub record UplinkModel : Type 0 where
   pub taken : List Taken
 
 -- "It begins at the new station's time, markers at 4, no half-slot taken"
-unfoldable pub newModel : TdmaTime → UplinkModel
-newModel x = record { now = slotOf x; markers = 4 ∷ 4 ∷ 4 ∷ 4 ∷ []; taken = [] }
+unfoldable pub newUplink : TdmaTime → UplinkModel
+newUplink x = record { now = slotOf x; markers = 4 ∷ 4 ∷ 4 ∷ 4 ∷ []; taken = [] }
 
 -- ---- what is taken
 
@@ -40,7 +40,9 @@ sameHalf secondHalf secondHalf = true
 -- under which number a half of the slot of a time is taken
 unfoldable pub takenBy : List Taken → ℕ → Half → OptU32
 takenBy [] t h = OptU32.Absent
-takenBy (x ∷ xs) t h = let rest : OptU32 = takenBy xs t h in cond (eqb (x .what .time) t && sameHalf (x .what .half) h) (OptU32.Of (x .who)) rest
+takenBy (x ∷ xs) t h =
+    let rest : OptU32 = takenBy xs t h in
+    cond (eqb (x .what .time) t && sameHalf (x .what .half) h) (OptU32.Of (x .who)) rest
 
 abbrev pub modelView : List Taken → View
 modelView xs c h = takenBy xs (clock c) h
@@ -60,43 +62,26 @@ freed [] t = []
 freed (x ∷ xs) t = let rest : List Taken = freed xs t in cond (eqb (x .what .time) t) rest (x ∷ rest)
 
 -- "stand as taken under its address number"
-unfoldable pub takes : List HalfSlot → ℕ → OptU8 → List Taken → List Taken
-takes [] who marker xs = xs
-takes (y ∷ ys) who marker xs = takes ys who marker (record { what = y; who = who; marker = marker } ∷ xs)
+unfoldable pub takeHalves : List HalfSlot → ℕ → OptU8 → List Taken → List Taken
+takeHalves [] who marker xs = xs
+takeHalves (y ∷ ys) who marker xs = takeHalves ys who marker (record { what = y; who = who; marker = marker } ∷ xs)
 
--- ---- a request
+-- ---- what an advance and a request make of it
+
+-- "An advance takes the next time and frees the half-slots of the slot left."
+unfoldable pub advancedUplink : UplinkModel → UplinkModel
+advancedUplink u = record { now = clock (u .now + 1); markers = u .markers; taken = freed (u .taken) (u .now) }
 
 -- "A request looks at its timeslot's 17 slots from the first at or after now, those of frame 18 left out. It takes the earliest n in
 -- succession with both halves free, or for half a slot the first with a free half": 9 and 10 are asked of the model
 unfoldable pub modelVerdict : UplinkModel → Request → Verdict
-modelVerdict m r = verdict (modelView (m .taken)) (m .now) r
+modelVerdict u r = verdict (modelView (u .taken)) (u .now) r
 
--- "The half-slots it takes, in order, [..] are its reserved list": none where a question is answered no
-unfoldable pub reserved : CapacityRequest → ℕ → UplinkModel → List HalfSlot
-reserved a queued m =
-    cond (eqb (question a queued) 0) (reservedBy (modelView (m .taken)) (a .code) (modelVerdict m (asked a))) []
-
--- the model with what a verdict reserves taken, and the marker drawn; a refusal reserves and draws nothing
-unfoldable pub settled : Request → Verdict → UplinkModel → UplinkModel
-settled r w m =
+-- with the half-slots of a run taken for a request, and its marker drawn
+unfoldable pub takenFor : Request → Run → UplinkModel → UplinkModel
+takenFor r g u =
     record {
-      now = m .now;
-      markers = countersAfter (m .markers) r w;
-      taken = takes (reservedBy (modelView (m .taken)) (r .code) w) (r .number) (markerOf (m .markers) r) (m .taken);
+      now = u .now;
+      markers = markersAfter (u .markers) r;
+      taken = takeHalves (reservedBy (modelView (u .taken)) (r .code) (grant g)) (r .number) (markerOf (u .markers) r) (u .taken);
     }
-
--- ---- a call
-
--- "An advance takes the next time and frees the half-slots of the slot left." "A refused call, or one that only reads, changes nothing."
-unfoldable pub modelAfter : UplinkCall → UplinkModel → UplinkModel
-modelAfter advance m = record { now = clock (m .now + 1); markers = m .markers; taken = freed (m .taken) (m .now) }
-modelAfter (request a queued) m = cond (eqb (question a queued) 0) (settled (asked a) (modelVerdict m (asked a)) m) m
-modelAfter other m = m
-
-unfoldable pub modelReply : UplinkCall → UplinkModel → UplinkReply
-modelReply advance m = done
-modelReply (request a queued) m =
-    cond (eqb (question a queued) 0)
-    (asReply (replyTo (modelView (m .taken)) (m .markers) (asked a) (modelVerdict m (asked a))))
-    (refused (question a queued))
-modelReply other m = done

@@ -1,35 +1,33 @@
--- Every station of a history is sound: question 1 is never answered no (`sound`). Assumes nothing.
+-- The station's uplink stays sound: a new one, one that is answered a request, and one that advances. Assumes nothing.
 use mathlib.Core.Path.{_≡_, refl, _∙_}
 use mathlib.Core.Bool.{Bool, true, false, cond}
-use mathlib.Core.List.{List, [], _∷_}
+use mathlib.Core.List.{List}
 use Prim.Native.Nat.{ℕ, _+_}
-use lib.Dec.{eqb}
 use lib.ListN.{length, length-set}
-use borrow.Author.Tests.{eqb-true}
+use Rattle.sizes.specs.Sizes.{timeslots}
 use Rattle.tdma_time.specs.declared.TdmaTime.{TdmaTime}
 use Rattle.tdma_time.specs.Time.{Valid, slotOf, nextTime}
 use Rattle.tdma_time.proofs.TimeLaws.{timeOf-valid}
 use Rattle.uplink.specs.UplinkEntry.{emptyEntry, all}
-use Rattle.uplink.specs.Request.{Request, draws, drawn, markersAfter, Verdict, noRun, tooLate, grant, countersAfter, tableOf, given, answer}
+use Rattle.uplink.specs.Request.{Request, draws, drawn, markersAfter, Verdict, noRun, tooLate, grant, countersAfter, given, answer}
 use Rattle.uplink.specs.GrantedExactly.{GrantedExactly, Proper}
 use Rattle.uplink.proofs.TableLaws.{store-shape, empty-shape}
 use Rattle.uplink.proofs.SoundLaws.{cleared-sound}
 use Rattle.uplink.proofs.GrantedExactly.{granted-exactly}
-use Rattle.history.specs.UplinkCall.{CapacityRequest, asked, UplinkCall, advance, request, other, question}
-use Rattle.history.proofs.UplinkStation.{UplinkStation, newStation, stationAnswer, stationAfter, Sound}
-use Rattle.history.proofs.UplinkHistory.{stationRun, stationAt}
-use Rattle.history.proofs.QuestionLaws.{Passed, question-passed}
+use Rattle.history.specs.Call.{CapacityRequest, asked}
+use Rattle.history.proofs.Lists.{UplinkStation, newUplinkStation, nextUplink, stationAnswer, answeredUplink, Sound}
+use Rattle.history.proofs.QuestionLaws.{Passed}
 use Rattle.history.proofs.AnswerTable.{given-shape}
 
 -- ---- a request
 
-counters-four : (ms : List ℕ) (r : Request) (w : Verdict) → length ms ≡ 4 → length (countersAfter ms r w) ≡ 4
+counters-four : (ms : List ℕ) (r : Request) (w : Verdict) → length ms ≡ timeslots → length (countersAfter ms r w) ≡ timeslots
 unfolding countersAfter markersAfter
 counters-four ms r noRun h = h
 counters-four ms r tooLate h = h
 counters-four ms r (grant g) h = go (draws (r .code))
   where
-    go : (b : Bool) → length (cond b (drawn ms (r .timeslot)) ms) ≡ 4
+    go : (b : Bool) → length (cond b (drawn ms (r .timeslot)) ms) ≡ timeslots
     go true = length-set ms _ _ ∙ h
     go false = h
 
@@ -48,7 +46,7 @@ module _ (s : UplinkStation) (h : Sound s) (a : CapacityRequest) (queued : ℕ) 
         number = p .number;
       }
 
-  answer-sound : Sound (record { now = s .now; markers = stationAnswer s (asked a) .«next_usage_marker»; table = tableOf (stationAnswer s (asked a)) })
+  pub answer-sound : Sound (answeredUplink s (stationAnswer s (asked a)))
   unfolding stationAnswer answer given
   answer-sound =
       let g : GrantedExactly (s .table) (s .markers) (s .now) (asked a) = granted-exactly (s .table) (s .markers) (s .now) (asked a) proper in
@@ -60,11 +58,11 @@ module _ (s : UplinkStation) (h : Sound s) (a : CapacityRequest) (queued : ℕ) 
         counters = g .sound-counters;
       }
 
--- ---- a call, and a list of calls
+-- ---- an advance, and a new one
 
-pub sound-after : (x : UplinkCall) (s : UplinkStation) → Sound s → Sound (stationAfter x s)
-unfolding stationAfter
-sound-after advance s h =
+pub next-sound : (s : UplinkStation) → Sound s → Sound (nextUplink s)
+unfolding nextUplink
+next-sound s h =
     record {
       time = timeOf-valid (slotOf (s .now) + 1);
       shape = store-shape (s .table) _ emptyEntry (h .shape);
@@ -72,22 +70,7 @@ sound-after advance s h =
       four = h .four;
       counters = h .counters;
     }
-sound-after (request a queued) s h = go (eqb (question a queued) 0) refl
-  where
-    go : (b : Bool) → eqb (question a queued) 0 ≡ b
-        → Sound (cond b (record { now = s .now; markers = stationAnswer s (asked a) .«next_usage_marker»; table = tableOf (stationAnswer s (asked a)) }) s)
-    go true e = answer-sound s h a queued (question-passed a queued (eqb-true _ _ e))
-    go false e = h
-sound-after other s h = h
 
-sound-run : (xs : List UplinkCall) (s : UplinkStation) → Sound s → Sound (stationRun xs s)
-unfolding stationRun
-sound-run [] s h = h
-sound-run (x ∷ xs) s h = sound-run xs (stationAfter x s) (sound-after x s h)
-
-pub new-sound : (x : TdmaTime) → Valid x → Sound (newStation x)
-unfolding newStation all
+pub new-sound : (x : TdmaTime) → Valid x → Sound (newUplinkStation x)
+unfolding newUplinkStation all
 new-sound x v = record { time = v; shape = empty-shape; entries = refl; four = refl; counters = refl }
-
-pub sound : (x : TdmaTime) → Valid x → (xs : List UplinkCall) → Sound (stationAt x xs)
-sound x v xs = sound-run xs (newStation x) (new-sound x v)

@@ -1,0 +1,54 @@
+-- Runs of any stepping thing: one after another, and two that step alike. Assumes nothing.
+use mathlib.Core.Path.{_≡_, refl}
+use mathlib.Core.Bool.{Bool, true, false, cond}
+use mathlib.Core.List.{List, [], _∷_, _++_}
+use Prim.Native.Nat.{ℕ}
+use lib.Dec.{eqb}
+use borrow.Author.Tests.{eqb-true}
+use Rattle.history.specs.Call.{Call, refused, Stepped, stepped, unlessRefused, run}
+
+module _ {S : Type 0} where
+  module _ (step : Call → S → Stepped S) where
+    pub run-append : (cs ds : List Call) (s : S) → run step (cs ++ ds) s ≡ run step ds (run step cs s)
+    unfolding run
+    run-append [] ds s = refl
+    run-append (c ∷ cs) ds s = run-append cs ds (step c s .after)
+
+    pub run-more : (cs : List Call) (c : Call) (s : S) → run step (cs ++ c ∷ []) s ≡ step c (run step cs s) .after
+    unfolding run
+    run-more cs c s = run-append cs (c ∷ []) s
+
+  -- a fact of what a call leaves, refused or not
+  pub unless-after : (P : S → Type 0) (k : ℕ) (s : S) (fine : Stepped S) → P s → (k ≡ 0 → P (fine .after)) → P (unlessRefused k s fine .after)
+  unfolding unlessRefused
+  unless-after P k s fine h g = go (eqb k 0) refl
+    where
+      go : (b : Bool) → eqb k 0 ≡ b → P (cond b fine (stepped s (refused k)) .after)
+      go true e = g (eqb-true _ _ e)
+      go false e = h
+
+-- ---- two that step alike
+
+module _ {S T : Type 0} (R : S → T → Type 0) where
+  -- what they leave is related, and their replies are the same
+  pub record Agree (x : Stepped S) (y : Stepped T) : Type 0 where
+    pub after : R (x .after) (y .after)
+    pub reply : x .reply ≡ y .reply
+
+  pub run-agree : (f : Call → S → Stepped S) (g : Call → T → Stepped T) → ((c : Call) (s : S) (t : T) → R s t → Agree (f c s) (g c t))
+      → (cs : List Call) (s : S) (t : T) → R s t → R (run f cs s) (run g cs t)
+  unfolding run
+  run-agree f g k [] s t h = h
+  run-agree f g k (c ∷ cs) s t h = run-agree f g k cs (f c s .after) (g c t .after) (k c s t h .after)
+
+  pub cond-agree : (b : Bool) (x x′ : Stepped S) (y y′ : Stepped T) → Agree x y → Agree x′ y′ → Agree (cond b x x′) (cond b y y′)
+  cond-agree true x x′ y y′ p q = p
+  cond-agree false x x′ y y′ p q = q
+
+  pub unless-agree : (k : ℕ) (s : S) (t : T) (x : Stepped S) (y : Stepped T) → R s t → (k ≡ 0 → Agree x y) → Agree (unlessRefused k s x) (unlessRefused k t y)
+  unfolding unlessRefused
+  unless-agree k s t x y h g = go (eqb k 0) refl
+    where
+      go : (b : Bool) → eqb k 0 ≡ b → Agree (cond b x (stepped s (refused k))) (cond b y (stepped t (refused k)))
+      go true e = g (eqb-true _ _ e)
+      go false e = record { after = h; reply = refl }
