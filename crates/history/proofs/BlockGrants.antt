@@ -35,19 +35,19 @@ use Rattle.dl_send.specs.Send.{cellSdu, blockOf}
 use Rattle.dl_send.proofs.BlockLaws.{built-read}
 use Rattle.dl_send.proofs.KeptLaws.{all-loaded}
 use Rattle.dl_build.specs.Build.{inOrder, buildList}
+use Rattle.dl_build.proofs.AfterBuild.{build-read}
+use Rattle.sched_core.specs.Questions.{Memory}
 use Rattle.history.specs.Call.{Call, build, refused, block, noBlock, Stepped, stepped, unlessRefused, buildQuestion}
 use Rattle.history.specs.Queues.{Queues, queueAt, withQueueAt, someQueued, canBuild}
 use Rattle.history.specs.UplinkModel.{modelVerdict}
 use Rattle.history.specs.Model.{NamedSdu, Model, became, counted, namedBuilt, built, modelStep, modelAt, queueNow, pdusBuilt, namesBuilt, pending, replaces}
+use Rattle.history.specs.Memory.{memoryAt}
 use Rattle.history.specs.Demand3.{GrantRead, Origin, DerivedAt, ItsGrant}
-use Rattle.history.proofs.Lists.{Lists, cellsBuilt, listsAt}
 use Rattle.history.proofs.Derived.{GrantOf, grant-of, derived}
-use Rattle.history.proofs.WholeSimulation.{whole-histories, same-pdus}
+use Rattle.history.proofs.WholeSimulation.{sent, same-pdus, Whole, histories}
 use Rattle.history.proofs.GrantNames.{Along, along-length, along-at, numberIn, grantIn, GrantIn, built-tied}
 use Rattle.history.proofs.NamedHistory.{Faithful, at-more, named-history}
 use Rattle.history.proofs.KeptNames.{build-keeps}
-use Rattle.history.proofs.StoredHistory.{InCell, ordered-stored}
-use Rattle.history.proofs.RefinedHistory.{refined-history}
 
 -- ---- the reader's list
 
@@ -72,11 +72,6 @@ queue-inside : {C : Type 0} (qs : Queues C) (i : ℕ) → someQueued (getD qs i 
 queue-inside [] i e = not-both false e refl
 queue-inside (q ∷ qs) zero e = omega arith
 queue-inside (q ∷ qs) (suc i) e = let h = queue-inside qs i e in omega arith
-
--- what is read in the block of a sound queue
-queue-read : (ys : List (Item (List ℕ))) → All InCell ys → readBlock blockOctets (blockOf blockOctets (blockBits (cellsBuilt ys .pdus))) ≡ reader.replyOf (reader.headers (placed 0 (cellsBuilt ys .pdus)))
-unfolding cellsBuilt buildList
-queue-read ys h = built-read cellSdu blockOctets (inOrder (mergeCells ys)) (omega arith) (omega arith) (all-loaded (inOrder (mergeCells ys)) (ordered-stored ys h))
 
 -- ---- the request that a grant comes from
 
@@ -151,12 +146,14 @@ module _ (x : TdmaTime) (v : Valid x) (before : List Call) (b : List ℕ) where
   pub block-listed : (octets tags : List ℕ) → Replied octets tags → readBlock blockOctets octets ≡ reader.replyOf (reader.headers (placed 0 pdus))
   unfolding pdusBuilt
   block-listed octets tags e =
-      let s : Lists = listsAt x before in
-      let ys : List (Item (List ℕ)) = queueAt (s .queues) t in
-      let same : cellsBuilt ys .pdus ≡ pdus = same-pdus (s .queues) (m .queues) (whole-histories x v before .queues) t in
+      let k : Memory = memoryAt x before in
+      let w : Whole k m = histories x v before in
+      let ns : List ℕ = k .station .queued in
+      let same : sent k m (w .sound) (w .same) .pdus ≡ pdus = same-pdus k m (w .sound) (w .same) in
+      let inside : t - 1 < length ns = omega (arith, w .sound .counts) in
       let (can, after, from) = block-built octets tags e in
       ap (readBlock blockOctets) (from ∙ ap (λ (ps : List Pdu). blockOf blockOctets (blockBits ps)) (sym same))
-      ∙ queue-read ys (refined-history x v before .fit .queues t (omega arith))
+      ∙ build-read ns (k .records) (k .store) (t - 1) inside (omega (arith, w .sound .places, w .sound .counts)) (omega (arith, w .sound .cells, w .sound .counts)) (w .sound .queue)
       ∙ ap (λ (ps : List Pdu). reader.replyOf (reader.headers (placed 0 ps))) same
 
   -- the PDUs and their names, one by one

@@ -16,22 +16,14 @@ use Rattle.history.specs.UplinkModel.{modelEntry, takenBy}
 use Rattle.history.specs.Model.{modelStep, modelAt}
 use Rattle.history.specs.Memory.{memoryStep, memoryAt}
 use Rattle.history.specs.Demand3.{slotsAgreed, Standing, Demand3}
-use Rattle.history.proofs.Lists.{listsAt}
 use Rattle.history.proofs.EntryLaws.{holder-entry}
-use Rattle.history.proofs.Simulation.{Alike}
 use Rattle.history.proofs.Disjoint.{disjoint}
 use Rattle.history.proofs.Standing.{taken-standing, standing-taken}
-use Rattle.history.proofs.WholeSimulation.{whole-histories, whole-reply}
+use Rattle.history.proofs.WholeSimulation.{histories, same-reply}
 use Rattle.history.proofs.ReadLaws.{owner-shown, usage-shown}
 use Rattle.history.proofs.BlockGrants.{block-kept, block-listed, block-stands, block-grants}
-use Rattle.history.proofs.Refinement.{Refines}
-use Rattle.history.proofs.RefinedHistory.{refined-history, refined-reply, memory-sound}
 
 module _ (x : TdmaTime) (v : Valid x) where
-  -- memory and model reply alike
-  same-reply : (cs : List Call) (c : Call) → memoryStep c (memoryAt x cs) .reply ≡ modelStep c (modelAt x cs) .reply
-  same-reply cs c = refined-reply x v cs c ∙ whole-reply x v cs c
-
   module _ (cs : List Call) (k : ℕ) (l : k < slotsAgreed) where
     abbrev slot : ℕ
     slot = slotOf (memoryAt x cs .station .time) + k
@@ -39,9 +31,8 @@ module _ (x : TdmaTime) (v : Valid x) where
     -- table and model agree on the entries of the 68 slots from now on
     same-entry : entryAt (tableOf (memoryAt x cs .station)) slot ≡ modelEntry (modelAt x cs .uplink .taken) slot
     same-entry =
-        let r : Refines (memoryAt x cs) (listsAt x cs) = refined-history x v cs .refines in
-        let a : Alike (listsAt x cs .uplink) (modelAt x cs .uplink) = whole-histories x v cs .uplink in
-        rw (r .table, r .time, a .now) (a .matched .agree (modelAt x cs .uplink .now + k) (omega arith) (omega arith))
+        let a = histories x v cs .same .uplink in
+        rw (a .now) (a .matched .agree (modelAt x cs .uplink .now + k) (omega arith) (omega arith))
 
     table-standing : (h : Half) (w : ℕ)
         → (tableView (tableOf (memoryAt x cs .station)) slot h ≡ OptU32.Of w) ↔ Standing x cs (record { time = clock slot; half = h }) w
@@ -61,9 +52,9 @@ demand3 x v cs =
       kept = λ before since b cut octets tags e. block-kept x v before b octets tags (built before b e);
       disjoint = λ before between since a a′ cut l y p q. disjoint x v before between a a′ l y p q;
       table = λ k l. table-standing x v cs k l;
-      owners = λ k l half. owner-shown (memoryAt x cs .station) (memory-sound x v cs .station) _ _ (same-entry x v cs k l) half;
-      usages = λ k l. usage-shown (memoryAt x cs .station) (memory-sound x v cs .station) _ _ (same-entry x v cs k l);
-      sound = memory-sound x v cs;
+      owners = λ k l half. owner-shown (memoryAt x cs .station) (histories x v cs .sound .station) _ _ (same-entry x v cs k l) half;
+      usages = λ k l. usage-shown (memoryAt x cs .station) (histories x v cs .sound .station) _ _ (same-entry x v cs k l);
+      sound = histories x v cs .sound;
     }
   where
     built : (before : List Call) (b : List ℕ) {octets tags : List ℕ} → memoryStep (build b) (memoryAt x before) .reply ≡ block octets tags

@@ -14,7 +14,6 @@ use Rattle.dl_build.specs.Build.{buildList}
 use Rattle.dl_build.proofs.AfterBuild.{build-map}
 use Rattle.history.specs.Queues.{Queues, queueAt, appended}
 use Rattle.history.specs.Model.{NamedSdu, namedSdu, namedBuilt}
-use Rattle.history.proofs.Lists.{cellsBuilt}
 
 -- ---- lists
 
@@ -50,6 +49,10 @@ module _ {C D : Type 0} (f : Record → C → D) where
       ∙ ap (set (reloads qs) (t - 1)) (map-append (reload f) (queueAt qs t) (x ∷ []) ∙ ap (λ (l : List (Item D)). l ++ reload f x ∷ []) (sym (queue-map qs t)))
 
 -- ---- SDUs by value
+
+-- what a build makes of records with their cells
+unfoldable pub cellsBuilt : List (Item (List ℕ)) → Sent (List ℕ)
+cellsBuilt xs = buildList cellSdu blockWidth (mergeCells xs)
 
 abbrev ownSdu : List ℕ → ℕ → List ℕ
 ownSdu s n = s

@@ -1,6 +1,7 @@
--- The uplink of the station and that of the reference model stay alike through an advance and a grant, and answer alike. Assumes nothing.
+-- The station's uplink (time, counters, table) and that of the reference model stay alike through an advance and a grant, and answer alike.
+-- Assumes nothing.
 use mathlib.Core.Path.{_≡_, refl, ap, _∙_}
-use mathlib.Core.List.{List}
+use mathlib.Core.List.{List, [], _∷_}
 use Prim.Native.Nat.{ℕ, _+_, _<_}
 use native.Mathlib.Omega.{arith}
 use Rattle.tdma_time.specs.declared.TdmaTime.{TdmaTime}
@@ -8,90 +9,86 @@ use Rattle.tdma_time.specs.Time.{Valid, cycle, slotOf, clock, nextTime}
 use Rattle.tdma_time.proofs.TimeLaws.{slotOf-timeOf, timeOf-valid, slotOf-below}
 use Rattle.uplink.specs.declared.CapAnswer.{CapAnswer}
 use Rattle.uplink.specs.Search.{Run}
-use Rattle.uplink.specs.UplinkEntry.{tableView}
+use Rattle.uplink.specs.UplinkEntry.{Table, emptyTable, tableView, cleared}
 use Rattle.uplink.specs.Request.{Request, Verdict, noRun, tooLate, grant, verdict, capacity, reservedBy, markerOf, markersAfter, replyTo, tableAfter, countersAfter, tableOf, given, answer}
 use Rattle.uplink.proofs.RequestLaws.{wanted-pos}
 use Rattle.uplink.proofs.VerdictLaws.{AgreeFrom, Granted, verdict-grant, granted-near, granted-length, verdict-agree, capacity-agree}
 use Rattle.history.specs.UplinkModel.{UplinkModel, newUplink, takeHalves, modelView, modelVerdict, advancedUplink, takenFor}
-use Rattle.history.proofs.Lists.{UplinkStation, newUplinkStation, stationAnswer, answeredUplink, nextUplink}
 use Rattle.history.proofs.Match.{Matched, same-halves, halves-some, reserve-matched, advance-matched, new-matched}
 use Rattle.history.proofs.AnswerTable.{given-table}
 
--- station and model are alike
-pub record Alike (s : UplinkStation) (m : UplinkModel) : Type 0 where
-  pub valid : Valid (s .now)
-  pub now : slotOf (s .now) ≡ m .now
-  pub markers : s .markers ≡ m .markers
-  pub matched : Matched (m .now) (s .table) (m .taken)
+-- time, counters and table are those of the model's uplink
+pub record Alike (x : TdmaTime) (ms : List ℕ) (tb : Table) (u : UplinkModel) : Type 0 where
+  pub valid : Valid x
+  pub now : slotOf x ≡ u .now
+  pub markers : ms ≡ u .markers
+  pub matched : Matched (u .now) tb (u .taken)
 
-module _ (s : UplinkStation) (m : UplinkModel) (a : Alike s m) where
-  below-cycle : m .now < cycle
-  below-cycle = rw (← a .now) (slotOf-below (s .now) (a .valid))
+module _ (x : TdmaTime) (ms : List ℕ) (tb : Table) (u : UplinkModel) (a : Alike x ms tb u) where
+  below-cycle : u .now < cycle
+  below-cycle = rw (← a .now) (slotOf-below x (a .valid))
 
-  views : AgreeFrom (m .now) (tableView (s .table)) (modelView (m .taken))
-  views c l g h = same-halves (m .now) (s .table) (m .taken) (a .matched) c l (omega arith) h
+  views : AgreeFrom (u .now) (tableView tb) (modelView (u .taken))
+  views c l g h = same-halves (u .now) tb (u .taken) (a .matched) c l (omega arith) h
 
-  same-verdict : (r : Request) → verdict (tableView (s .table)) (slotOf (s .now)) r ≡ modelVerdict m r
+  same-verdict : (r : Request) → verdict (tableView tb) (slotOf x) r ≡ modelVerdict u r
   unfolding modelVerdict
   same-verdict r =
-      ap (λ (n : ℕ). verdict (tableView (s .table)) n r) (a .now)
-      ∙ verdict-agree (tableView (s .table)) (modelView (m .taken)) (m .now) r views
+      ap (λ (n : ℕ). verdict (tableView tb) n r) (a .now) ∙ verdict-agree (tableView tb) (modelView (u .taken)) (u .now) r views
 
-  same-capacity : (r : Request) (g : Run) → modelVerdict m r ≡ grant g
-      → capacity (tableView (s .table)) (r .code) (g .slots) ≡ capacity (modelView (m .taken)) (r .code) (g .slots)
+  same-capacity : (r : Request) (g : Run) → modelVerdict u r ≡ grant g
+      → capacity (tableView tb) (r .code) (g .slots) ≡ capacity (modelView (u .taken)) (r .code) (g .slots)
   unfolding modelVerdict
   same-capacity r g e =
-      let k : Granted (modelView (m .taken)) (m .now) r g = verdict-grant (modelView (m .taken)) (m .now) r g e in
-      capacity-agree (tableView (s .table)) (modelView (m .taken)) (m .now) (r .code) (g .slots) views (granted-near (modelView (m .taken)) (m .now) r g k)
-      (omega (arith, granted-length (modelView (m .taken)) (m .now) r g k, wanted-pos (r .code)))
+      let k : Granted (modelView (u .taken)) (u .now) r g = verdict-grant (modelView (u .taken)) (u .now) r g e in
+      capacity-agree (tableView tb) (modelView (u .taken)) (u .now) (r .code) (g .slots) views (granted-near (modelView (u .taken)) (u .now) r g k)
+      (omega (arith, granted-length (modelView (u .taken)) (u .now) r g k, wanted-pos (r .code)))
 
-  same-reply : (r : Request) (w : Verdict) → modelVerdict m r ≡ w
-      → replyTo (tableView (s .table)) (s .markers) r w ≡ replyTo (modelView (m .taken)) (m .markers) r w
+  same-reply : (r : Request) (w : Verdict) → modelVerdict u r ≡ w → replyTo (tableView tb) ms r w ≡ replyTo (modelView (u .taken)) (u .markers) r w
   unfolding replyTo
   same-reply r noRun e = refl
   same-reply r tooLate e = refl
   same-reply r (grant g) e = rw (same-capacity r g e, a .markers)
 
   -- the table after a grant, and what the model has taken then
-  after-matched : (r : Request) (g : Run) → modelVerdict m r ≡ grant g
-      → Matched (m .now) (tableAfter (s .table) (s .markers) r (grant g)) (takenFor r g m .taken)
+  after-matched : (r : Request) (g : Run) → modelVerdict u r ≡ grant g → Matched (u .now) (tableAfter tb ms r (grant g)) (takenFor r g u .taken)
   unfolding tableAfter takenFor reservedBy modelVerdict takeHalves
   after-matched r g e =
       rw (same-capacity r g e, ← a .markers)
-      (reserve-matched (m .now) _ (halves-some _) (r .number) (markerOf (s .markers) r) (g .slots)
-      (granted-near (modelView (m .taken)) (m .now) r g (verdict-grant (modelView (m .taken)) (m .now) r g e)) _ _ (a .matched))
+      (reserve-matched (u .now) _ (halves-some _) (r .number) (markerOf ms r) (g .slots)
+      (granted-near (modelView (u .taken)) (u .now) r g (verdict-grant (modelView (u .taken)) (u .now) r g e)) _ _ (a .matched))
 
-  answer-is : (r : Request) (w : Verdict) → modelVerdict m r ≡ w → stationAnswer s r ≡ given (s .table) (s .markers) r w
-  unfolding stationAnswer answer
-  answer-is r w e = ap (given (s .table) (s .markers) r) (same-verdict r ∙ e)
+  answer-is : (r : Request) (w : Verdict) → modelVerdict u r ≡ w → answer tb ms x r ≡ given tb ms r w
+  unfolding answer
+  answer-is r w e = ap (given tb ms r) (same-verdict r ∙ e)
 
-  pub grant-alike : (r : Request) (g : Run) → modelVerdict m r ≡ grant g → Alike (answeredUplink s (stationAnswer s r)) (takenFor r g m)
+  pub grant-alike : (r : Request) (g : Run) → modelVerdict u r ≡ grant g
+      → Alike x (answer tb ms x r .«next_usage_marker») (tableOf (answer tb ms x r)) (takenFor r g u)
   unfolding given takenFor countersAfter
   grant-alike r g e =
       record {
         valid = a .valid;
         now = a .now;
-        markers = ap (λ (x : CapAnswer). x .«next_usage_marker») (answer-is r (grant g) e) ∙ ap (λ (ms : List ℕ). markersAfter ms r) (a .markers);
-        matched =
-            rw (ap tableOf (answer-is r (grant g) e) ∙ given-table (s .table) (s .markers) r (a .matched .shape) (grant g))
-            (after-matched r g e);
+        markers =
+            ap (λ (y : CapAnswer). y .«next_usage_marker») (answer-is r (grant g) e) ∙ ap (λ (l : List ℕ). markersAfter l r) (a .markers);
+        matched = rw (ap tableOf (answer-is r (grant g) e) ∙ given-table tb ms r (a .matched .shape) (grant g)) (after-matched r g e);
       }
 
-  pub answer-reply : (r : Request) (w : Verdict) → modelVerdict m r ≡ w → stationAnswer s r .reply ≡ replyTo (modelView (m .taken)) (m .markers) r w
+  pub answer-reply : (r : Request) (w : Verdict) → modelVerdict u r ≡ w → answer tb ms x r .reply ≡ replyTo (modelView (u .taken)) (u .markers) r w
   unfolding given
-  answer-reply r w e = ap (λ (x : CapAnswer). x .reply) (answer-is r w e) ∙ same-reply r w e
+  answer-reply r w e = ap (λ (y : CapAnswer). y .reply) (answer-is r w e) ∙ same-reply r w e
 
-  pub advance-alike : Alike (nextUplink s) (advancedUplink m)
-  unfolding nextUplink advancedUplink
+  pub advance-alike : Alike (nextTime x) ms (cleared tb (nextTime x)) (advancedUplink u)
+  unfolding advancedUplink
   advance-alike =
-      let next : slotOf (nextTime (s .now)) ≡ clock (m .now + 1) = slotOf-timeOf (slotOf (s .now) + 1) ∙ ap (λ (n : ℕ). clock (n + 1)) (a .now) in
+      let next : slotOf (nextTime x) ≡ clock (u .now + 1) = slotOf-timeOf (slotOf x + 1) ∙ ap (λ (n : ℕ). clock (n + 1)) (a .now) in
       record {
-        valid = timeOf-valid (slotOf (s .now) + 1);
+        valid = timeOf-valid (slotOf x + 1);
         now = next;
         markers = a .markers;
-        matched = rw next (advance-matched (m .now) (s .table) (m .taken) below-cycle (a .matched));
+        matched = rw next (advance-matched (u .now) tb (u .taken) below-cycle (a .matched));
       }
 
-pub new-alike : (x : TdmaTime) → Valid x → Alike (newUplinkStation x) (newUplink x)
-unfolding newUplinkStation newUplink
+pub new-alike : (x : TdmaTime) → Valid x → Alike x (4 ∷ 4 ∷ 4 ∷ 4 ∷ []) emptyTable (newUplink x)
+unfolding newUplink
 new-alike x v = record { valid = v; now = refl; markers = refl; matched = new-matched (slotOf x) }
