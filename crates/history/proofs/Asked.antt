@@ -19,11 +19,16 @@ pub third-asked : {A : Type 0} (p q w r : Question) (done : A) (refused : Refusa
 unfolding ask
 third-asked p q w r done refused a b c = rw (a, b, c)
 
-module _ {A B : Type 0} (P : A → B → Type 0) (F : Bool → ℕ → B) (done : A) (refused : Refusal → A) (bad : (r : Refusal) → P (refused r) (F false (refusalNumber r))) where
+module _ {A B : Type 0} (P : A → B → Type 0) (F : Bool → ℕ → B) (done : A) (refused : Refusal → A)
+    (bad : (r : Refusal) → P (refused r) (F false (refusalNumber r))) where
   -- 3, 4, 5 and 8, put to a request
   pub request-asked : (b3 b4 b5 b8 : Bool) → (b3 ≡ true → b4 ≡ true → b5 ≡ true → b8 ≡ true → P done (F true 0))
       → let k : ℕ = cond (not b3) 3 (cond (not b4) 4 (cond (not b5) 5 (cond (not b8) 8 0))) in
-      P (cond b3 (cond b4 (cond b5 (cond b8 done (refused Refusal.QueueFull)) (refused Refusal.Address)) (refused Refusal.Requirement)) (refused Refusal.Timeslot)) (F (eqb k 0) k)
+      P
+      (cond b3
+      (cond b4 (cond b5 (cond b8 done (refused Refusal.QueueFull)) (refused Refusal.Address)) (refused Refusal.Requirement))
+      (refused Refusal.Timeslot))
+      (F (eqb k 0) k)
   request-asked false b4 b5 b8 fine = bad Refusal.Timeslot
   request-asked true false b5 b8 fine = bad Refusal.Requirement
   request-asked true true false b8 fine = bad Refusal.Address
@@ -42,7 +47,13 @@ module _ {A B : Type 0} (P : A → B → Type 0) (F : Bool → ℕ → B) (done 
   -- 3, 5, 6, 7 and 8, put to a record
   pub record-asked : (b3 b5 b6 b7 b8 : Bool) → (b3 ≡ true → b5 ≡ true → b6 ≡ true → b7 ≡ true → b8 ≡ true → P done (F true 0))
       → let k : ℕ = cond (not b3) 3 (cond (not b5) 5 (cond (not b6) 6 (cond (not b7) 7 (cond (not b8) 8 0)))) in
-      P (cond b3 (cond b5 (cond b6 (cond b7 (cond b8 done (refused Refusal.QueueFull)) (refused Refusal.Sdu)) (refused Refusal.Header)) (refused Refusal.Address)) (refused Refusal.Timeslot)) (F (eqb k 0) k)
+      P
+      (cond b3
+      (cond b5
+      (cond b6 (cond b7 (cond b8 done (refused Refusal.QueueFull)) (refused Refusal.Sdu)) (refused Refusal.Header))
+      (refused Refusal.Address))
+      (refused Refusal.Timeslot))
+      (F (eqb k 0) k)
   record-asked false b5 b6 b7 b8 fine = bad Refusal.Timeslot
   record-asked true false b6 b7 b8 fine = bad Refusal.Address
   record-asked true true false b7 b8 fine = bad Refusal.Header

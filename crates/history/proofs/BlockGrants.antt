@@ -29,18 +29,14 @@ use Rattle.mac_reader.specs.PduList.{Pdu, null, header, pduBits, blockBits, pla
 use Rattle.mac_reader.specs.Reader as reader
 use Rattle.mac_reader.specs.Reader.{noHeader, readBlock}
 use Rattle.dl_queue.specs.Queue.{Item}
-use Rattle.dl_merge.specs.Merge.{mergeCells}
-use Rattle.dl_merge.proofs.MergeLaws.{All}
-use Rattle.dl_send.specs.Send.{cellSdu, blockOf}
-use Rattle.dl_send.proofs.BlockLaws.{built-read}
-use Rattle.dl_send.proofs.KeptLaws.{all-loaded}
-use Rattle.dl_build.specs.Build.{inOrder, buildList}
+use Rattle.dl_send.specs.Send.{blockOf}
 use Rattle.dl_build.proofs.AfterBuild.{build-read}
 use Rattle.sched_core.specs.Questions.{Memory}
 use Rattle.history.specs.Call.{Call, build, refused, block, noBlock, Stepped, stepped, unlessRefused, buildQuestion}
 use Rattle.history.specs.Queues.{Queues, queueAt, withQueueAt, someQueued, canBuild}
 use Rattle.history.specs.UplinkModel.{modelVerdict}
-use Rattle.history.specs.Model.{NamedSdu, Model, became, counted, namedBuilt, built, modelStep, modelAt, queueNow, pdusBuilt, namesBuilt, pending, replaces}
+use Rattle.history.specs.Model.{NamedSdu, Model, became, counted, namedBuilt, built, modelStep, modelAt, queueNow, pdusBuilt, namesBuilt}
+use Rattle.history.specs.Model.{pending, replaces}
 use Rattle.history.specs.Memory.{memoryAt}
 use Rattle.history.specs.Demand3.{GrantRead, Origin, DerivedAt, ItsGrant}
 use Rattle.history.proofs.Derived.{GrantOf, grant-of, derived}
@@ -56,7 +52,8 @@ unfolding placed
 placed-length at [] = refl
 placed-length at (p ∷ ps) = ap suc (placed-length (at + length (pduBits p)) ps)
 
-placed-at : (at : ℕ) (ps : List Pdu) (rest : List PlacedHeader) (i : ℕ) → i < length ps → getD (placed at ps ++ rest) i noHeader .header ≡ header (getD ps i null)
+placed-at : (at : ℕ) (ps : List Pdu) (rest : List PlacedHeader) (i : ℕ) → i < length ps
+    → getD (placed at ps ++ rest) i noHeader .header ≡ header (getD ps i null)
 unfolding placed
 placed-at at [] rest i l = absurd (not-suc-le-zero l)
 placed-at at (p ∷ ps) rest zero l = refl
@@ -153,7 +150,8 @@ module _ (x : TdmaTime) (v : Valid x) (before : List Call) (b : List ℕ) where
       let inside : t - 1 < length ns = omega (arith, w .sound .counts) in
       let (can, after, from) = block-built octets tags e in
       ap (readBlock blockOctets) (from ∙ ap (λ (ps : List Pdu). blockOf blockOctets (blockBits ps)) (sym same))
-      ∙ build-read ns (k .records) (k .store) (t - 1) inside (omega (arith, w .sound .places, w .sound .counts)) (omega (arith, w .sound .cells, w .sound .counts)) (w .sound .queue)
+      ∙ build-read ns (k .records) (k .store) (t - 1) inside (omega (arith, w .sound .places, w .sound .counts))
+      (omega (arith, w .sound .cells, w .sound .counts)) (w .sound .queue)
       ∙ ap (λ (ps : List Pdu). reader.replyOf (reader.headers (placed 0 ps))) same
 
   -- the PDUs and their names, one by one
@@ -168,7 +166,8 @@ module _ (x : TdmaTime) (v : Valid x) (before : List Call) (b : List ℕ) where
     header-listed : (i : ℕ) → i < length pdus → getD (readBlock blockOctets octets .headers) i noHeader .header ≡ header (getD pdus i null)
     header-listed i l = ap (λ (y : BlockHeaders). getD (y .headers) i noHeader .header) (block-listed octets tags e) ∙ placed-at 0 pdus _ i l
 
-    its-grant : (h : ResourceHeader) (octet name : ℕ) → Faithful x before t (numberOf (h .address)) (OptU8.Of octet) (some name) → ItsGrant x before h octet name
+    its-grant : (h : ResourceHeader) (octet name : ℕ) → Faithful x before t (numberOf (h .address)) (OptU8.Of octet) (some name)
+        → ItsGrant x before h octet name
     its-grant h octet name o = (o, origin-derived x before t (numberOf (h .address)) octet name o (m .uplink .now))
 
     pub block-grants : (i : ℕ) (h : ResourceHeader) (octet : ℕ) → GrantRead octets i h octet
@@ -195,8 +194,10 @@ module _ (x : TdmaTime) (v : Valid x) (before : List Call) (b : List ℕ) where
         inside : i < readBlock blockOctets octets .count
         inside = rw (many-listed, along-length (GrantIn (Faithful x before t)) pdus (namesBuilt m) names-tied) (some-inside (namesBuilt m) i name q)
 
-        by-grant : (h : ResourceHeader) (grant : OptU8) → h .«slot_granting_element» ≡ grant → getD (readBlock blockOctets octets .headers) i noHeader .header ≡ PduHeader.Resource h
-            → Faithful x before t (numberOf (h .address)) grant (some name) → (h : ResourceHeader) × (octet : ℕ) × GrantRead octets i h octet × ItsGrant x before h octet name
+        by-grant : (h : ResourceHeader) (grant : OptU8) → h .«slot_granting_element» ≡ grant
+            → getD (readBlock blockOctets octets .headers) i noHeader .header ≡ PduHeader.Resource h
+            → Faithful x before t (numberOf (h .address)) grant (some name)
+            → (h : ResourceHeader) × (octet : ℕ) × GrantRead octets i h octet × ItsGrant x before h octet name
         by-grant h OptU8.Absent g e k = absurd k
         by-grant h (OptU8.Of octet) g e k = (h, octet, record { listed = inside; header = e; grant = g }, its-grant h octet name k)
 

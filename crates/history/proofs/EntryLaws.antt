@@ -45,18 +45,21 @@ unfolding markedBy freed
 freed-marked [] u t k = refl
 freed-marked (x ∷ xs) u t k = go (eqb (x .what .time) u) refl (freed-marked xs u t k)
   where
-    go : (b : Bool) → eqb (x .what .time) u ≡ b → markedBy (freed xs u) t ≡ markedBy xs t → markedBy (cond b (freed xs u) (x ∷ freed xs u)) t ≡ markedBy (x ∷ xs) t
+    go : (b : Bool) → eqb (x .what .time) u ≡ b → markedBy (freed xs u) t ≡ markedBy xs t
+        → markedBy (cond b (freed xs u) (x ∷ freed xs u)) t ≡ markedBy (x ∷ xs) t
     go true e ih = ih ∙ sym (marked-off x xs t (λ q. k (sym q ∙ eqb-true _ _ e)))
     go false e ih = rw ih
 
-takes-unmarked : (hs : List Half) (c who : ℕ) (marker : OptU8) (xs : List Taken) (t : ℕ) → clock c ≢ t → markedBy (takeHalves (halvesAt hs c) who marker xs) t ≡ markedBy xs t
+takes-unmarked : (hs : List Half) (c who : ℕ) (marker : OptU8) (xs : List Taken) (t : ℕ) → clock c ≢ t
+    → markedBy (takeHalves (halvesAt hs c) who marker xs) t ≡ markedBy xs t
 unfolding takeHalves halvesAt
 takes-unmarked [] c who marker xs t e = refl
 takes-unmarked (x ∷ hs) c who marker xs t e = takes-unmarked hs c who marker _ t e ∙ marked-off _ xs t e
 
 -- ---- the entry
 
-entry-same : (xs ys : List Taken) (c : ℕ) → ((h : Half) → takenBy xs (clock c) h ≡ takenBy ys (clock c) h) → markedBy xs (clock c) ≡ markedBy ys (clock c) → modelEntry xs c ≡ modelEntry ys c
+entry-same : (xs ys : List Taken) (c : ℕ) → ((h : Half) → takenBy xs (clock c) h ≡ takenBy ys (clock c) h)
+    → markedBy xs (clock c) ≡ markedBy ys (clock c) → modelEntry xs c ≡ modelEntry ys c
 entry-same xs ys c k e = rw (k firstHalf, k secondHalf, e)
 
 pub entry-freed : (xs : List Taken) (n c : ℕ) → clock c ≡ n → modelEntry (freed xs n) c ≡ emptyEntry
@@ -66,7 +69,8 @@ pub entry-stays : (xs : List Taken) (n c : ℕ) → clock c ≢ n → modelEntry
 entry-stays xs n c e = entry-same (freed xs n) xs c (λ h. freed-other xs n (clock c) h e) (freed-marked xs n (clock c) e)
 
 -- where halves of another slot are taken
-pub entry-off : (hs : List Half) (c who : ℕ) (marker : OptU8) (xs : List Taken) (x : ℕ) → clock c ≢ clock x → modelEntry (takeHalves (halvesAt hs c) who marker xs) x ≡ modelEntry xs x
+pub entry-off : (hs : List Half) (c who : ℕ) (marker : OptU8) (xs : List Taken) (x : ℕ) → clock c ≢ clock x
+    → modelEntry (takeHalves (halvesAt hs c) who marker xs) x ≡ modelEntry xs x
 entry-off hs c who marker xs x e = entry-same _ xs x (λ h. takes-off hs c who marker xs (clock x) h e) (takes-unmarked hs c who marker xs (clock x) e)
 
 -- slots that show one time
@@ -86,10 +90,15 @@ module _ (c who : ℕ) (marker : OptU8) where
 
   -- a half more
   one-more : (xs : List Taken) (h : Half) → withHalf (withMarker (modelEntry xs c) marker) h who ≡ modelEntry (taken h ∷ xs) c
-  one-more xs h = rw (taken-on (taken h) xs (clock c) firstHalf refl, taken-on (taken h) xs (clock c) secondHalf refl, marked-on (taken h) xs (clock c) refl) (go marker h)
+  one-more xs h =
+      rw (taken-on (taken h) xs (clock c) firstHalf refl, taken-on (taken h) xs (clock c) secondHalf refl, marked-on (taken h) xs (clock c) refl) (go marker h)
     where
       go : (k : OptU8) (h : Half) → withHalf (withMarker (modelEntry xs c) k) h who
-          ≡ record { ul1 = cond (sameHalf h firstHalf) (OptU32.Of who) (modelView xs c firstHalf); ul2 = cond (sameHalf h secondHalf) (OptU32.Of who) (modelView xs c secondHalf); «usage_marker» = orElse k (markedBy xs (clock c)) }
+          ≡ record {
+            ul1 = cond (sameHalf h firstHalf) (OptU32.Of who) (modelView xs c firstHalf);
+            ul2 = cond (sameHalf h secondHalf) (OptU32.Of who) (modelView xs c secondHalf);
+            «usage_marker» = orElse k (markedBy xs (clock c));
+          }
       go OptU8.Absent firstHalf = refl
       go OptU8.Absent secondHalf = refl
       go (OptU8.Of m) firstHalf = refl
@@ -100,18 +109,23 @@ module _ (c who : ℕ) (marker : OptU8) where
   once-marked xs h = rw (marked-on (taken h) xs (clock c) refl) (go marker)
     where
       e : OptU8 → Entry
-      e k = record { ul1 = modelView (taken h ∷ xs) c firstHalf; ul2 = modelView (taken h ∷ xs) c secondHalf; «usage_marker» = orElse k (markedBy xs (clock c)) }
+      e k =
+          record { ul1 = modelView (taken h ∷ xs) c firstHalf; ul2 = modelView (taken h ∷ xs) c secondHalf; «usage_marker» = orElse k (markedBy xs (clock c)) }
 
       go : (k : OptU8) → withMarker (e k) k ≡ e k
       go OptU8.Absent = refl
       go (OptU8.Of m) = refl
 
-  all-more : (hs : List Half) (xs : List Taken) → withMarker (modelEntry xs c) marker ≡ modelEntry xs c → withHalves (modelEntry xs c) hs who ≡ modelEntry (takeHalves (halvesAt hs c) who marker xs) c
+  all-more : (hs : List Half) (xs : List Taken) → withMarker (modelEntry xs c) marker ≡ modelEntry xs c
+      → withHalves (modelEntry xs c) hs who ≡ modelEntry (takeHalves (halvesAt hs c) who marker xs) c
   unfolding withHalves takeHalves halvesAt
   all-more [] xs e = refl
-  all-more (h ∷ hs) xs e = ap (λ (y : Entry). withHalves y hs who) (ap (λ (y : Entry). withHalf y h who) (sym e) ∙ one-more xs h) ∙ all-more hs (taken h ∷ xs) (once-marked xs h)
+  all-more (h ∷ hs) xs e =
+      ap (λ (y : Entry). withHalves y hs who) (ap (λ (y : Entry). withHalf y h who) (sym e) ∙ one-more xs h)
+      ∙ all-more hs (taken h ∷ xs) (once-marked xs h)
 
-  pub entry-more : (hs : List Half) → SomeHalf hs → (xs : List Taken) → withHalves (withMarker (modelEntry xs c) marker) hs who ≡ modelEntry (takeHalves (halvesAt hs c) who marker xs) c
+  pub entry-more : (hs : List Half) → SomeHalf hs → (xs : List Taken)
+      → withHalves (withMarker (modelEntry xs c) marker) hs who ≡ modelEntry (takeHalves (halvesAt hs c) who marker xs) c
   unfolding withHalves takeHalves halvesAt
   entry-more [] k xs = absurd k
   entry-more (h ∷ hs) k xs = ap (λ (y : Entry). withHalves y hs who) (one-more xs h) ∙ all-more hs (taken h ∷ xs) (once-marked xs h)

@@ -103,7 +103,8 @@ module _ (R : ℕ → OptU8 → Option ℕ → Type 0) (bare : (n : ℕ) → R n
   abbrev AllIn : Option ℕ → List Pdu → Type 0
   AllIn name ps = All (λ p. GrantIn R p (nameIn name p)) ps
 
-  one-of : (name : Option ℕ) (a b : Bool) (x y z : Next) → AllIn name (x .pdus) → AllIn name (y .pdus) → AllIn name (z .pdus) → AllIn name (cond a x (cond b y z) .pdus)
+  one-of : (name : Option ℕ) (a b : Bool) (x y z : Next) → AllIn name (x .pdus) → AllIn name (y .pdus) → AllIn name (z .pdus)
+      → AllIn name (cond a x (cond b y z) .pdus)
   one-of name true b x y z p q r = p
   one-of name false true x y z p q r = q
   one-of name false false x y z p q r = r
@@ -113,7 +114,8 @@ module _ (R : ℕ → OptU8 → Option ℕ → Type 0) (bare : (n : ℕ) → R n
       → R (numberOf (headerOf r fill len .address)) (headerOf r fill len .«slot_granting_element») name
   header-in r name k fill len = rw (header-number r fill len, header-grant r fill len) k
 
-  begin-in : (room : ℕ) (r : Record) (sdu : List ℕ) (name : Option ℕ) → R (r .number) (r .header .«slot_granting_element») name → AllIn name (begin room r sdu .pdus)
+  begin-in : (room : ℕ) (r : Record) (sdu : List ℕ) (name : Option ℕ) → R (r .number) (r .header .«slot_granting_element») name
+      → AllIn name (begin room r sdu .pdus)
   unfolding begin beginWith header
   begin-in room r sdu name k =
       let fill : ℕ = fillWanted room (headerSize r + r .bits) in
@@ -126,7 +128,8 @@ module _ (R : ℕ → OptU8 → Option ℕ → Type 0) (bare : (n : ℕ) → R n
   unfolding continue header
   continue-in room r sdu name = one-of name (leb (endOctets (r .bits - r .sent) * 8) room) (ltb room 16) _ _ _ (bare 0, tt) tt (bare 0, tt)
 
-  next-in : (room : ℕ) (r : Record) (sdu : List ℕ) (name : Option ℕ) → R (r .number) (r .header .«slot_granting_element») name → AllIn name (next room r sdu .pdus)
+  next-in : (room : ℕ) (r : Record) (sdu : List ℕ) (name : Option ℕ) → R (r .number) (r .header .«slot_granting_element») name
+      → AllIn name (next room r sdu .pdus)
   unfolding next
   next-in room r sdu name k = go (isStarted (r .kind))
     where
@@ -178,7 +181,8 @@ module _ (R : ℕ → OptU8 → Option ℕ → Type 0) where
   unfolding inOrder
   merged-tied xs h =
       let m : All (Tied R) (mergeNamed [] xs) = merge-tied R [] xs h in
-      all-append (Tied R) (only isUnderway (mergeNamed [] xs)) (only isRecord (mergeNamed [] xs)) (only-tied isUnderway (mergeNamed [] xs) m) (only-tied isRecord (mergeNamed [] xs) m)
+      all-append (Tied R) (only isUnderway (mergeNamed [] xs)) (only isRecord (mergeNamed [] xs)) (only-tied isUnderway (mergeNamed [] xs) m)
+      (only-tied isRecord (mergeNamed [] xs) m)
 
   -- ---- a build
 
@@ -186,6 +190,7 @@ module _ (R : ℕ → OptU8 → Option ℕ → Type 0) where
   unfolding namedBuilt buildList
   built-left xs h = left-tied blockWidth (inOrder (mergeNamed [] xs)) (merged-tied xs h)
 
-  pub built-tied : ((n : ℕ) → R n OptU8.Absent none) → (xs : List (Item NamedSdu)) → All (Tied R) xs → Along (GrantIn R) (namedBuilt xs .pdus) (namesSent blockWidth (inOrder (mergeNamed [] xs)))
+  pub built-tied : ((n : ℕ) → R n OptU8.Absent none) → (xs : List (Item NamedSdu)) → All (Tied R) xs
+      → Along (GrantIn R) (namedBuilt xs .pdus) (namesSent blockWidth (inOrder (mergeNamed [] xs)))
   unfolding namedBuilt buildList
   built-tied bare xs h = pdus-tied R bare blockWidth (inOrder (mergeNamed [] xs)) (merged-tied xs h)

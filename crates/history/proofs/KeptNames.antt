@@ -48,7 +48,8 @@ unfolding only
 only-append p [] ys = refl
 only-append {C} p (x ∷ xs) ys = go (p (x .rec .kind)) (only-append p xs ys)
   where
-    go : (b : Bool) → only p (xs ++ ys) ≡ only p xs ++ only p ys → cond b (x ∷ only p (xs ++ ys)) (only p (xs ++ ys)) ≡ cond b (x ∷ only p xs) (only p xs) ++ only p ys
+    go : (b : Bool) → only p (xs ++ ys) ≡ only p xs ++ only p ys
+        → cond b (x ∷ only p (xs ++ ys)) (only p (xs ++ ys)) ≡ cond b (x ∷ only p xs) (only p xs) ++ only p ys
     go true ih = ap (λ (l : List (Item C)). x ∷ l) ih
     go false ih = ih
 
@@ -94,7 +95,10 @@ Writes name s = List·Memᴰ name (map (nameIn name) (s .pdus)) ⊎ (s .outcome 
 
 first-writes : (room : ℕ) (r : Record) (sdu : List ℕ) (name : Option ℕ) → isStarted (r .kind) ≡ false → Writes name (next room r sdu)
 unfolding begin beginWith
-first-writes room r sdu name e = subst (Writes name) (sym (next-first room r sdu e)) (one-of (leb (headerSize r + r .bits) room) (ltb room 32 || ltb room (headerSize r)) _ _ _ (inl (List·Memᴰ·head refl)) (inr refl) (inl (List·Memᴰ·head refl)))
+first-writes room r sdu name e =
+    subst (Writes name) (sym (next-first room r sdu e))
+    (one-of (leb (headerSize r + r .bits) room) (ltb room 32 || ltb room (headerSize r)) _ _ _ (inl (List·Memᴰ·head refl)) (inr refl)
+    (inl (List·Memᴰ·head refl)))
   where
     one-of : (a b : Bool) (x y z : Next) → Writes name x → Writes name y → Writes name z → Writes name (cond a x (cond b y z))
     one-of true b x y z p q s = p
@@ -114,7 +118,8 @@ module _ (number name : ℕ) where
   abbrev Passes : Kind → Item NamedSdu → Type 0
   Passes kind y = isRecord kind && isGrant (y .rec .kind) && eqb (y .rec .number) number ≡ false
 
-  joined-has : (kind : Kind) (g x : Item NamedSdu) → takes (g .rec .number) (x .rec) ≡ true → Passes kind g → Has kind number name x → Has kind number name (item (joined (g .rec) (x .rec)) (joinName g (x .load)))
+  joined-has : (kind : Kind) (g x : Item NamedSdu) → takes (g .rec .number) (x .rec) ≡ true → Passes kind g → Has kind number name x
+      → Has kind number name (item (joined (g .rec) (x .rec)) (joinName g (x .load)))
   unfolding takes
   joined-has kind g x e p h = record { its-kind = h .its-kind; its-number = h .its-number; its-name = go (g .rec .kind) p }
     where
@@ -131,19 +136,22 @@ module _ (number name : ℕ) where
       go Kind.Waiting q = h .its-name
       go Kind.Started q = h .its-name
 
-  put-keeps : (kind : Kind) (g : Item NamedSdu) → Passes kind g → (xs : List (Item NamedSdu)) → Any (Has kind number name) xs → Any (Has kind number name) (putNamed g xs)
+  put-keeps : (kind : Kind) (g : Item NamedSdu) → Passes kind g → (xs : List (Item NamedSdu)) → Any (Has kind number name) xs
+      → Any (Has kind number name) (putNamed g xs)
   unfolding put
   put-keeps kind g p [] h = absurd h
   put-keeps kind g p (x ∷ xs) h = go (λ k. put-keeps kind g p xs k) (takes (g .rec .number) (x .rec)) refl h
     where
-      go : (Any (Has kind number name) xs → Any (Has kind number name) (putNamed g xs)) → (b : Bool) → takes (g .rec .number) (x .rec) ≡ b → Has kind number name x ⊎ Any (Has kind number name) xs
+      go : (Any (Has kind number name) xs → Any (Has kind number name) (putNamed g xs)) → (b : Bool) → takes (g .rec .number) (x .rec) ≡ b
+          → Has kind number name x ⊎ Any (Has kind number name) xs
           → Any (Has kind number name) (cond b (item (joined (g .rec) (x .rec)) (joinName g (x .load)) ∷ xs) (x ∷ putNamed g xs))
       go below true e (inl k) = inl (joined-has kind g x e p k)
       go below true e (inr k) = inr k
       go below false e (inl k) = inl k
       go below false e (inr k) = inr (below k)
 
-  puts-keeps : (kind : Kind) (gs : List (Item NamedSdu)) → All (Passes kind) gs → (xs : List (Item NamedSdu)) → Any (Has kind number name) xs → Any (Has kind number name) (putsNamed gs xs)
+  puts-keeps : (kind : Kind) (gs : List (Item NamedSdu)) → All (Passes kind) gs → (xs : List (Item NamedSdu)) → Any (Has kind number name) xs
+      → Any (Has kind number name) (putsNamed gs xs)
   unfolding puts
   puts-keeps kind [] p xs h = h
   puts-keeps kind (g ∷ gs) p xs h = puts-keeps kind gs (p .1) (putNamed g xs) (put-keeps kind g (p .0) xs h)
@@ -167,16 +175,19 @@ module _ (number name : ℕ) where
 
   -- ---- merging
 
-  merge-grant : (front back : List (Item NamedSdu)) (g : Item NamedSdu) → Has Kind.Grant number name g → ((y : Item NamedSdu) → List·Memᴰ y back → Passes Kind.Record y)
+  merge-grant : (front back : List (Item NamedSdu)) (g : Item NamedSdu) → Has Kind.Grant number name g
+      → ((y : Item NamedSdu) → List·Memᴰ y back → Passes Kind.Record y)
       → Any (Has Kind.Record number name) (mergeNamed [] (front ++ g ∷ back))
   unfolding merge
   merge-grant front back g h k =
       let taken : only isGrantOrAck (front ++ g ∷ back) ≡ only isGrantOrAck front ++ g ∷ only isGrantOrAck back =
-      only-append isGrantOrAck front (g ∷ back) ∙ ap (λ (l : List (Item NamedSdu)). only isGrantOrAck front ++ l) (only-first isGrantOrAck g back (rw (h .its-kind))) in
+      only-append isGrantOrAck front (g ∷ back)
+      ∙ ap (λ (l : List (Item NamedSdu)). only isGrantOrAck front ++ l) (only-first isGrantOrAck g back (rw (h .its-kind))) in
       rw (taken, puts-append (only isGrantOrAck front) (g ∷ only isGrantOrAck back))
       (unfold puts in puts-keeps Kind.Record (only isGrantOrAck back) (only-all (Passes Kind.Record) isGrantOrAck back k) _ (put-has g h _))
 
-  merge-waiting : (front back : List (Item NamedSdu)) (g : Item NamedSdu) → Has Kind.Waiting number name g → Any (Has Kind.Waiting number name) (mergeNamed [] (front ++ g ∷ back))
+  merge-waiting : (front back : List (Item NamedSdu)) (g : Item NamedSdu) → Has Kind.Waiting number name g
+      → Any (Has Kind.Waiting number name) (mergeNamed [] (front ++ g ∷ back))
   unfolding merge
   merge-waiting front back g h =
       let stays : only isKept (front ++ g ∷ back) ≡ only isKept front ++ g ∷ only isKept back =
@@ -184,7 +195,8 @@ module _ (number name : ℕ) where
       puts-keeps Kind.Waiting (only isGrantOrAck (front ++ g ∷ back)) (only-all (Passes Kind.Waiting) isGrantOrAck (front ++ g ∷ back) (λ y m. refl)) _
       (rw stays (any-right (Has Kind.Waiting number name) (only isKept front) (g ∷ only isKept back) (inl h)))
 
-  only-has : (kind : Kind) (p : Kind → Bool) → p kind ≡ true → (xs : List (Item NamedSdu)) → Any (Has kind number name) xs → Any (Has kind number name) (only p xs)
+  only-has : (kind : Kind) (p : Kind → Bool) → p kind ≡ true → (xs : List (Item NamedSdu)) → Any (Has kind number name) xs
+      → Any (Has kind number name) (only p xs)
   unfolding only
   only-has kind p e [] h = absurd h
   only-has kind p e (x ∷ xs) (inl h) = subst (Any (Has kind number name)) (sym (only-first p x xs (ap p (h .its-kind) ∙ e))) (inl h)
@@ -200,42 +212,54 @@ module _ (number name : ℕ) where
   abbrev Fate : List (Option ℕ) → List (Item NamedSdu) → Type 0
   Fate names left = List·Memᴰ (some name) names ⊎ Any (Has Kind.Waiting number name) left
 
-  one-sent : (s : Next) (x : Item NamedSdu) (names : List (Option ℕ)) (left : List (Item NamedSdu)) → x .rec .number ≡ number → x .load .name ≡ some name → Writes (x .load .name) s
+  one-sent : (s : Next) (x : Item NamedSdu) (names : List (Option ℕ)) (left : List (Item NamedSdu)) → x .rec .number ≡ number
+      → x .load .name ≡ some name → Writes (x .load .name) s
       → Fate (map (nameIn (x .load .name)) (s .pdus) ++ names) (kept (s .outcome) x ++ left)
   one-sent s x names left n e (inl m) = inl (Memᴰ·append-left names (Memᴰ·cast (sym e) m))
   one-sent s x names left n e (inr o) = inr (rw o (inl (record { its-kind = refl; its-number = n; its-name = e })))
 
-  send-keeps : (kind : Kind) → isStarted kind ≡ false → (room : ℕ) (xs : List (Item NamedSdu)) → Any (Has kind number name) xs → Fate (namesSent room xs) (sendAll namedSdu room xs .left)
+  send-keeps : (kind : Kind) → isStarted kind ≡ false → (room : ℕ) (xs : List (Item NamedSdu)) → Any (Has kind number name) xs
+      → Fate (namesSent room xs) (sendAll namedSdu room xs .left)
   unfolding namesSent sendAll
   send-keeps kind b room [] h = absurd h
   send-keeps kind b room (x ∷ xs) (inl h) =
       one-sent (turn namedSdu room x) x _ _ (h .its-number) (h .its-name) (first-writes room (x .rec) (x .load .sdu) (x .load .name) (rw (h .its-kind) b))
   send-keeps kind b room (x ∷ xs) (inr h) =
       let s : Next = turn namedSdu room x in
-      ⊎-elim (λ m. inl (Memᴰ·append-right (map (nameIn (x .load .name)) (s .pdus)) m)) (λ a. inr (any-right (Has Kind.Waiting number name) (kept (s .outcome) x) _ a))
+      ⊎-elim (λ m. inl (Memᴰ·append-right (map (nameIn (x .load .name)) (s .pdus)) m))
+      (λ a. inr (any-right (Has Kind.Waiting number name) (kept (s .outcome) x) _ a))
       (send-keeps kind b (s .room) xs h)
 
   -- ---- a build
 
-  order-keeps : (xs : List (Item NamedSdu)) → Any (Has Kind.Record number name) xs ⊎ Any (Has Kind.Waiting number name) xs → Fate (namesSent blockWidth (inOrder xs)) (sendAll namedSdu blockWidth (inOrder xs) .left)
+  order-keeps : (xs : List (Item NamedSdu)) → Any (Has Kind.Record number name) xs ⊎ Any (Has Kind.Waiting number name) xs
+      → Fate (namesSent blockWidth (inOrder xs)) (sendAll namedSdu blockWidth (inOrder xs) .left)
   unfolding inOrder
-  order-keeps xs (inl h) = send-keeps Kind.Record refl blockWidth _ (any-right (Has Kind.Record number name) (only isUnderway xs) (only isRecord xs) (only-has Kind.Record isRecord refl xs h))
-  order-keeps xs (inr h) = send-keeps Kind.Waiting refl blockWidth _ (any-left (Has Kind.Waiting number name) (only isUnderway xs) (only isRecord xs) (only-has Kind.Waiting isUnderway refl xs h))
+  order-keeps xs (inl h) =
+      send-keeps Kind.Record refl blockWidth _
+      (any-right (Has Kind.Record number name) (only isUnderway xs) (only isRecord xs) (only-has Kind.Record isRecord refl xs h))
+  order-keeps xs (inr h) =
+      send-keeps Kind.Waiting refl blockWidth _
+      (any-left (Has Kind.Waiting number name) (only isUnderway xs) (only isRecord xs) (only-has Kind.Waiting isUnderway refl xs h))
 
   left-pending : (xs : List (Item NamedSdu)) → Any (Has Kind.Waiting number name) xs → List·Memᴰ (some name) (map pending xs)
   left-pending [] h = absurd h
   left-pending (x ∷ xs) (inl h) = List·Memᴰ·head (sym (ap (λ (k : Kind). pendingAs k (x .load .name)) (h .its-kind) ∙ h .its-name))
   left-pending (x ∷ xs) (inr h) = List·Memᴰ·tail (left-pending xs h)
 
-pub build-keeps : (front back : List (Item NamedSdu)) (g : Item NamedSdu) (name : ℕ) → pending g ≡ some name → ((y : Item NamedSdu) → List·Memᴰ y back → replaces y g ≡ false)
-    → List·Memᴰ (some name) (namesSent blockWidth (inOrder (mergeNamed [] (front ++ g ∷ back)))) ⊎ List·Memᴰ (some name) (map pending (namedBuilt (front ++ g ∷ back) .left))
+pub build-keeps : (front back : List (Item NamedSdu)) (g : Item NamedSdu) (name : ℕ) → pending g ≡ some name
+    → ((y : Item NamedSdu) → List·Memᴰ y back → replaces y g ≡ false)
+    → List·Memᴰ (some name) (namesSent blockWidth (inOrder (mergeNamed [] (front ++ g ∷ back))))
+    ⊎ List·Memᴰ (some name) (map pending (namedBuilt (front ++ g ∷ back) .left))
 unfolding namedBuilt buildList
 build-keeps front back g name e k =
-    ⊎-elim inl (λ a. inr (left-pending (g .rec .number) name (namedBuilt (front ++ g ∷ back) .left) a)) (order-keeps (g .rec .number) name (mergeNamed [] (front ++ g ∷ back)) (go (g .rec .kind) refl e k))
+    ⊎-elim inl (λ a. inr (left-pending (g .rec .number) name (namedBuilt (front ++ g ∷ back) .left) a))
+    (order-keeps (g .rec .number) name (mergeNamed [] (front ++ g ∷ back)) (go (g .rec .kind) refl e k))
   where
     go : (kind : Kind) → g .rec .kind ≡ kind → pendingAs kind (g .load .name) ≡ some name
         → ((y : Item NamedSdu) → List·Memᴰ y back → isGrant kind && isGrant (y .rec .kind) && eqb (y .rec .number) (g .rec .number) ≡ false)
-        → Any (Has Kind.Record (g .rec .number) name) (mergeNamed [] (front ++ g ∷ back)) ⊎ Any (Has Kind.Waiting (g .rec .number) name) (mergeNamed [] (front ++ g ∷ back))
+        → Any (Has Kind.Record (g .rec .number) name) (mergeNamed [] (front ++ g ∷ back))
+        ⊎ Any (Has Kind.Waiting (g .rec .number) name) (mergeNamed [] (front ++ g ∷ back))
     go Kind.Grant q n p = inl (merge-grant (g .rec .number) name front back g (record { its-kind = q; its-number = refl; its-name = n }) p)
     go Kind.Ack q n p = absurd (no-name n)
     go Kind.Record q n p = absurd (no-name n)

@@ -2,11 +2,11 @@ pub mod Steps
 pub mod ModelLaws
 pub mod EntryLaws
 pub mod Match
-pub mod AnswerTable
 pub mod Simulation
 pub mod QueueMaps
 pub mod Asked
 pub mod ReadLaws
+pub mod QueueSteps
 pub mod WholeSimulation
 pub mod QuestionLaws
 pub mod ReservedLaws

@@ -59,25 +59,29 @@ unfolding takenBy freed
 freed-other [] u t h k = refl
 freed-other (x ∷ xs) u t h k = go (eqb (x .what .time) u) refl (freed-other xs u t h k)
   where
-    go : (b : Bool) → eqb (x .what .time) u ≡ b → takenBy (freed xs u) t h ≡ takenBy xs t h → takenBy (cond b (freed xs u) (x ∷ freed xs u)) t h ≡ takenBy (x ∷ xs) t h
+    go : (b : Bool) → eqb (x .what .time) u ≡ b → takenBy (freed xs u) t h ≡ takenBy xs t h
+        → takenBy (cond b (freed xs u) (x ∷ freed xs u)) t h ≡ takenBy (x ∷ xs) t h
     go true e ih = ih ∙ sym (taken-off x xs t h (λ q. k (sym q ∙ eqb-true _ _ e)))
     go false e ih = rw ih
 
 -- ---- half-slots taken
 
-pub takes-append : (ys zs : List HalfSlot) (who : ℕ) (marker : OptU8) (xs : List Taken) → takeHalves (ys ++ zs) who marker xs ≡ takeHalves zs who marker (takeHalves ys who marker xs)
+pub takes-append : (ys zs : List HalfSlot) (who : ℕ) (marker : OptU8) (xs : List Taken)
+    → takeHalves (ys ++ zs) who marker xs ≡ takeHalves zs who marker (takeHalves ys who marker xs)
 unfolding takeHalves
 takes-append [] zs who marker xs = refl
 takes-append (y ∷ ys) zs who marker xs = takes-append ys zs who marker _
 
 -- those of another slot
-pub takes-off : (hs : List Half) (c who : ℕ) (marker : OptU8) (xs : List Taken) (t : ℕ) (h : Half) → clock c ≢ t → takenBy (takeHalves (halvesAt hs c) who marker xs) t h ≡ takenBy xs t h
+pub takes-off : (hs : List Half) (c who : ℕ) (marker : OptU8) (xs : List Taken) (t : ℕ) (h : Half) → clock c ≢ t
+    → takenBy (takeHalves (halvesAt hs c) who marker xs) t h ≡ takenBy xs t h
 unfolding takeHalves halvesAt
 takes-off [] c who marker xs t h e = refl
 takes-off (x ∷ hs) c who marker xs t h e = takes-off hs c who marker _ t h e ∙ taken-off _ xs t h e
 
 -- what the number holds it keeps
-takes-keeps : (ys : List HalfSlot) (who : ℕ) (marker : OptU8) (xs : List Taken) (t : ℕ) (h : Half) → takenBy xs t h ≡ OptU32.Of who → takenBy (takeHalves ys who marker xs) t h ≡ OptU32.Of who
+takes-keeps : (ys : List HalfSlot) (who : ℕ) (marker : OptU8) (xs : List Taken) (t : ℕ) (h : Half) → takenBy xs t h ≡ OptU32.Of who
+    → takenBy (takeHalves ys who marker xs) t h ≡ OptU32.Of who
 unfolding takeHalves takenBy
 takes-keeps [] who marker xs t h e = e
 takes-keeps (y ∷ ys) who marker xs t h e = takes-keeps ys who marker _ t h (go (eqb (y .time) t && sameHalf (y .half) h))
@@ -87,7 +91,8 @@ takes-keeps (y ∷ ys) who marker xs t h e = takes-keeps ys who marker _ t h (go
     go false = e
 
 -- each of them is held by the number
-pub takes-has : (y : HalfSlot) (ys : List HalfSlot) (who : ℕ) (marker : OptU8) (xs : List Taken) → List·Memᴰ y ys → takenBy (takeHalves ys who marker xs) (y .time) (y .half) ≡ OptU32.Of who
+pub takes-has : (y : HalfSlot) (ys : List HalfSlot) (who : ℕ) (marker : OptU8) (xs : List Taken) → List·Memᴰ y ys
+    → takenBy (takeHalves ys who marker xs) (y .time) (y .half) ≡ OptU32.Of who
 unfolding takeHalves
 takes-has y [] who marker xs m = absurd (List·Memᴰ·not-nil m)
 takes-has y (z ∷ ys) who marker xs m = ⊎-elim here (takes-has y ys who marker _) (List·Memᴰ·cases-cons m)
@@ -103,7 +108,8 @@ Free xs y = takenBy xs (y .time) (y .half) ≡ OptU32.Absent
 abbrev Other : ℕ → Half → HalfSlot → Type 0
 Other t h y = eqb (y .time) t && sameHalf (y .half) h ≡ false
 
-takes-other : (ys : List HalfSlot) (who : ℕ) (marker : OptU8) (xs : List Taken) (t : ℕ) (h : Half) → All (Other t h) ys → takenBy (takeHalves ys who marker xs) t h ≡ takenBy xs t h
+takes-other : (ys : List HalfSlot) (who : ℕ) (marker : OptU8) (xs : List Taken) (t : ℕ) (h : Half) → All (Other t h) ys
+    → takenBy (takeHalves ys who marker xs) t h ≡ takenBy xs t h
 unfolding takeHalves takenBy
 takes-other [] who marker xs t h k = refl
 takes-other (y ∷ ys) who marker xs t h k = takes-other ys who marker _ t h (k .1) ∙ rw (k .0)
@@ -118,7 +124,8 @@ free-other xs t h w e y f = ⊎-elim clash (λ n. n) (either _)
         let taken : takenBy xs (y .time) (y .half) ≡ OptU32.Of w = rw (et, eh) e in
         absurd (held-not-free (sym taken ∙ f))
 
-pub takes-stays : (ys : List HalfSlot) (who : ℕ) (marker : OptU8) (xs : List Taken) (t : ℕ) (h : Half) (w : ℕ) → All (Free xs) ys → takenBy xs t h ≡ OptU32.Of w → takenBy (takeHalves ys who marker xs) t h ≡ OptU32.Of w
+pub takes-stays : (ys : List HalfSlot) (who : ℕ) (marker : OptU8) (xs : List Taken) (t : ℕ) (h : Half) (w : ℕ) → All (Free xs) ys
+    → takenBy xs t h ≡ OptU32.Of w → takenBy (takeHalves ys who marker xs) t h ≡ OptU32.Of w
 takes-stays ys who marker xs t h w f e = takes-other ys who marker xs t h (all-map (free-other xs t h w e) ys f) ∙ e
 
 -- ---- what is held was taken now, or held before
@@ -126,7 +133,8 @@ takes-stays ys who marker xs t h w f e = takes-other ys who marker xs t h (all-m
 abbrev pub halfSlot : ℕ → Half → HalfSlot
 halfSlot t h = record { time = t; half = h }
 
-pub takes-source : (ys : List HalfSlot) (who : ℕ) (marker : OptU8) (xs : List Taken) (t : ℕ) (h : Half) (w : ℕ) → takenBy (takeHalves ys who marker xs) t h ≡ OptU32.Of w
+pub takes-source : (ys : List HalfSlot) (who : ℕ) (marker : OptU8) (xs : List Taken) (t : ℕ) (h : Half) (w : ℕ)
+    → takenBy (takeHalves ys who marker xs) t h ≡ OptU32.Of w
     → (List·Memᴰ (halfSlot t h) ys × (who ≡ w)) ⊎ (takenBy xs t h ≡ OptU32.Of w)
 unfolding takeHalves takenBy
 takes-source [] who marker xs t h w e = inr e

@@ -6,13 +6,10 @@ use mathlib.Core.Option.{Option, none, some}
 use mathlib.Core.List.{List, [], _∷_, _++_, append-assoc, append-nil}
 use Prim.Native.Nat.{ℕ, zero, suc, _-_, _≤_}
 use native.Mathlib.Omega.{arith}
-use lib.Dec.{leb}
 use lib.ListN.{length, getD, set, length-append}
 use lib.Seq.{append-snoc}
-use borrow.Author.Tests.{leb-true}
-use Rattle.sizes.specs.Sizes.{timeslots}
 use Rattle.optional.specs.declared.OptU8.{OptU8}
-use Rattle.optional.proofs.Tests.{and-left, and-right}
+use Rattle.optional.proofs.Tests.{and-right}
 use Rattle.tdma_time.specs.declared.TdmaTime.{TdmaTime}
 use Rattle.tdma_time.specs.Time.{timeslot}
 use Rattle.slot_codes.specs.Codes.{grantOctet}
@@ -25,15 +22,14 @@ use Rattle.dl_queue.specs.Queue.{Item, item}
 use Rattle.dl_merge.proofs.MergeLaws.{All, all-weaken}
 use Rattle.dl_merge.proofs.NameLaws.{Tied}
 use Rattle.dl_send.proofs.KeptLaws.{all-append}
-use Rattle.sched_core.specs.Questions.{legalTimeslot}
 use Rattle.history.specs.Call.{CapacityRequest, asked, RecordOffer, recordOf, Call, advance, request, enqueueAck, enqueueRecord, build, read}
 use Rattle.history.specs.Call.{granted, noBlock, Stepped, stepped, unlessRefused, run, requestQuestion}
-use Rattle.history.specs.Queues.{Queues, noQueues, queueAt, queuedAt, withQueueAt, appended, canBuild}
+use Rattle.history.specs.Queues.{Queues, noQueues, queueAt, queuedAt, appended, canBuild}
 use Rattle.history.specs.UplinkModel.{modelVerdict}
-use Rattle.history.specs.Model.{NamedSdu, named, bare, ofSdu, Model, newModel, counted, requested, namedBuilt, built, modelStep, modelAt}
+use Rattle.history.specs.Model.{NamedSdu, named, bare, ofSdu, Model, newModel, counted, requested, built, modelStep, modelAt}
 use Rattle.history.specs.Demand3.{Origin}
 use Rattle.history.proofs.Steps.{run-more, unless-after}
-use Rattle.history.proofs.QuestionLaws.{Passed, question-passed, RecordPassed, record-passed, ack-passed}
+use Rattle.history.proofs.QuestionLaws.{request-timeslot, ack-timeslot, record-timeslot, record-header}
 use Rattle.history.proofs.GrantNames.{built-left}
 
 -- a record's grant is that of the request it is named after; without a grant it has no name
@@ -47,7 +43,8 @@ abbrev pub Good : TdmaTime → List Call → ℕ → Item NamedSdu → Type 0
 Good x xs t = Tied (Faithful x xs t)
 
 -- a record without grant
-bare-good : (x : TdmaTime) (xs : List Call) (t : ℕ) (y : Item NamedSdu) → absentU8 (y .rec .header .«slot_granting_element») ≡ true → y .load .name ≡ none → Good x xs t y
+bare-good : (x : TdmaTime) (xs : List Call) (t : ℕ) (y : Item NamedSdu) → absentU8 (y .rec .header .«slot_granting_element») ≡ true
+    → y .load .name ≡ none → Good x xs t y
 bare-good x xs t y e n = rw n (go (y .rec .header .«slot_granting_element») e)
   where
     go : (grant : OptU8) → absentU8 grant ≡ true → Faithful x xs t (y .rec .number) grant none
@@ -56,7 +53,8 @@ bare-good x xs t y e n = rw n (go (y .rec .header .«slot_granting_element») e)
 
 -- ---- one call more
 
-origin-more : (x : TdmaTime) (xs : List Call) (c : Call) {t number octet name : ℕ} → Origin x xs t number octet name → Origin x (xs ++ c ∷ []) t number octet name
+origin-more : (x : TdmaTime) (xs : List Call) (c : Call) {t number octet name : ℕ} → Origin x xs t number octet name
+    → Origin x (xs ++ c ∷ []) t number octet name
 origin-more x xs c o =
     record {
       before = o .before;
@@ -95,7 +93,8 @@ getD-set-either (x ∷ l) (suc i) zero a d = inr refl
 getD-set-either (x ∷ l) (suc i) (suc j) a d = ⊎-elim (λ p. inl (ap suc (p .0), p .1)) inr (getD-set-either l i j a d)
 
 -- a property of the records of each timeslot's queue, where one queue is replaced
-pub set-each : {C : Type 0} (P : ℕ → Item C → Type 0) (qs : Queues C) (t : ℕ) (ys : List (Item C)) → 1 ≤ t → All (P t) ys → ((u : ℕ) → 1 ≤ u → All (P u) (queueAt qs u))
+set-each : {C : Type 0} (P : ℕ → Item C → Type 0) (qs : Queues C) (t : ℕ) (ys : List (Item C)) → 1 ≤ t → All (P t) ys
+    → ((u : ℕ) → 1 ≤ u → All (P u) (queueAt qs u))
     → (u : ℕ) → 1 ≤ u → All (P u) (queueAt (set qs (t - 1) ys) u)
 set-each {C} P qs t ys h k e u g = ⊎-elim at off (getD-set-either qs (t - 1) (u - 1) ys [])
   where
@@ -106,12 +105,12 @@ set-each {C} P qs t ys h k e u g = ⊎-elim at off (getD-set-either qs (t - 1) (
     off p = rw p (e u g)
 
 -- and where one record joins
-pub appended-each : {C : Type 0} (P : ℕ → Item C → Type 0) (qs : Queues C) (t : ℕ) (y : Item C) → 1 ≤ t → P t y → ((u : ℕ) → 1 ≤ u → All (P u) (queueAt qs u))
+appended-each : {C : Type 0} (P : ℕ → Item C → Type 0) (qs : Queues C) (t : ℕ) (y : Item C) → 1 ≤ t → P t y → ((u : ℕ) → 1 ≤ u → All (P u) (queueAt qs u))
     → (u : ℕ) → 1 ≤ u → All (P u) (queueAt (appended qs t y) u)
 unfolding appended
 appended-each P qs t y h k e = set-each P qs t _ h (all-append (P t) (queueAt qs t) (y ∷ []) (e t h) (k, tt)) e
 
-pub none-each : {C : Type 0} (P : ℕ → Item C → Type 0) (u : ℕ) → All (P u) (queueAt (noQueues {C = C}) u)
+none-each : {C : Type 0} (P : ℕ → Item C → Type 0) (u : ℕ) → All (P u) (queueAt (noQueues {C = C}) u)
 none-each {C} P u = go (u - 1)
   where
     go : (i : ℕ) → All (P u) (getD (noQueues {C = C}) i [])
@@ -120,9 +119,6 @@ none-each {C} P u = go (u - 1)
     go (suc (suc zero)) = tt
     go (suc (suc (suc zero))) = tt
     go (suc (suc (suc (suc i)))) = tt
-
-pub timeslot-low : (t : ℕ) → legalTimeslot t ≡ true → 1 ≤ t
-timeslot-low t e = leb-true 1 t (and-left (leb 1 t) (leb t timeslots) e)
 
 -- ---- through a history
 
@@ -171,7 +167,7 @@ module _ (x : TdmaTime) (xs : List Call) (k : modelAt x xs .count ≡ length xs)
       go noRun f r = e
       go tooLate f r = e
       go (grant g) f r =
-          appended-each (Good x (xs ++ request a ∷ [])) (m .queues) (a .timeslot) _ (question-passed a _ q .timeslot-low) (new-good a _ _ _ (f g r)) e
+          appended-each (Good x (xs ++ request a ∷ [])) (m .queues) (a .timeslot) _ (request-timeslot a _ q .0) (new-good a _ _ _ (f g r)) e
 
   offer-bare : (o : RecordOffer) → legalOffered (resourceOf (recordOf o) 0 0) ≡ true → absentU8 (o .header .«slot_granting_element») ≡ true
   unfolding legalOffered
@@ -185,7 +181,9 @@ module _ (x : TdmaTime) (xs : List Call) (k : modelAt x xs .count ≡ length xs)
 
   after-build : (ys : List Call) → Everywhere x ys (m .queues) → Everywhere x ys (built m .after .queues)
   unfolding built Everywhere
-  after-build ys e = go (canBuild (m .uplink .now) (m .queues)) _ (set-each (Good x ys) (m .queues) t _ (omega arith) (built-left (Faithful x ys t) (queueAt (m .queues) t) (e t (omega arith))) e)
+  after-build ys e =
+      go (canBuild (m .uplink .now) (m .queues)) _
+      (set-each (Good x ys) (m .queues) t _ (omega arith) (built-left (Faithful x ys t) (queueAt (m .queues) t) (e t (omega arith))) e)
     where
       t : ℕ
       t = timeslot (m .uplink .now)
@@ -200,15 +198,12 @@ module _ (x : TdmaTime) (xs : List Call) (k : modelAt x xs .count ≡ length xs)
   after-call (request a) e = unless-after (λ (n : Model). Everywhere x (xs ++ request a ∷ []) (n .queues)) _ (counted m) _ e (after-request a e)
   after-call (enqueueAck o) e =
       unless-after (λ (n : Model). Everywhere x (xs ++ enqueueAck o ∷ []) (n .queues)) _ (counted m) _ e
-      (λ q.
-      let low : 1 ≤ o .timeslot = timeslot-low (o .timeslot) (ack-passed o _ q .its-timeslot) in
-      bare-joins (xs ++ enqueueAck o ∷ []) (o .timeslot) (item (ackRecord (o .kind) (o .number)) bare) low refl refl e)
+      (λ q. bare-joins (xs ++ enqueueAck o ∷ []) (o .timeslot) (item (ackRecord (o .kind) (o .number)) bare) (ack-timeslot o _ q .0) refl refl e)
   after-call (enqueueRecord o) e =
       unless-after (λ (n : Model). Everywhere x (xs ++ enqueueRecord o ∷ []) (n .queues)) _ (counted m) _ e
       (λ q.
-      let p : RecordPassed o (queuedAt (m .queues) (o .timeslot)) = record-passed o _ q in
-      let low : 1 ≤ o .timeslot = timeslot-low (o .timeslot) (p .its-timeslot) in
-      bare-joins (xs ++ enqueueRecord o ∷ []) (o .timeslot) (item (recordOf o) (ofSdu (o .bits) (o .octets))) low (offer-bare o (p .header)) refl e)
+      bare-joins (xs ++ enqueueRecord o ∷ []) (o .timeslot) (item (recordOf o) (ofSdu (o .bits) (o .octets))) (record-timeslot o _ q .0)
+      (offer-bare o (record-header o _ q)) refl e)
   after-call (build b) e = unless-after (λ (n : Model). Everywhere x (xs ++ build b ∷ []) (n .queues)) _ (counted m) _ e (λ q. after-build _ e)
   after-call (read q) e = unless-after (λ (n : Model). Everywhere x (xs ++ read q ∷ []) (n .queues)) _ (counted m) _ e (λ k. e)
 

@@ -69,11 +69,16 @@ steadyNames k n r c = refl
 
 cells-built : (xs : List (Item (List ℕ))) → reloadSent sduBits steadyBits (cellsBuilt xs) ≡ sdusBuilt (map (reload sduBits) xs)
 unfolding cellsBuilt sdusBuilt
-cells-built xs = sym (build-map sduBits steadyBits cellSdu ownSdu blockWidth (mergeCells xs) (all-every (SameSdu sduBits cellSdu ownSdu) (λ x. refl) (mergeCells xs))) ∙ ap (buildList ownSdu blockWidth) (merge-sdus xs)
+cells-built xs =
+    sym (build-map sduBits steadyBits cellSdu ownSdu blockWidth (mergeCells xs) (all-every (SameSdu sduBits cellSdu ownSdu) (λ x. refl) (mergeCells xs)))
+    ∙ ap (buildList ownSdu blockWidth) (merge-sdus xs)
 
 names-built : (ys : List (Item NamedSdu)) → reloadSent unnamed steadyNames (namedBuilt ys) ≡ sdusBuilt (map (reload unnamed) ys)
 unfolding namedBuilt sdusBuilt
-names-built ys = sym (build-map unnamed steadyNames namedSdu ownSdu blockWidth (mergeNamed [] ys) (all-every (SameSdu unnamed namedSdu ownSdu) (λ x. refl) (mergeNamed [] ys))) ∙ ap (buildList ownSdu blockWidth) (merge-unnamed [] ys)
+names-built ys =
+    sym
+    (build-map unnamed steadyNames namedSdu ownSdu blockWidth (mergeNamed [] ys) (all-every (SameSdu unnamed namedSdu ownSdu) (λ x. refl) (mergeNamed [] ys)))
+    ∙ ap (buildList ownSdu blockWidth) (merge-unnamed [] ys)
 
 -- ---- station and model
 
@@ -89,11 +94,17 @@ module _ (qs : Queues (List ℕ)) (ms : Queues NamedSdu) (h : Held qs ms) where
   same-count t = sym (length-queue sduBits qs t) ∙ ap (λ (q : Queues (List ℕ)). length (queueAt q t)) h ∙ length-queue unnamed ms t
 
   pub appended-held : (t : ℕ) (x : Item (List ℕ)) (y : Item NamedSdu) → reload sduBits x ≡ reload unnamed y → Held (appended qs t x) (appended ms t y)
-  appended-held t x y e = appended-map sduBits qs t x ∙ ap₂ (λ (q : Queues (List ℕ)) (z : Item (List ℕ)). appended q t z) h e ∙ sym (appended-map unnamed ms t y)
+  appended-held t x y e =
+      appended-map sduBits qs t x
+      ∙ ap₂ (λ (q : Queues (List ℕ)) (z : Item (List ℕ)). appended q t z) h e
+      ∙ sym (appended-map unnamed ms t y)
 
-  pub set-held : (i : ℕ) (xs : List (Item (List ℕ))) (ys : List (Item NamedSdu)) → map (reload sduBits) xs ≡ map (reload unnamed) ys → Held (set qs i xs) (set ms i ys)
+  pub set-held : (i : ℕ) (xs : List (Item (List ℕ))) (ys : List (Item NamedSdu)) → map (reload sduBits) xs ≡ map (reload unnamed) ys
+      → Held (set qs i xs) (set ms i ys)
   set-held i xs ys e =
-      map-set (map (reload sduBits)) qs i xs ∙ ap₂ (λ (q : Queues (List ℕ)) (z : List (Item (List ℕ))). set q i z) h e ∙ sym (map-set (map (reload unnamed)) ms i ys)
+      map-set (map (reload sduBits)) qs i xs
+      ∙ ap₂ (λ (q : Queues (List ℕ)) (z : List (Item (List ℕ))). set q i z) h e
+      ∙ sym (map-set (map (reload unnamed)) ms i ys)
 
   -- a build writes the same PDUs and finishes the same records, and what it leaves is the same
   pub same-built : (t : ℕ) → reloadSent sduBits steadyBits (cellsBuilt (queueAt qs t)) ≡ reloadSent unnamed steadyNames (namedBuilt (queueAt ms t))

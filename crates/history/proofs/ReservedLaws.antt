@@ -27,7 +27,8 @@ use Rattle.history.proofs.Steps.{unless-after}
 use Rattle.history.proofs.ModelLaws.{Free, takes-has, takes-stays}
 
 -- a fact of each half of each slot is one of each half-slot
-halves-all : (P : HalfSlot → Type 0) (hs : List Half) (cs : List ℕ) → All (λ c. (h : Half) → P (record { time = clock c; half = h })) cs → All P (halvesOfSlots hs cs)
+halves-all : (P : HalfSlot → Type 0) (hs : List Half) (cs : List ℕ) → All (λ c. (h : Half) → P (record { time = clock c; half = h })) cs
+    → All P (halvesOfSlots hs cs)
 unfolding halvesOfSlots halvesAt
 halves-all P hs [] k = tt
 halves-all P hs (c ∷ cs) k = all-append P (halvesAt hs c) (halvesOfSlots hs cs) (go hs) (halves-all P hs cs (k .1))
@@ -63,7 +64,8 @@ free-half xs [] f l = absurd (omega arith)
 free-half xs (c ∷ d ∷ cs) f l = absurd (omega arith)
 free-half xs (c ∷ []) f l = go (vacant (modelView xs c firstHalf)) refl (f .0)
   where
-    go : (b : Bool) → vacant (modelView xs c firstHalf) ≡ b → b || vacant (modelView xs c secondHalf) ≡ true → All (Free xs) (halvesOfSlots (halvesOf (cond (not b) 15 0)) (c ∷ []))
+    go : (b : Bool) → vacant (modelView xs c firstHalf) ≡ b → b || vacant (modelView xs c secondHalf) ≡ true
+        → All (Free xs) (halvesOfSlots (halvesOf (cond (not b) 15 0)) (c ∷ []))
     go true e k = (vacant-absent _ e, tt)
     go false e k = (vacant-absent _ k, tt)
 
@@ -78,7 +80,8 @@ grant-free : (xs : List Taken) (n : ℕ) (r : Request) (g : Run) → Granted (mo
 unfolding reservedBy capacity
 grant-free xs n r g k = go (wantsHalf (r .code)) refl (granted-fits (modelView xs) n r g k)
   where
-    go : (half : Bool) → wantsHalf (r .code) ≡ half → All (λ c. fits half (modelView xs) c ≡ true) (g .slots) → All (Free xs) (halvesOfSlots (halvesOf (capacity (modelView xs) (r .code) (g .slots))) (g .slots))
+    go : (half : Bool) → wantsHalf (r .code) ≡ half → All (λ c. fits half (modelView xs) c ≡ true) (g .slots)
+        → All (Free xs) (halvesOfSlots (halvesOf (capacity (modelView xs) (r .code) (g .slots))) (g .slots))
     go true e f =
         let zero-code : r .code ≡ 0 = eqb-true _ _ e in
         let one : slotsWanted (r .code) ≡ 1 = ap slotsWanted zero-code in
@@ -106,7 +109,8 @@ request-taken a m = go (eqb (requestQuestion a (queuedAt (m .queues) (a .timeslo
   where
     go : (b : Bool) (w : Verdict)
         → cond b (requested a w m) (stepped (counted m) (refused (requestQuestion a (queuedAt (m .queues) (a .timeslot))))) .after .uplink .taken
-        ≡ takeHalves (cond b (reservedBy (modelView (m .uplink .taken)) (a .code) w) []) (a .number) (markerOf (m .uplink .markers) (asked a)) (m .uplink .taken)
+        ≡ takeHalves (cond b (reservedBy (modelView (m .uplink .taken)) (a .code) w) []) (a .number) (markerOf (m .uplink .markers) (asked a))
+        (m .uplink .taken)
     go true noRun = refl
     go true tooLate = refl
     go true (grant g) = refl

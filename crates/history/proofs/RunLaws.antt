@@ -10,7 +10,7 @@ use Rattle.tdma_time.specs.Time.{cycle, clock}
 use Rattle.uplink.specs.HalfSlot.{Half}
 use Rattle.history.specs.Call.{CapacityRequest, Call, advance, request, enqueueAck, enqueueRecord, build, read, noBlock, Stepped, stepped, run}
 use Rattle.history.specs.Queues.{canBuild}
-use Rattle.history.specs.UplinkModel.{UplinkModel, takenBy, modelView, freed, advancedUplink}
+use Rattle.history.specs.UplinkModel.{UplinkModel, takenBy, modelView, advancedUplink}
 use Rattle.history.specs.Model.{Model, counted, built, modelStep}
 use Rattle.history.specs.Demand3.{slotsIn, slotsAdvanced, slotsAgreed}
 use Rattle.history.proofs.Steps.{unless-after}

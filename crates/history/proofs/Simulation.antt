@@ -10,12 +10,14 @@ use Rattle.tdma_time.proofs.TimeLaws.{slotOf-timeOf, timeOf-valid, slotOf-below
 use Rattle.uplink.specs.declared.CapAnswer.{CapAnswer}
 use Rattle.uplink.specs.Search.{Run}
 use Rattle.uplink.specs.UplinkEntry.{Table, emptyTable, tableView, cleared}
-use Rattle.uplink.specs.Request.{Request, Verdict, noRun, tooLate, grant, verdict, capacity, reservedBy, markerOf, markersAfter, replyTo, tableAfter, countersAfter, tableOf, given, answer}
+use Rattle.uplink.specs.Request.{Request, Verdict, noRun, tooLate, grant, verdict, capacity, reservedBy, markerOf, markersAfter, replyTo, tableAfter}
+use Rattle.uplink.specs.Request.{countersAfter, tableOf, given, answer}
+use Rattle.uplink.proofs.Basics.{four}
+use Rattle.uplink.proofs.ReserveLaws.{reserve-shape}
 use Rattle.uplink.proofs.RequestLaws.{wanted-pos}
 use Rattle.uplink.proofs.VerdictLaws.{AgreeFrom, Granted, verdict-grant, granted-near, granted-length, verdict-agree, capacity-agree}
 use Rattle.history.specs.UplinkModel.{UplinkModel, newUplink, takeHalves, modelView, modelVerdict, advancedUplink, takenFor}
 use Rattle.history.proofs.Match.{Matched, same-halves, halves-some, reserve-matched, advance-matched, new-matched}
-use Rattle.history.proofs.AnswerTable.{given-table}
 
 -- time, counters and table are those of the model's uplink
 pub record Alike (x : TdmaTime) (ms : List ℕ) (tb : Table) (u : UplinkModel) : Type 0 where
@@ -62,6 +64,11 @@ module _ (x : TdmaTime) (ms : List ℕ) (tb : Table) (u : UplinkModel) (a : Alik
   unfolding answer
   answer-is r w e = ap (given tb ms r) (same-verdict r ∙ e)
 
+  -- the rows that an answer holds are the table
+  given-table : (r : Request) (g : Run) → tableOf (given tb ms r (grant g)) ≡ tableAfter tb ms r (grant g)
+  unfolding given tableAfter
+  given-table r g = four (tableAfter tb ms r (grant g)) [] (reserve-shape _ (r .number) _ (g .slots) tb (a .matched .shape) .rows)
+
   pub grant-alike : (r : Request) (g : Run) → modelVerdict u r ≡ grant g
       → Alike x (answer tb ms x r .«next_usage_marker») (tableOf (answer tb ms x r)) (takenFor r g u)
   unfolding given takenFor countersAfter
@@ -71,7 +78,7 @@ module _ (x : TdmaTime) (ms : List ℕ) (tb : Table) (u : UplinkModel) (a : Alik
         now = a .now;
         markers =
             ap (λ (y : CapAnswer). y .«next_usage_marker») (answer-is r (grant g) e) ∙ ap (λ (l : List ℕ). markersAfter l r) (a .markers);
-        matched = rw (ap tableOf (answer-is r (grant g) e) ∙ given-table tb ms r (a .matched .shape) (grant g)) (after-matched r g e);
+        matched = rw (ap tableOf (answer-is r (grant g) e) ∙ given-table r g) (after-matched r g e);
       }
 
   pub answer-reply : (r : Request) (w : Verdict) → modelVerdict u r ≡ w → answer tb ms x r .reply ≡ replyTo (modelView (u .taken)) (u .markers) r w

@@ -1,5 +1,5 @@
 -- The reference model has taken exactly what stands reserved (`standing-taken`, `taken-standing`). Assumes nothing.
-use mathlib.Core.Path.{_≡_, refl, sym, ap, subst, _∙_}
+use mathlib.Core.Path.{_≡_, refl, sym, ap, _∙_}
 use mathlib.Core.Logic.{⊎-elim, _≢_}
 use mathlib.Core.List.{List, [], _∷_, _++_, List·Memᴰ}
 use Prim.Native.Nat.{ℕ, zero, suc, _+_, _≤_, _<_, zero-le}
@@ -12,7 +12,7 @@ use Rattle.uplink.specs.HalfSlot.{Half, HalfSlot}
 use Rattle.history.specs.Call.{CapacityRequest, Call, advance, request, run}
 use Rattle.history.specs.UplinkModel.{UplinkModel, newUplink, takenBy, freed, advancedUplink}
 use Rattle.history.specs.Model.{Model, newModel, reserved, modelStep, modelAt}
-use Rattle.history.specs.Demand3.{slotsIn, slotsAdvanced, Standing}
+use Rattle.history.specs.Demand3.{slotsAdvanced, Standing}
 use Rattle.history.proofs.Steps.{run-append}
 use Rattle.history.proofs.ModelLaws.{held-not-free, freed-same, freed-other, halfSlot, takes-source}
 use Rattle.history.proofs.ReservedLaws.{offset, request-now, request-taken, Reserved, reserved-is}
@@ -57,7 +57,8 @@ module _ (t : ℕ) (h : Half) (w : ℕ) where
   unfolding slotsAdvanced run
   after-request a m cs o p =
       let q : NotPassed (m .uplink .now) t cs = rw (request-now a m) at p in
-      ⊎-elim (λ n. fresh [] cs a refl (n .1) (n .0) q) (λ n. old n (λ k e. let r = q k e in omega arith)) (takes-source _ (a .number) _ (m .uplink .taken) t h w (rw (request-taken a m) at o))
+      ⊎-elim (λ n. fresh [] cs a refl (n .1) (n .0) q) (λ n. old n (λ k e. let r =
+      q k e in omega arith)) (takes-source _ (a .number) _ (m .uplink .taken) t h w (rw (request-taken a m) at o))
 
   after-call : (m : Model) (cs : List Call) → m .uplink .now < cycle → {c : Call} → Touch m c → takenBy (modelStep c m .after .uplink .taken) t h ≡ OptU32.Of w
       → NotPassed (modelStep c m .after .uplink .now) t cs → Source m (c ∷ cs) t h w

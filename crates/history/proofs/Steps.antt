@@ -40,15 +40,3 @@ module _ {S T : Type 0} (R : S → T → Type 0) where
   unfolding run
   run-agree f g k [] s t h = h
   run-agree f g k (c ∷ cs) s t h = run-agree f g k cs (f c s .after) (g c t .after) (k c s t h .after)
-
-  pub cond-agree : (b : Bool) (x x′ : Stepped S) (y y′ : Stepped T) → Agree x y → Agree x′ y′ → Agree (cond b x x′) (cond b y y′)
-  cond-agree true x x′ y y′ p q = p
-  cond-agree false x x′ y y′ p q = q
-
-  pub unless-agree : (k : ℕ) (s : S) (t : T) (x : Stepped S) (y : Stepped T) → R s t → (k ≡ 0 → Agree x y) → Agree (unlessRefused k s x) (unlessRefused k t y)
-  unfolding unlessRefused
-  unless-agree k s t x y h g = go (eqb k 0) refl
-    where
-      go : (b : Bool) → eqb k 0 ≡ b → Agree (cond b x (stepped s (refused k))) (cond b y (stepped t (refused k)))
-      go true e = g (eqb-true _ _ e)
-      go false e = record { after = h; reply = refl }

@@ -1,0 +1,307 @@
+-- Memory and reference model hold the same (`Same`), and an advance, a request, an ack and a record keep it so and reply alike. Assumes nothing.
+use mathlib.Core.Path.{_≡_, refl, sym, ap, subst, _∙_}
+use mathlib.Core.Bool.{Bool, true, cond}
+use mathlib.Core.List.{List, [], _∷_}
+use Prim.Native.Nat.{ℕ, _-_, _*_, _<_}
+use native.Mathlib.Omega.{arith}
+use lib.Dec.{leb, ltb}
+use lib.ListN.{length, getD, take, List·getD-map}
+use lib.Seq.{take-at, length-take-le}
+use borrow.Author.Tests.{ltb-true}
+use Rattle.sizes.specs.Sizes.{perTimeslot, cellOctets, timeslotOctets}
+use Rattle.bitbuffer.specs.Bits.{bitsOf}
+use Rattle.bitbuffer.proofs.Laws.{length-bitsOf}
+use Rattle.tdma_time.specs.declared.TdmaTime.{TdmaTime}
+use Rattle.tdma_time.specs.Time.{nextTime, timeslot}
+use Rattle.uplink.specs.declared.CapAnswer.{CapAnswer}
+use Rattle.uplink.specs.declared.CapReply.{CapReply}
+use Rattle.uplink.specs.UplinkEntry.{cleared, emptyEntry}
+use Rattle.uplink.specs.Request.{Verdict, noRun, tooLate, grant, replyTo, answer}
+use Rattle.uplink.proofs.Basics.{four}
+use Rattle.uplink.proofs.TableLaws.{store-shape}
+use Rattle.mac_pdus.specs.Legal.{legalOffered}
+use Rattle.dl_record.specs.declared.Record.{Record}
+use Rattle.dl_record.specs.Record.{ackRecord, resourceOf}
+use Rattle.dl_record.specs.Questions.{legalAddress, presentSdu}
+use Rattle.sdu_store.specs.Cells.{cellOf}
+use Rattle.sdu_store.proofs.CellBits.{length-cellOf, bits-cellOf}
+use Rattle.dl_queue.specs.Queue.{item, zeroCell, queuesOf, enqueued, withCell}
+use Rattle.dl_queue.proofs.QueueLaws.{counts-back}
+use Rattle.dl_queue.proofs.PushLaws.{queues-push}
+use Rattle.dl_queue.proofs.SetLaws.{zero-size}
+use Rattle.dl_queue.proofs.SoundLaws.{queue-at, unused-cell}
+use Rattle.dl_merge.proofs.MergeLaws.{reload, sduBits, unnamed}
+use Rattle.sched_core.specs.declared.Refusal.{Refusal}
+use Rattle.sched_core.specs.declared.Reply as core
+use Rattle.sched_core.specs.declared.RequestReply.{RequestReply}
+use Rattle.sched_core.specs.Station.{tableOf, advancedStation}
+use Rattle.sched_core.specs.Questions.{Memory, memory, isStationSound, areLengthsRight, isQueueSound, ask}
+use Rattle.sched_core.specs.Questions.{legalTimeslot, isTimeslotLegal, isRequirementLegal, isAddressLegal, isHeaderLegal, isSduPresent, isQueueOpen}
+use Rattle.sched_core.specs.Calls.{Outcome, outcome, grantQueued, requestAnswered, requestOutcome, requestCall, advanceCall, advanceMemory}
+use Rattle.sched_core.specs.Calls.{withRecord, withSdu, ackCall, tmaCall}
+use Rattle.sched_core.specs.Invariant.{SoundMemory}
+use Rattle.sched_core.proofs.QuestionLaws.{right-lengths, timeslot-range, sdu-range}
+use Rattle.history.specs.Call.{CapacityRequest, asked, AckOffer, RecordOffer, recordOf, advance, request, enqueueAck, enqueueRecord}
+use Rattle.history.specs.Call.{done, refused, Stepped, stepped, unlessRefused, requestQuestion, ackQuestion, recordQuestion}
+use Rattle.history.specs.Queues.{Queues, queuedAt, appended}
+use Rattle.history.specs.UplinkModel.{modelView, modelVerdict}
+use Rattle.history.specs.Model.{NamedSdu, Model, became, bare, ofSdu, counted, requested, modelStep}
+use Rattle.history.specs.Memory.{queueReply, requestReply, answered, memoryStep}
+use Rattle.history.proofs.Steps.{Agree}
+use Rattle.history.proofs.Asked.{three-yes, request-asked, ack-asked, record-asked}
+use Rattle.history.proofs.Simulation.{Alike, grant-alike, answer-reply, advance-alike}
+use Rattle.history.proofs.QueueMaps.{Held, same-count, appended-held}
+
+-- the SDU in the cell that is written for it
+sdu-in-cell : (n : ℕ) (s : List ℕ) → presentSdu n s ≡ true → take n (bitsOf (cellOf n s)) ≡ take n (bitsOf s)
+sdu-in-cell n s p =
+    let r = sdu-range n s p in
+    ap (take n) (bits-cellOf n s (r .0) (r .1)) ∙ take-at (take n (bitsOf s)) _ n (length-take-le n (bitsOf s) (rw (length-bitsOf s) (r .1)))
+
+-- ---- memory and model
+
+-- the lists of records with their cells that a memory holds
+abbrev pub listsOf : Memory → Queues (List ℕ)
+listsOf m = queuesOf (m .station .queued) (m .records) (m .store)
+
+-- the same time, counters, table and queues
+pub record Same (m : Memory) (b : Model) : Type 0 where
+  pub uplink : Alike (m .station .time) (m .station .«next_usage_marker») (tableOf (m .station)) (b .uplink)
+  pub queues : Held (listsOf m) (b .queues)
+
+module _ (m : Memory) (b : Model) (k : SoundMemory m) (a : Same m b) where
+  abbrev ns : List ℕ
+  ns = m .station .queued
+
+  abbrev up : Alike (m .station .time) (m .station .«next_usage_marker») (tableOf (m .station)) (b .uplink)
+  up = a .uplink
+
+  pub places : length (m .records) ≡ perTimeslot * length ns
+  places = omega (arith, k .places, k .counts)
+
+  pub size : length (m .store) ≡ timeslotOctets * length ns
+  size = omega (arith, k .cells, k .counts)
+
+  pub count-at : (t : ℕ) → getD ns (t - 1) 0 ≡ queuedAt (b .queues) t
+  count-at t =
+      ap (λ (l : List ℕ). getD l (t - 1) 0) (sym (counts-back ns (m .records) (m .store)))
+      ∙ List·getD-map length (listsOf m) (t - 1) []
+      ∙ same-count (listsOf m) (b .queues) (a .queues) t
+
+  -- a call that changes nothing
+  pub stays : Same m (counted b)
+  stays = record { uplink = record { valid = up .valid; now = up .now; markers = up .markers; matched = up .matched }; queues = a .queues }
+
+  -- ---- an advance
+
+  advance-is : advanceMemory m ≡ outcome core.Reply.Done (memory (advancedStation (m .station)) (m .records) (m .store))
+  unfolding advanceMemory advanceCall ask
+  advance-is = rw (k .station)
+
+  pub advance-agrees : Agree Same (memoryStep advance m) (modelStep advance b)
+  unfolding memoryStep modelStep
+  advance-agrees =
+      let next : TdmaTime = nextTime (m .station .time) in
+      let rows = four (cleared (tableOf (m .station)) next) [] (store-shape (tableOf (m .station)) _ emptyEntry (k .table) .rows) in
+      rw advance-is
+      (record {
+        after = record { uplink = rw rows (advance-alike _ _ _ _ up); queues = a .queues };
+        reply = refl;
+      })
+
+  -- ---- a record joins
+
+  module _ (t : ℕ) (legal : legalTimeslot t ≡ true) (open-place : ltb (queuedAt (b .queues) t) perTimeslot ≡ true) where
+    inside : t - 1 < length ns
+    inside = let r = timeslot-range t legal in omega (arith, k .counts, r .0, r .1)
+
+    room : getD ns (t - 1) 0 < perTimeslot
+    room = rw (count-at t) (ltb-true _ _ open-place)
+
+    -- the lists with it
+    abbrev queuesWith : Record → List ℕ → Queues (List ℕ)
+    queuesWith r st = queuesOf (enqueued ns (m .records) (t - 1) r .counts) (enqueued ns (m .records) (t - 1) r .records) st
+
+    -- with its cell, in the place behind its timeslot's records
+    joins : (r : Record) (c : List ℕ) (y : NamedSdu) → length c ≡ cellOctets → reload sduBits (item r c) ≡ reload unnamed (item r y)
+        → Held
+        (queuesWith r (withCell (m .store) ns (t - 1) c))
+        (appended (b .queues) t (item r y))
+    unfolding appended
+    joins r c y l e =
+        subst (λ (qs : Queues (List ℕ)). Held qs (appended (b .queues) t (item r y)))
+        (sym
+        (queues-push ns (m .records) (m .store) (t - 1) (getD ns (t - 1) 0) r c inside refl room (λ u h. queue-at ns (m .records) (m .store) (k .queue) u h .0)
+        places size l))
+        (appended-held (listsOf m) (b .queues) (a .queues) t (item r c) (item r y) e)
+
+    -- without SDU: its cell is zero as it stands
+    bare-joins : (r : Record) (y : NamedSdu) → reload sduBits (item r zeroCell) ≡ reload unnamed (item r y)
+        → Held (queuesWith r (m .store)) (appended (b .queues) t (item r y))
+    bare-joins r y e =
+        subst
+        (λ (st : List ℕ). Held (queuesWith r st) (appended (b .queues) t (item r y)))
+        (sym (unused-cell ns (m .records) (m .store) (t - 1) (getD ns (t - 1) 0) inside refl room size (k .octets) (k .queue)))
+        (joins r zeroCell y zero-size e)
+
+  -- ---- a request
+
+  module _ (c : CapacityRequest) where
+    abbrev queued : ℕ
+    queued = queuedAt (b .queues) (c .timeslot)
+
+    -- what the search answers
+    abbrev given : CapAnswer
+    given = answer (tableOf (m .station)) (m .station .«next_usage_marker») (m .station .time) (asked c)
+
+    abbrev answeredAs : CapReply → Outcome RequestReply
+    answeredAs x = requestOutcome (grantQueued (m .station) (m .records) (c .timeslot) (c .kind) (c .number) given x) (m .store)
+
+    abbrev no : Refusal → Outcome RequestReply
+    no r = outcome (RequestReply.Refused r) m
+
+    answered-agrees : legalTimeslot (c .timeslot) ≡ true → ltb queued perTimeslot ≡ true → (w : Verdict) → modelVerdict (b .uplink) (asked c) ≡ w
+        → Agree Same (answered requestReply (answeredAs (replyTo (modelView (b .uplink .taken)) (b .uplink .markers) (asked c) w))) (requested c w b)
+    unfolding grantQueued requested replyTo
+    answered-agrees legal fits noRun e = record { after = stays; reply = refl }
+    answered-agrees legal fits tooLate e = record { after = stays; reply = refl }
+    answered-agrees legal fits (grant g) e =
+        record { after = record { uplink = grant-alike _ _ _ _ up (asked c) g e; queues = bare-joins (c .timeslot) legal fits _ _ refl }; reply = refl }
+
+    searched : legalTimeslot (c .timeslot) ≡ true → ltb queued perTimeslot ≡ true
+        → Agree Same (answered requestReply (answeredAs (given .reply))) (requested c (modelVerdict (b .uplink) (asked c)) b)
+    searched legal fits =
+        subst (λ (r : CapReply). Agree Same (answered requestReply (answeredAs r)) (requested c (modelVerdict (b .uplink) (asked c)) b))
+        (sym (answer-reply _ _ _ _ up (asked c) (modelVerdict (b .uplink) (asked c)) refl)) (answered-agrees legal fits _ refl)
+
+    abbrev asks : Bool → Outcome RequestReply
+    asks free =
+        cond (legalTimeslot (c .timeslot))
+        (cond (leb (c .code) 15)
+        (cond (legalAddress (c .kind) (c .number)) (cond free (answeredAs (given .reply)) (no Refusal.QueueFull)) (no Refusal.Address))
+        (no Refusal.Requirement))
+        (no Refusal.Timeslot)
+
+    request-asks : requestCall m (c .timeslot) (c .code) (c .kind) (c .number) ≡ asks (ltb queued perTimeslot)
+    unfolding requestCall requestAnswered ask
+    request-asks =
+        three-yes (isStationSound (m .station)) (areLengthsRight m) (isQueueSound m)
+        (isTimeslotLegal (c .timeslot) ∷ isRequirementLegal (c .code) ∷ isAddressLegal (c .kind) (c .number) ∷ isQueueOpen m (c .timeslot) ∷ [])
+        (answeredAs (given .reply)) no (k .station) (right-lengths m (k .places) (k .cells)) (k .queue)
+        ∙ ap asks (ap (λ (n : ℕ). ltb n perTimeslot) (count-at (c .timeslot)))
+
+    pub request-agrees : Agree Same (memoryStep (request c) m) (modelStep (request c) b)
+    unfolding memoryStep modelStep unlessRefused requestQuestion
+    request-agrees =
+        subst (λ (o : Outcome RequestReply). Agree Same (answered requestReply o) (modelStep (request c) b)) (sym request-asks)
+        (request-asked (λ (o : Outcome RequestReply) (y : Stepped Model). Agree Same (answered requestReply o) y)
+        (λ fine n. cond fine (requested c (modelVerdict (b .uplink) (asked c)) b) (stepped (counted b) (refused n))) (answeredAs (given .reply)) no
+        (λ r. record { after = stays; reply = refl })
+        (legalTimeslot (c .timeslot)) (leb (c .code) 15) (legalAddress (c .kind) (c .number)) (ltb queued perTimeslot) (λ b3 b4 b5 b8. searched b3 b8))
+
+  -- ---- an ack
+
+  module _ (o : AckOffer) where
+    abbrev ack-done : Outcome core.Reply
+    ack-done = outcome core.Reply.Done (withRecord m (o .timeslot) (ackRecord (o .kind) (o .number)))
+
+    abbrev ack-no : Refusal → Outcome core.Reply
+    ack-no r = outcome (core.Reply.Refused r) m
+
+    abbrev ack-open : Bool
+    ack-open = ltb (queuedAt (b .queues) (o .timeslot)) perTimeslot
+
+    abbrev asks-ack : Bool → Outcome core.Reply
+    asks-ack free =
+        cond (legalTimeslot (o .timeslot))
+        (cond (legalAddress (o .kind) (o .number)) (cond free ack-done (ack-no Refusal.QueueFull)) (ack-no Refusal.Address))
+        (ack-no Refusal.Timeslot)
+
+    ack-asks : ackCall m (o .timeslot) (o .kind) (o .number) ≡ asks-ack ack-open
+    unfolding ackCall ask
+    ack-asks =
+        three-yes (isStationSound (m .station)) (areLengthsRight m) (isQueueSound m)
+        (isTimeslotLegal (o .timeslot) ∷ isAddressLegal (o .kind) (o .number) ∷ isQueueOpen m (o .timeslot) ∷ [])
+        ack-done ack-no (k .station) (right-lengths m (k .places) (k .cells)) (k .queue)
+        ∙ ap asks-ack (ap (λ (n : ℕ). ltb n perTimeslot) (count-at (o .timeslot)))
+
+    abbrev ack-joined : Stepped Model
+    ack-joined = became b (b .uplink) (appended (b .queues) (o .timeslot) (item (ackRecord (o .kind) (o .number)) bare)) done
+
+    ack-joins : legalTimeslot (o .timeslot) ≡ true → ack-open ≡ true → Agree Same (answered queueReply ack-done) ack-joined
+    ack-joins legal fits = record { after = record { uplink = up; queues = bare-joins (o .timeslot) legal fits _ _ refl }; reply = refl }
+
+    pub ack-agrees : Agree Same (memoryStep (enqueueAck o) m) (modelStep (enqueueAck o) b)
+    unfolding memoryStep modelStep unlessRefused ackQuestion
+    ack-agrees =
+        subst (λ (y : Outcome core.Reply). Agree Same (answered queueReply y) (modelStep (enqueueAck o) b)) (sym ack-asks)
+        (ack-asked (λ (y : Outcome core.Reply) (z : Stepped Model). Agree Same (answered queueReply y) z)
+        (λ fine n. cond fine ack-joined (stepped (counted b) (refused n)))
+        ack-done ack-no (λ r. record { after = stays; reply = refl })
+        (legalTimeslot (o .timeslot)) (legalAddress (o .kind) (o .number)) ack-open (λ b3 b5 b8. ack-joins b3 b8))
+
+  -- ---- a record
+
+  module _ (o : RecordOffer) where
+    abbrev rec-done : Outcome core.Reply
+    rec-done = outcome core.Reply.Done (withSdu m (o .timeslot) (recordOf o) (o .octets))
+
+    abbrev rec-no : Refusal → Outcome core.Reply
+    rec-no r = outcome (core.Reply.Refused r) m
+
+    abbrev rec-open : Bool
+    rec-open = ltb (queuedAt (b .queues) (o .timeslot)) perTimeslot
+
+    abbrev header-fine : Bool
+    header-fine = legalOffered (resourceOf (recordOf o) 0 0)
+
+    abbrev asks-rec : Bool → Outcome core.Reply
+    asks-rec free =
+        cond (legalTimeslot (o .timeslot))
+        (cond (legalAddress (o .kind) (o .number))
+        (cond header-fine
+        (cond (presentSdu (o .bits) (o .octets)) (cond free rec-done (rec-no Refusal.QueueFull)) (rec-no Refusal.Sdu))
+        (rec-no Refusal.Header))
+        (rec-no Refusal.Address))
+        (rec-no Refusal.Timeslot)
+
+    rec-asks : tmaCall m (o .timeslot) (o .kind) (o .number) (o .tag) (o .header) (o .bits) (o .octets) ≡ asks-rec rec-open
+    unfolding tmaCall ask
+    rec-asks =
+        three-yes (isStationSound (m .station)) (areLengthsRight m) (isQueueSound m)
+        (isTimeslotLegal (o .timeslot)
+        ∷ isAddressLegal (o .kind) (o .number)
+        ∷ isHeaderLegal (recordOf o)
+        ∷ isSduPresent (o .bits) (o .octets)
+        ∷ isQueueOpen m (o .timeslot)
+        ∷ [])
+        rec-done rec-no (k .station) (right-lengths m (k .places) (k .cells)) (k .queue)
+        ∙ ap asks-rec (ap (λ (n : ℕ). ltb n perTimeslot) (count-at (o .timeslot)))
+
+    abbrev rec-joined : Stepped Model
+    rec-joined = became b (b .uplink) (appended (b .queues) (o .timeslot) (item (recordOf o) (ofSdu (o .bits) (o .octets)))) done
+
+    rec-joins : legalTimeslot (o .timeslot) ≡ true → presentSdu (o .bits) (o .octets) ≡ true → rec-open ≡ true
+        → Agree Same (answered queueReply rec-done) rec-joined
+    rec-joins legal present fits =
+        record {
+          after =
+              record {
+                uplink = up;
+                queues =
+                    joins (o .timeslot) legal fits (recordOf o) (cellOf (o .bits) (o .octets)) (ofSdu (o .bits) (o .octets))
+                    (length-cellOf (o .bits) (o .octets))
+                    (ap (item (recordOf o)) (sdu-in-cell (o .bits) (o .octets) present));
+              };
+          reply = refl;
+        }
+
+    pub rec-agrees : Agree Same (memoryStep (enqueueRecord o) m) (modelStep (enqueueRecord o) b)
+    unfolding memoryStep modelStep unlessRefused recordQuestion
+    rec-agrees =
+        subst (λ (y : Outcome core.Reply). Agree Same (answered queueReply y) (modelStep (enqueueRecord o) b)) (sym rec-asks)
+        (record-asked (λ (y : Outcome core.Reply) (z : Stepped Model). Agree Same (answered queueReply y) z)
+        (λ fine n. cond fine rec-joined (stepped (counted b) (refused n)))
+        rec-done rec-no (λ r. record { after = stays; reply = refl })
+        (legalTimeslot (o .timeslot)) (legalAddress (o .kind) (o .number)) header-fine (presentSdu (o .bits) (o .octets)) rec-open
+        (λ b3 b5 b6 b7 b8. rec-joins b3 b7 b8))
