@@ -15,19 +15,19 @@ use Rattle.fillbits.specs.Fill.{fillWanted}
 use Rattle.mac_pdus.specs.declared.PduHeader.{PduHeader}
 use Rattle.mac_pdus.specs.Legal.{ssiOnAir, addressOnAir, onAir, numberOf}
 use Rattle.mac_reader.specs.PduList.{Pdu, null, header}
-use Rattle.dl_record.specs.declared.Kind.{Kind}
 use Rattle.dl_record.specs.declared.Record.{Record}
 use Rattle.dl_record.specs.Record.{addressKindOf}
 use Rattle.dl_queue.specs.Queue.{Item}
-use Rattle.dl_merge.specs.Merge.{isRecord, only, mergeNamed}
+use Rattle.dl_merge.specs.Merge.{mergeNamed}
 use Rattle.dl_merge.proofs.MergeLaws.{All}
 use Rattle.dl_merge.proofs.NameLaws.{Tied, merge-tied}
 use Rattle.bs_frag.specs.NextPdu.{fillFlag, headerOf, headerSize, Next, beginWith, begin, continue, isStarted, next, endOctets}
 use Rattle.bs_frag.specs.declared.Outcome.{Outcome}
 use Rattle.bs_frag.specs.declared.Outcome.the-variants.{Finished, Waiting, Started}
-use Rattle.dl_send.specs.Send.{kept, isUnderway, nullIn, turn, sendAll}
+use Rattle.dl_send.specs.Send.{kept, nullIn, turn, sendAll}
 use Rattle.dl_send.proofs.KeptLaws.{all-append}
 use Rattle.dl_build.specs.Build.{inOrder, buildList}
+use Rattle.dl_build.proofs.OrderLaws.{order-all}
 use Rattle.history.specs.Model.{NamedSdu, namedSdu, namedBuilt, nameIn, namesSent}
 
 -- ---- two lists, element by element
@@ -168,21 +168,8 @@ module _ (R : ℕ → OptU8 → Option ℕ → Type 0) where
       let s : Next = turn namedSdu room x in
       all-append (Tied R) (kept (s .outcome) x) (sendAll namedSdu (s .room) xs .left) (kept-tied (s .outcome) x (h .0)) (left-tied (s .room) xs (h .1))
 
-  only-tied : (p : Kind → Bool) (xs : List (Item NamedSdu)) → All (Tied R) xs → All (Tied R) (only p xs)
-  unfolding only
-  only-tied p [] h = tt
-  only-tied p (x ∷ xs) h = go (p (x .rec .kind)) (only-tied p xs (h .1))
-    where
-      go : (b : Bool) → All (Tied R) (only p xs) → All (Tied R) (cond b (x ∷ only p xs) (only p xs))
-      go true ih = (h .0, ih)
-      go false ih = ih
-
   merged-tied : (xs : List (Item NamedSdu)) → All (Tied R) xs → All (Tied R) (inOrder (mergeNamed [] xs))
-  unfolding inOrder
-  merged-tied xs h =
-      let m : All (Tied R) (mergeNamed [] xs) = merge-tied R [] xs h in
-      all-append (Tied R) (only isUnderway (mergeNamed [] xs)) (only isRecord (mergeNamed [] xs)) (only-tied isUnderway (mergeNamed [] xs) m)
-      (only-tied isRecord (mergeNamed [] xs) m)
+  merged-tied xs h = order-all (Tied R) (mergeNamed [] xs) (merge-tied R [] xs h)
 
   -- ---- a build
 

@@ -1,6 +1,6 @@
 -- The station's queues and the model's hold the same records with the same SDUs (`Held`), and what a build makes of them is the same. Assumes nothing.
 use mathlib.Core.Path.{_≡_, refl, sym, ap, ap₂, _∙_}
-use mathlib.Core.List.{List, [], _∷_, _++_, map}
+use mathlib.Core.List.{List, [], _∷_, _++_, map, map-append}
 use Prim.Native.Nat.{ℕ, zero, suc, _-_}
 use lib.ListN.{length, set, length-map, List·getD-map}
 use Rattle.sizes.specs.Sizes.{blockWidth}
@@ -16,10 +16,6 @@ use Rattle.history.specs.Queues.{Queues, queueAt, appended}
 use Rattle.history.specs.Model.{NamedSdu, namedSdu, namedBuilt}
 
 -- ---- lists
-
-map-append : {A B : Type 0} (f : A → B) (xs ys : List A) → map f (xs ++ ys) ≡ map f xs ++ map f ys
-map-append f [] ys = refl
-map-append f (x ∷ xs) ys = ap (λ l. f x ∷ l) (map-append f xs ys)
 
 map-set : {A B : Type 0} (f : A → B) (xs : List A) (i : ℕ) (a : A) → map f (set xs i a) ≡ set (map f xs) i (f a)
 map-set f [] i a = refl
