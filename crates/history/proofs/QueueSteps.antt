@@ -90,7 +90,7 @@ module _ (m : Memory) (b : Model) (k : SoundMemory m) (a : Same m b) where
 
   -- a call that changes nothing
   pub stays : Same m (counted b)
-  stays = record { uplink = record { valid = up .valid; now = up .now; markers = up .markers; matched = up .matched }; queues = a .queues }
+  stays = record { uplink = up; queues = a .queues }
 
   -- ---- an advance
 
@@ -124,9 +124,7 @@ module _ (m : Memory) (b : Model) (k : SoundMemory m) (a : Same m b) where
 
     -- with its cell, in the place behind its timeslot's records
     joins : (r : Record) (c : List ℕ) (y : NamedSdu) → length c ≡ cellOctets → reload sduBits (item r c) ≡ reload unnamed (item r y)
-        → Held
-        (queuesWith r (withCell (m .store) ns (t - 1) c))
-        (appended (b .queues) t (item r y))
+        → Held (queuesWith r (withCell (m .store) ns (t - 1) c)) (appended (b .queues) t (item r y))
     unfolding appended
     joins r c y l e =
         subst (λ (qs : Queues (List ℕ)). Held qs (appended (b .queues) t (item r y)))
