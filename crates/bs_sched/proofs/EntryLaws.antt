@@ -10,18 +10,19 @@ use Rattle.dl_record.specs.declared.Record.{Record}
 use Rattle.dl_queue.specs.Queue.{Item, recordsOf}
 use Rattle.dl_queue.proofs.SetLaws.{length-records}
 use Rattle.sched_core.specs.declared.Station.{Station}
-use Rattle.sched_core.specs.declared.Refusal.{Refusal}
+use Rattle.questions.specs.declared.Refusal.{Refusal}
 use Rattle.sched_core.specs.declared.BuildReply.{BuildReply}
 use Rattle.sched_core.specs.declared.BuildCoreAnswer.{BuildCoreAnswer}
-use Rattle.sched_core.specs.Questions.{Memory, memory, Question, question, ask, soundStation, buildQuestions}
+use Rattle.questions.specs.Questions.{Question, question, ask}
+use Rattle.sched_core.specs.Questions.{Memory, memory, memoryQuestions, buildLent}
 use Rattle.sched_core.specs.Calls.{Outcome, outcome, judged, BuildOutcome, notBuilt, current, buildsNow, builtNow, blockBuilt, BuildAnswered, buildCall}
-use Rattle.sched_core.proofs.AskLaws.{AllYes, ask-elim}
-use Rattle.sched_core.proofs.QuestionLaws.{lengths-right}
+use Rattle.questions.proofs.AskLaws.{AllYes, ask-elim}
 use Rattle.enqueue_core.specs.Plan.{SoundQueue, Planned}
+use Rattle.enqueue_core.proofs.PlanLaws.{Told, yes-told}
 use Rattle.bs_sched.specs.declared.Verdict.{Verdict}
 use Rattle.bs_sched.specs.declared.BuildAnswer.{BuildAnswer}
 use Rattle.bs_sched.specs.Queue.{first64, copied}
-use Rattle.bs_sched.specs.Entries.{memoryQuestions, buildAnswerOf, buildLeft, leftBy}
+use Rattle.bs_sched.specs.Entries.{buildAnswerOf, buildLeft, leftBy}
 use Rattle.bs_sched.proofs.QueueLaws.{first64-whole, copied-whole}
 
 module _ (q l z rs : List Record) (places : length q ≡ 64) (loaded : l ≡ first64 q) (saved : z ≡ copied rs 64 q) where
@@ -39,7 +40,7 @@ plan-stored call s before after {reply} {next} q z stored planned sound = ap (λ
 -- a build keeps the 64 places
 build-places : (m : Memory) (block : List ℕ) → length (m .records) ≡ 64 → length (buildCall m block .memory .records) ≡ 64
 unfolding buildCall
-build-places m block e = ask-elim (λ (o : BuildOutcome). length (o .memory .records) ≡ 64) (buildQuestions m block) _ _ (λ r. e) (λ yes. go (buildsNow (m .station)))
+build-places m block e = ask-elim (λ (o : BuildOutcome). length (o .memory .records) ≡ 64) (memoryQuestions m (buildLent block)) _ _ (λ r. e) (λ yes. go (buildsNow (m .station)))
   where
     left : List (Item (List ℕ))
     left = builtNow m .left
@@ -88,37 +89,31 @@ asked-yes (q ∷ qs) e = go (asked-yes qs) (q .holds) refl e
     go later false y h = let z : _≡_ {A = ℕ} 0 1 = cc in absurd (omega arith)
 
 -- what they tell then
-pub record Told (s : Station) (rs : List Record) (st : List ℕ) (lent : Bool) : Type 0 where
-  pub station : soundStation s ≡ true
-  pub lengths : lent ≡ true
-  pub queue : SoundQueue s rs st
-
 module _ (s : Station) (rs : List Record) (st : List ℕ) where
   pub told : (lent : Bool) {a : Verdict} → a ≡ ask (memoryQuestions (memory s rs st) (question lent Refusal.Lengths ∷ [])) Verdict.Passed Verdict.No → a ≡ Verdict.Passed → Told s rs st lent
-  told lent e passed =
-      let yes = asked-yes (memoryQuestions (memory s rs st) (question lent Refusal.Lengths ∷ [])) (sym passed ∙ e) in
-      let both = lengths-right (memory s rs st) (yes .1 .0) in
-      record { station = yes .0; lengths = yes .1 .1 .0; queue = record { places = both .0; cells = both .1; sound = yes .1 .1 .1 .0 } }
+  told lent e passed = yes-told s rs st lent (asked-yes (memoryQuestions (memory s rs st) (question lent Refusal.Lengths ∷ [])) (sym passed ∙ e))
 
   -- a call that queues refuses what they refuse
   pub plan-refused : {R : Type 0} (refuse : Refusal → R) (own : List Question) (done : Outcome R) {a : Verdict} {r : Refusal}
       → a ≡ ask (memoryQuestions (memory s rs st) (question true Refusal.Lengths ∷ [])) Verdict.Passed Verdict.No → a ≡ Verdict.No r
-      → outcome (refuse r) (memory s rs st) ≡ judged refuse (memory s rs st) (memoryQuestions (memory s rs st) [] ++ own) done
+      → outcome (refuse r) (memory s rs st) ≡ judged refuse (memory s rs st) own done
   unfolding ask
   plan-refused refuse own done e refused =
       let m = memory s rs st in
       asked-no done (λ r. outcome (refuse r) m) (memoryQuestions m (question true Refusal.Lengths ∷ [])) own (sym refused ∙ e)
 
   -- and so does a build
-  module _ (block : List ℕ) {a : Verdict} (e : a ≡ ask (buildQuestions (memory s rs st) block) Verdict.Passed Verdict.No) where
+  module _ (block : List ℕ) {a : Verdict} (e : a ≡ ask (memoryQuestions (memory s rs st) (buildLent block)) Verdict.Passed Verdict.No) where
     pub build-refused : {r : Refusal} → a ≡ Verdict.No r → buildLeft (buildAnswerOf (BuildReply.Refused r) [] s) rs st block ≡ leftBy (buildCall (memory s rs st) block)
     unfolding buildCall
-    build-refused refused = let m = memory s rs st in ap leftBy (asked-no _ (λ r. notBuilt (BuildReply.Refused r) m block) (buildQuestions m block) [] (sym refused ∙ e))
+    build-refused refused =
+        let m = memory s rs st in
+        ap leftBy (asked-no _ (λ r. notBuilt (BuildReply.Refused r) m block) (memoryQuestions m (buildLent block)) [] (sym refused ∙ e))
 
     -- every question is answered yes, and there is nothing to build
     pub build-nothing : a ≡ Verdict.Passed → buildsNow s ≡ false → buildLeft (buildAnswerOf BuildReply.NoBlock [] s) rs st block ≡ leftBy (buildCall (memory s rs st) block)
     unfolding buildCall ask
     build-nothing passed nothing =
         let m = memory s rs st in
-        let yes = asked-yes (buildQuestions m block) (sym passed ∙ e) in
+        let yes = asked-yes (memoryQuestions m (buildLent block)) (sym passed ∙ e) in
         ap leftBy (sym (rw (yes .0, yes .1 .0, yes .1 .1 .0, yes .1 .1 .1 .0, nothing)))

@@ -4,6 +4,7 @@ use mir.Syntax.{Ty}
 use denote.Slice.{sliceTy}
 use Rattle.bs_sched.proofs.BuildAnswer.Laws as BuildAnswer-laws
 use Rattle.bs_sched.proofs.Verdict.Laws as Verdict-laws
+use Rattle.questions.proofs.Refusal.Laws as questions-Refusal-laws
 use Rattle.optional.proofs.OptU8.Laws as optional-OptU8-laws
 use Rattle.optional.proofs.OptU16.Laws as optional-OptU16-laws
 use Rattle.optional.proofs.OptU32.Laws as optional-OptU32-laws
@@ -35,7 +36,6 @@ use Rattle.mac_reader.proofs.ReadOutcome.Laws as mac_reader-ReadOutcome-laws
 use Rattle.mac_reader.proofs.BlockHeaders.Laws as mac_reader-BlockHeaders-laws
 use Rattle.mac_reader.proofs.PduStep.Laws as mac_reader-PduStep-laws
 use Rattle.mac_writer.proofs.Piece.Laws as mac_writer-Piece-laws
-use Rattle.mac_writer.proofs.HeaderRefusal.Laws as mac_writer-HeaderRefusal-laws
 use Rattle.mac_writer.proofs.WriteReply.Laws as mac_writer-WriteReply-laws
 use Rattle.dl_record.proofs.Kind.Laws as dl_record-Kind-laws
 use Rattle.dl_record.proofs.QueuedHeader.Laws as dl_record-QueuedHeader-laws
@@ -47,7 +47,6 @@ use Rattle.bs_frag.proofs.Chunk.Laws as bs_frag-Chunk-laws
 use Rattle.dl_send.proofs.Progress.Laws as dl_send-Progress-laws
 use Rattle.dl_build.proofs.Built.Laws as dl_build-Built-laws
 use Rattle.sched_core.proofs.Station.Laws as sched_core-Station-laws
-use Rattle.sched_core.proofs.Refusal.Laws as sched_core-Refusal-laws
 use Rattle.sched_core.proofs.Reply.Laws as sched_core-Reply-laws
 use Rattle.sched_core.proofs.RequestReply.Laws as sched_core-RequestReply-laws
 use Rattle.sched_core.proofs.BuildReply.Laws as sched_core-BuildReply-laws
@@ -55,8 +54,6 @@ use Rattle.sched_core.proofs.OwnerReply.Laws as sched_core-OwnerReply-laws
 use Rattle.sched_core.proofs.UsageReply.Laws as sched_core-UsageReply-laws
 use Rattle.sched_core.proofs.Answer.Laws as sched_core-Answer-laws
 use Rattle.sched_core.proofs.RequestAnswer.Laws as sched_core-RequestAnswer-laws
-use Rattle.sched_core.proofs.CoreAnswer.Laws as sched_core-CoreAnswer-laws
-use Rattle.sched_core.proofs.RequestCoreAnswer.Laws as sched_core-RequestCoreAnswer-laws
 use Rattle.sched_core.proofs.BuildCoreAnswer.Laws as sched_core-BuildCoreAnswer-laws
 use Rattle.request_core.proofs.RequestPlan.Laws as request_core-RequestPlan-laws
 use Rattle.enqueue_core.proofs.QueuePlan.Laws as enqueue_core-QueuePlan-laws
@@ -69,6 +66,9 @@ BuildAnswer = BuildAnswer-laws.mir
 
 abbrev pub Verdict : Ty
 Verdict = Verdict-laws.mir
+
+abbrev pub questions-Refusal : Ty
+questions-Refusal = questions-Refusal-laws.mir
 
 abbrev pub optional-OptU8 : Ty
 optional-OptU8 = optional-OptU8-laws.mir
@@ -163,9 +163,6 @@ mac_reader-PduStep = mac_reader-PduStep-laws.mir
 abbrev pub mac_writer-Piece : Ty
 mac_writer-Piece = mac_writer-Piece-laws.mir
 
-abbrev pub mac_writer-HeaderRefusal : Ty
-mac_writer-HeaderRefusal = mac_writer-HeaderRefusal-laws.mir
-
 abbrev pub mac_writer-WriteReply : Ty
 mac_writer-WriteReply = mac_writer-WriteReply-laws.mir
 
@@ -199,9 +196,6 @@ dl_build-Built = dl_build-Built-laws.mir
 abbrev pub sched_core-Station : Ty
 sched_core-Station = sched_core-Station-laws.mir
 
-abbrev pub sched_core-Refusal : Ty
-sched_core-Refusal = sched_core-Refusal-laws.mir
-
 abbrev pub sched_core-Reply : Ty
 sched_core-Reply = sched_core-Reply-laws.mir
 
@@ -222,12 +216,6 @@ sched_core-Answer = sched_core-Answer-laws.mir
 
 abbrev pub sched_core-RequestAnswer : Ty
 sched_core-RequestAnswer = sched_core-RequestAnswer-laws.mir
-
-abbrev pub sched_core-CoreAnswer : Ty
-sched_core-CoreAnswer = sched_core-CoreAnswer-laws.mir
-
-abbrev pub sched_core-RequestCoreAnswer : Ty
-sched_core-RequestCoreAnswer = sched_core-RequestCoreAnswer-laws.mir
 
 abbrev pub sched_core-BuildCoreAnswer : Ty
 sched_core-BuildCoreAnswer = sched_core-BuildCoreAnswer-laws.mir

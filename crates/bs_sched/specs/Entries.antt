@@ -1,5 +1,5 @@
 -- What the entries answer and leave, as the outcomes of the calls. Assumes nothing.
-use mathlib.Core.List.{List, [], _∷_, _++_}
+use mathlib.Core.List.{List}
 use Prim.Native.Nat.{ℕ}
 use lib.ListN.{length}
 use Rattle.sizes.specs.Sizes.{perTimeslot}
@@ -7,13 +7,8 @@ use Rattle.dl_record.specs.declared.Record.{Record}
 use Rattle.dl_send.specs.Progress.{tagRow}
 use Rattle.sched_core.specs.declared.Station.{Station}
 use Rattle.sched_core.specs.declared.BuildReply.{BuildReply}
-use Rattle.sched_core.specs.Questions.{Memory, Question, isStationSound, areLengthsRight, isQueueSound}
 use Rattle.sched_core.specs.Calls.{BuildOutcome}
 use Rattle.bs_sched.specs.declared.BuildAnswer.{BuildAnswer}
-
--- the questions put first to each call over the queue: 1 for the state, 2 with the lengths of what else is lent, 1 for records and cells
-abbrev pub memoryQuestions : Memory → List Question → List Question
-memoryQuestions m lent = isStationSound (m .station) ∷ areLengthsRight m ∷ lent ++ (isQueueSound m ∷ [])
 
 -- "Tags of finished records come back in order": sixteen tags, zeros behind those that come back
 abbrev pub buildAnswerOf : BuildReply → List ℕ → Station → BuildAnswer

@@ -2,10 +2,10 @@
 use dl_record::QueuedHeader;
 use dl_record::Record;
 use optional::OptU16;
+use questions::Refusal;
 use sched_core::Answer;
 use sched_core::BuildReply;
 use sched_core::OwnerReply;
-use sched_core::Refusal;
 use sched_core::Reply;
 use sched_core::RequestAnswer;
 use sched_core::RequestReply;
@@ -19,12 +19,13 @@ ghost use mathlib.Core.List.{[], _∷_};
 ghost use lib.ListN.{set};
 ghost use Rattle.dl_record.specs.Record.{emptyRecord};
 ghost use Rattle.dl_queue.specs.Questions.{soundPlace};
-ghost use Rattle.sched_core.specs.declared.Refusal.{Refusal};
-ghost use Rattle.sched_core.specs.Questions.{memory, question, ask};
+ghost use Rattle.questions.specs.declared.Refusal.{Refusal};
+ghost use Rattle.questions.specs.Questions.{question, ask};
+ghost use Rattle.sched_core.specs.Questions.{memory, memoryQuestions};
 ghost use Rattle.sched_core.specs.Calls.{outcome, newCall, advanceCall, ownerCall, usageCall, requestCall, ackCall, tmaCall, buildCall};
 ghost use Rattle.bs_sched.specs.declared.Verdict.{Verdict};
 ghost use Rattle.bs_sched.specs.Queue.{first64, copied};
-ghost use Rattle.bs_sched.specs.Entries.{memoryQuestions, buildAnswerOf, buildLeft, leftBy};
+ghost use Rattle.bs_sched.specs.Entries.{buildAnswerOf, buildLeft, leftBy};
 
 // What a build answers: the reply, the tags of the records that are finished, and the station after the call.
 pub struct BuildAnswer {

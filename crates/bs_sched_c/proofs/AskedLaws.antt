@@ -8,21 +8,19 @@ use lib.Dec.{eqb}
 use lib.ListN.{length, replicate, set, take, drop}
 use lib.Seq.{sets, paste}
 use borrow.Author.Tests.{eq-eqb, ne-eqb, eqb-true}
-use Rattle.optional.proofs.Tests.{and-left, and-right}
 use Rattle.uplink.proofs.Basics.{not-both}
 use Rattle.dl_record.specs.declared.Record.{Record}
 use Rattle.dl_queue.specs.Questions.{soundQueue}
 use Rattle.sched_core.specs.declared.Station.{Station}
-use Rattle.sched_core.specs.declared.Refusal.{Refusal}
-use Rattle.sched_core.specs.Questions.{Question, question, refusalNumber, ask}
+use Rattle.questions.specs.declared.Refusal.{Refusal}
+use Rattle.questions.specs.Questions.{question, askedNumber}
+use Rattle.questions.proofs.NumberLaws.{number-yes}
+use Rattle.sched_core.specs.Questions.{memory, memoryQuestions}
 use Rattle.enqueue_core.specs.Plan.{SoundQueue}
+use Rattle.enqueue_core.proofs.PlanLaws.{Told, yes-told}
 use Rattle.sched_words.specs.Words.{sameWords, stationWords, stationRead, stationFrom, noStation, recordWords, queueWords, recordRead, recordsRead, noRecord, queueFrom, recordsFrom}
 use Rattle.sched_words.proofs.WordLaws.{length-parts}
 use Rattle.sched_words.proofs.WordsQueue.{sound-read, sound-words, set-words, pasted-words}
-use Rattle.bs_sched_c.specs.Asked.{queueQuestions, askedNumber}
-
-pub zero-not : {n : ℕ} → suc n ≡ 0 → ⊥
-zero-not e = omega (arith, e)
 
 -- ---- a queue of 1,472 words, and of others
 
@@ -61,36 +59,11 @@ four-counts ws = go (sameWords (stationWords (stationRead ws)) ws)
     go true = refl
     go false = refl
 
--- ---- the number of the first no
-
--- what holds of each refusal and its number holds of a call that asks these questions first
-module _ {A : Type 0} (P : ℕ → A → Type 0) (done : A) (refused : Refusal → A) (each : (r : Refusal) → (refusalNumber r ≡ 0 → ⊥) → P (refusalNumber r) (refused r)) where
-  pub asked-no : (qs rest : List Question) → (askedNumber qs ≡ 0 → ⊥) → P (askedNumber qs) (ask (qs ++ rest) done refused)
-  unfolding ask
-  asked-no [] rest h = absurd (h refl)
-  asked-no (q ∷ qs) rest h = go (asked-no qs rest) (q .holds) h
-    where
-      go : ((askedNumber qs ≡ 0 → ⊥) → P (askedNumber qs) (ask (qs ++ rest) done refused)) → (b : Bool) → (cond b (askedNumber qs) (refusalNumber (q .refusal)) ≡ 0 → ⊥)
-          → P (cond b (askedNumber qs) (refusalNumber (q .refusal))) (cond b (ask (qs ++ rest) done refused) (refused (q .refusal)))
-      go later true k = later k
-      go later false k = each (q .refusal) k
-
-both-yes : (a b : Bool) → askedNumber (question a Refusal.Lengths ∷ question b Refusal.Unsound ∷ []) ≡ 0 → (a ≡ true) × (b ≡ true)
-unfolding ask
-both-yes true true h = (refl, refl)
-both-yes true false h = absurd (zero-not h)
-both-yes false b h = absurd (zero-not h)
-
--- no no: queue and store are sound
-pub asked-yes : (s : Station) (qs st : List ℕ) (n : ℕ) → n ≡ askedNumber (queueQuestions (s .queued) (recordsFrom qs) st) → n ≡ 0 → SoundQueue s (recordsFrom qs) st
-asked-yes s qs st n e z =
-    let lengths : Bool = eqb (length (recordsFrom qs)) 64 in
-    let both = both-yes (lengths && eqb (length st) 16384) (soundQueue (s .queued) (recordsFrom qs) st) (sym e ∙ z) in
-    record {
-      places = eqb-true _ _ (and-left lengths (eqb (length st) 16384) (both .0));
-      cells = eqb-true _ _ (and-right lengths (eqb (length st) 16384) (both .0));
-      sound = both .1;
-    }
+-- no no: the station is sound, and so are queue and store
+pub asked-yes : (s : Station) (qs st : List ℕ) (lent : Bool) (n : ℕ)
+    → n ≡ askedNumber (memoryQuestions (memory s (recordsFrom qs) st) (question lent Refusal.Lengths ∷ [])) → n ≡ 0 → Told s (recordsFrom qs) st lent
+asked-yes s qs st lent n e z =
+    yes-told s (recordsFrom qs) st lent (number-yes (memoryQuestions (memory s (recordsFrom qs) st) (question lent Refusal.Lengths ∷ [])) (sym e ∙ z))
 
 -- ---- the words of a sound queue
 

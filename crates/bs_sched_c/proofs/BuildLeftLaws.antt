@@ -1,12 +1,13 @@
 -- What the export of a build leaves, exit by exit. Assumes nothing.
 use mathlib.Core.Path.{_≡_, refl, sym, ap, ap₂, _∙_}
-use mathlib.Core.Bool.{Bool, true, false, cond}
-use mathlib.Core.List.{List, [], _∷_, _++_}
+use mathlib.Core.Bool.{true, false, cond}
+use mathlib.Core.List.{List, []}
 use Prim.Native.Nat.{ℕ, _-_, _*_}
 use native.Mathlib.Omega.{arith}
 use lib.ListN.{length, take, drop}
 use lib.Seq.{sets}
 use borrow.Author.Tests.{eq-eqb, ne-eqb}
+use Rattle.sizes.specs.Sizes.{blockOctets}
 use Rattle.tdma_time.specs.Time.{slotOf, timeslot}
 use Rattle.tdma_time.proofs.TimeLaws.{slotOf-timeslot}
 use Rattle.dl_record.specs.declared.Record.{Record}
@@ -14,10 +15,12 @@ use Rattle.dl_queue.specs.Queue.{recordsOf}
 use Rattle.dl_queue.proofs.SetLaws.{length-records}
 use Rattle.dl_send.specs.Progress.{tagRow}
 use Rattle.sched_core.specs.declared.Station.{Station}
-use Rattle.sched_core.specs.declared.Refusal.{Refusal}
+use Rattle.questions.specs.declared.Refusal.{Refusal}
 use Rattle.sched_core.specs.declared.BuildReply.{BuildReply}
 use Rattle.sched_core.specs.declared.BuildCoreAnswer.{BuildCoreAnswer}
-use Rattle.sched_core.specs.Questions.{Memory, memory, Question, soundStation, isStationSound, areLengthsRight, isBlockLengthRight, isQueueSound, buildQuestions, refusalNumber, ask}
+use Rattle.questions.specs.Questions.{refusalNumber, askedNumber}
+use Rattle.questions.proofs.NumberLaws.{number-positive, number-no}
+use Rattle.sched_core.specs.Questions.{Memory, memory, soundStation, memoryQuestions, buildLent}
 use Rattle.sched_core.specs.Calls.{BuildOutcome, BuildAnswered, current, buildsNow, builtNow, blockBuilt, buildCall}
 use Rattle.sched_core.specs.Calls.{notBuilt as nothing}
 use Rattle.sched_core.proofs.StationLaws.{sound-parts}
@@ -26,9 +29,8 @@ use Rattle.build_core.proofs.BuildCallLaws.{all-yes}
 use Rattle.sched_words.specs.Words.{stationWords, stationFrom, queueWords, recordsRead, recordsFrom}
 use Rattle.sched_words.proofs.RoundTrip.{station-words-back}
 use Rattle.bs_sched_c.specs.declared.reply.BsSchedBuilt.{BsSchedBuilt}
-use Rattle.bs_sched_c.specs.Asked.{queueQuestions, askedNumber}
 use Rattle.bs_sched_c.specs.Exports.{if228, memoryFrom, notBuilt, BuildLeft, buildLeft, buildLeftBy}
-use Rattle.bs_sched_c.proofs.AskedLaws.{zero-not, asked-no, as-read, words-back, sixteen-stored}
+use Rattle.bs_sched_c.proofs.AskedLaws.{as-read, words-back, sixteen-stored}
 use Rattle.bs_sched_c.proofs.LeftLaws.{is-228}
 
 -- a station of 228 words, which is that of s
@@ -43,40 +45,23 @@ module _ (ws qs st block : List ℕ) (w228 : length ws ≡ 228) (s : Station) (e
   abbrev promised : BuildLeft
   promised = if228 ws (buildLeftBy ws qs st block (buildCall m block)) other
 
-  refused-left : (r : Refusal) → (refusalNumber r ≡ 0 → ⊥) → buildLeft (notBuilt (refusalNumber r)) ws qs st block ≡ buildLeftBy ws qs st block (nothing (BuildReply.Refused r) m block)
+  refused-left : (r : Refusal) → buildLeft (notBuilt (refusalNumber r)) ws qs st block ≡ buildLeftBy ws qs st block (nothing (BuildReply.Refused r) m block)
   unfolding tagRow
-  refused-left r h = rw (ne-eqb _ _ h)
+  refused-left r = rw (ne-eqb (refusalNumber r) 0 (λ z. omega (arith, z, number-positive r)))
 
   -- a no to one of the questions
-  exit-no : (q more : List Question) (done : BuildOutcome) (n : ℕ) → askedNumber q ≡ n → (n ≡ 0 → ⊥) → (x : BsSchedBuilt) → x ≡ notBuilt n
-      → buildLeft x ws qs st block ≡ if228 ws (buildLeftBy ws qs st block (ask (q ++ more) done (λ r. nothing (BuildReply.Refused r) m block))) other
-  exit-no q more done n e h x ex =
-      ap (λ (y : BsSchedBuilt). buildLeft y ws qs st block) (ex ∙ ap notBuilt (sym e))
+  pub build-no : (n : ℕ) → n ≡ askedNumber (memoryQuestions (memory s (recordsFrom qs) st) (buildLent block)) → (n ≡ 0 → ⊥)
+      → (x : BsSchedBuilt) → x ≡ notBuilt n → buildLeft x ws qs st block ≡ promised
+  unfolding buildCall
+  build-no n en h x ex =
+      let e : n ≡ askedNumber (memoryQuestions m (buildLent block)) = en ∙ ap (λ (y : Station). askedNumber (memoryQuestions (memory y (recordsFrom qs) st) (buildLent block))) es in
+      ap (λ (y : BsSchedBuilt). buildLeft y ws qs st block) (ex ∙ ap notBuilt e)
       ∙ is-228 ws other w228
-      (asked-no (λ (i : ℕ) (o : BuildOutcome). buildLeft (notBuilt i) ws qs st block ≡ buildLeftBy ws qs st block o) done (λ r. nothing (BuildReply.Refused r) m block)
-      refused-left q more (λ z. h (sym e ∙ z)))
-
-  pub build-station : soundStation s ≡ false → (x : BsSchedBuilt) → x ≡ notBuilt 1 → buildLeft x ws qs st block ≡ promised
-  unfolding ask buildCall
-  build-station bad x ex = exit-no (isStationSound (stationFrom ws) ∷ []) (areLengthsRight m ∷ isBlockLengthRight block ∷ isQueueSound m ∷ []) _ 1 (rw (sym es, bad)) zero-not x ex
+      (number-no (λ (i : ℕ) (o : BuildOutcome). buildLeft (notBuilt i) ws qs st block ≡ buildLeftBy ws qs st block o) _ (λ r. nothing (BuildReply.Refused r) m block)
+      refused-left (memoryQuestions m (buildLent block)) [] (λ z. h (e ∙ z)))
 
   module _ (good : soundStation s ≡ true) where
-    -- question 2 is answered no whatever the lengths of queue and store
-    pub build-block : (length block ≡ 34 → ⊥) → (x : BsSchedBuilt) → x ≡ notBuilt 2 → buildLeft x ws qs st block ≡ promised
-    unfolding ask buildCall
-    build-block other-size x ex =
-        exit-no (isStationSound (stationFrom ws) ∷ areLengthsRight m ∷ isBlockLengthRight block ∷ []) (isQueueSound m ∷ []) _ 2 (rw (sym es, good, ne-eqb _ _ other-size) (either (areLengthsRight m .holds))) zero-not x ex
-      where
-        either : (b : Bool) → _≡_ {A = ℕ} (cond b 2 2) 2
-        either true = refl
-        either false = refl
-
-    module _ (b34 : length block ≡ 34) where
-      pub build-queue : (n : ℕ) → n ≡ askedNumber (queueQuestions (s .queued) (recordsFrom qs) st) → (n ≡ 0 → ⊥) → (x : BsSchedBuilt) → x ≡ notBuilt n
-          → buildLeft x ws qs st block ≡ promised
-      unfolding ask buildCall
-      build-queue n en h x ex = exit-no (buildQuestions m block) [] _ n (rw (sym es, good, eq-eqb _ _ b34, en)) h x ex
-
+    module _ (b34 : length block ≡ blockOctets) where
       -- every question is answered yes
       module _ (queue : SoundQueue s (recordsFrom qs) st) where
         abbrev here : Memory

@@ -1,7 +1,7 @@
 -- What an export leaves, exit by exit. Assumes nothing.
 use mathlib.Core.Path.{_≡_, refl, sym, ap, _∙_}
-use mathlib.Core.Bool.{true, false}
-use mathlib.Core.List.{List, [], _∷_, _++_}
+use mathlib.Core.Bool.{true}
+use mathlib.Core.List.{List, [], _∷_}
 use Prim.Native.Nat.{ℕ, zero, suc, _*_, _≤_}
 use native.Mathlib.Omega.{arith}
 use lib.ListN.{length, set}
@@ -9,19 +9,19 @@ use lib.Seq.{sets}
 use borrow.Author.Tests.{eq-eqb, ne-eqb}
 use Rattle.dl_record.specs.declared.Record.{Record}
 use Rattle.sched_core.specs.declared.Station.{Station}
-use Rattle.sched_core.specs.declared.Refusal.{Refusal}
+use Rattle.questions.specs.declared.Refusal.{Refusal}
 use Rattle.sched_core.specs.declared.Reply.{Reply}
 use Rattle.sched_core.specs.declared.RequestReply.{RequestReply}
 use Rattle.sched_core.specs.declared.Answer.{Answer}
-use Rattle.sched_core.specs.Questions.{Memory, memory, Question, soundStation, isStationSound, areLengthsRight, isQueueSound, refusalNumber, ask}
+use Rattle.questions.specs.Questions.{Question, question, refusalNumber, ask, askedNumber}
+use Rattle.questions.proofs.NumberLaws.{number-positive, number-no}
+use Rattle.sched_core.specs.Questions.{Memory, memory, memoryQuestions}
 use Rattle.sched_core.specs.Calls.{Outcome, outcome, judged, replyNumber, requestNumber}
 use Rattle.enqueue_core.specs.Plan.{SoundQueue, Planned}
-use Rattle.enqueue_core.proofs.PlanLaws.{first}
 use Rattle.sched_words.specs.Words.{stationWords, stationFrom, recordWords, recordsFrom}
 use Rattle.bs_sched_c.specs.declared.reply.BsSchedGrant.{BsSchedGrant}
-use Rattle.bs_sched_c.specs.Asked.{queueQuestions, askedNumber}
 use Rattle.bs_sched_c.specs.Exports.{if228, stationLeft, answered, Left, left, memoryFrom, leftBy, notGranted, grantOf}
-use Rattle.bs_sched_c.proofs.AskedLaws.{zero-not, asked-no, record-stored}
+use Rattle.bs_sched_c.proofs.AskedLaws.{record-stored}
 
 -- a station of 228 words
 pub is-228 : {A : Type 0} (ws : List ℕ) {a done : A} (refused : A) → length ws ≡ 228 → a ≡ done → a ≡ if228 ws done refused
@@ -77,25 +77,20 @@ module _ {A R : Type 0} (k : Replies A R) (ws qs st : List ℕ) (w228 : length w
   refused-left : (a : A) (m' : Memory) (o : Outcome A) → outcome a m' ≡ o → (k .number a ≡ 0 → ⊥) → left (k .reply a) ws qs st ≡ leftBy (k .number) (k .reply) ws qs st o
   refused-left a m' o e h = rw (sym e, ne-eqb _ _ h)
 
-  module _ (rest : List Question) (done : Outcome A) where
-    -- a no to one of the first questions
-    exit-no : (q more : List Question) (n : ℕ) → askedNumber q ≡ n → (n ≡ 0 → ⊥) → (x : R) → x ≡ k .numbered n → left x ws qs st ≡ promised (judged (k .refuse) m (q ++ more) done)
-    exit-no q more n e h x ex =
-        ap (λ (y : R). left y ws qs st) (ex ∙ ap (k .numbered) (sym e))
-        ∙ is-228 ws other w228
-        (asked-no (λ (i : ℕ) (o : Outcome A). left (k .numbered i) ws qs st ≡ leftBy (k .number) (k .reply) ws qs st o) done (λ r. outcome (k .refuse r) m)
-        (λ r z. ap (λ (y : R). left y ws qs st) (k .told r) ∙ refused-left (k .refuse r) m _ refl (λ f. z (sym (k .refusal r) ∙ f))) q more (λ z. h (sym e ∙ z)))
+  -- a no to one of the first questions
+  pub exit-no : (own : List Question) (done : Outcome A) (n : ℕ)
+      → n ≡ askedNumber (memoryQuestions (memory s (recordsFrom qs) st) (question true Refusal.Lengths ∷ [])) → (n ≡ 0 → ⊥)
+      → (x : R) → x ≡ k .numbered n → left x ws qs st ≡ promised (judged (k .refuse) m own done)
+  unfolding ask
+  exit-no own done n en h x ex =
+      let e : n ≡ askedNumber (memoryQuestions m []) = en ∙ ap (λ (y : Station). askedNumber (memoryQuestions (memory y (recordsFrom qs) st) [])) es in
+      ap (λ (y : R). left y ws qs st) (ex ∙ ap (k .numbered) e)
+      ∙ is-228 ws other w228
+      (number-no (λ (i : ℕ) (o : Outcome A). left (k .numbered i) ws qs st ≡ leftBy (k .number) (k .reply) ws qs st o) done (λ r. outcome (k .refuse r) m)
+      (λ r. ap (λ (y : R). left y ws qs st) (k .told r) ∙ refused-left (k .refuse r) m _ refl (λ z. omega (arith, z, k .refusal r, number-positive r)))
+      (memoryQuestions m []) own (λ z. h (e ∙ z)))
 
-    pub exit-station : soundStation s ≡ false → (x : R) → x ≡ k .numbered 1 → left x ws qs st ≡ promised (judged (k .refuse) m (first m rest) done)
-    unfolding ask
-    exit-station bad x ex = exit-no (isStationSound (stationFrom ws) ∷ []) (areLengthsRight m ∷ isQueueSound m ∷ rest) 1 (rw (sym es, bad)) zero-not x ex
-
-    pub exit-queue : soundStation s ≡ true → (n : ℕ) → n ≡ askedNumber (queueQuestions (s .queued) (recordsFrom qs) st) → (n ≡ 0 → ⊥) → (x : R) → x ≡ k .numbered n
-        → left x ws qs st ≡ promised (judged (k .refuse) m (first m rest) done)
-    unfolding ask
-    exit-queue good n en h x ex = exit-no (first m []) rest n (rw (sym es, good, en)) h x ex
-
-  -- every question of the queue's is answered yes: there is a plan
+  -- every one of them is answered yes: there is a plan
   module _ (queue : SoundQueue s (recordsFrom qs) st) (call : Memory → Outcome A) (st' : List ℕ) (a : A) (s' : Station) (place : ℕ) (r : Record)
       (plan : Planned (k .number) call s st st' a s' place r) (n : ℕ) (en : n ≡ k .number a) (x : R) (ex : x ≡ k .reply a) where
     called : outcome a (memory s' (set (recordsFrom qs) place r) st') ≡ call m

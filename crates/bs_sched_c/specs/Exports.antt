@@ -13,7 +13,8 @@ use Rattle.sched_core.specs.declared.RequestReply.{RequestReply}
 use Rattle.sched_core.specs.declared.BuildReply.{BuildReply}
 use Rattle.sched_core.specs.declared.OwnerReply.{OwnerReply}
 use Rattle.sched_core.specs.declared.UsageReply.{UsageReply}
-use Rattle.sched_core.specs.Questions.{Memory, memory, refusalNumber}
+use Rattle.questions.specs.Questions.{refusalNumber}
+use Rattle.sched_core.specs.Questions.{Memory, memory}
 use Rattle.sched_core.specs.Calls.{Outcome, BuildOutcome, replyNumber, requestNumber, buildNumber, ownerNumber, newCall, advanceCall, ownerCall, usageCall, requestCall, ackCall, tmaCall, buildCall}
 use Rattle.sched_words.specs.Words.{wordOf32, stationWords, stationFrom, queueWords, recordsFrom, recordFrom}
 use Rattle.bs_sched_c.specs.declared.reply.BsSchedGrant.{BsSchedGrant}

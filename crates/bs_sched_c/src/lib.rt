@@ -6,11 +6,16 @@ use crate::reply::BsSchedBuilt;
 use crate::reply::BsSchedGrant;
 use crate::reply::BsSchedOwners;
 use crate::reply::BsSchedUsage;
+use questions::Refusal;
+use sched_core::Station;
 use tdma_time::TdmaTime;
 use uplink::PhyBlockNum;
 ghost use mathlib.Core.Path.{_≡_};
+ghost use mathlib.Core.List.{[], _∷_};
+ghost use Rattle.questions.specs.declared.Refusal.{Refusal};
+ghost use Rattle.questions.specs.Questions.{question, askedNumber};
+ghost use Rattle.sched_core.specs.Questions.{memory, memoryQuestions};
 ghost use Rattle.sched_words.specs.Words.{recordsFrom};
-ghost use Rattle.bs_sched_c.specs.Asked.{queueQuestions, askedNumber};
 ghost use Rattle.bs_sched_c.specs.Exports.{timeAt, stationLeft, newLeft, advanceLeft, ownerAnswer, usageReply, left, requestLeft, ackLeft, enqueueLeft, buildLeft, builtLeft};
 
 fn time_at(h: u16, m: u8, f: u8, t: u8) -> TdmaTime
@@ -108,18 +113,27 @@ pub extern "C" fn bs_sched_usage(station: &[u32], h: u16, m: u8, f: u8, t: u8) -
     reply::usage_of(found)
 }
 
-// Question 2, and question 1 for records and cells: the number of the first no, 0 for none.
-fn queue_number(queued: [u8; 4], queue: &[u32], store: &[u8]) -> u8
-    ensures { λ n. ⌜ n ≡ askedNumber (queueQuestions queued (recordsFrom (now (queue .entry))) (now (store .entry))) ⌝ }
+// Questions 1 and 2 over the station, the words of the queue and the store: the number of the first no, 0 for none. `lent` says whether
+// what else is lent has its length.
+fn memory_number(s: Station, queue: &[u32], store: &[u8], lent: bool) -> u8
+    ensures { λ n. ⌜ n ≡ askedNumber (memoryQuestions (memory s (recordsFrom (now (queue .entry))) (now (store .entry)))
+        (question lent Refusal.Lengths ∷ [])) ⌝ }
 {
+    if !sched_core::station_is_sound(s) {
+        return questions::number(Refusal::Unsound);
+    }
     if queue.len() != 1472 {
-        return 2;
+        return questions::number(Refusal::Lengths);
     }
-    if store.len() != 16384 {
-        return 2;
+    if store.len() != sizes::STORE_OCTETS {
+        return questions::number(Refusal::Lengths);
     }
+    if !lent {
+        return questions::number(Refusal::Lengths);
+    }
+    let queued = s.queued;
     if !sched_words::queue::queue_is_sound(queued, queue, store) {
-        return 1;
+        return questions::number(Refusal::Unsound);
     }
     0
 }
@@ -135,17 +149,14 @@ pub extern "C" fn bs_sched_request(
     kind: u8,
     number: u32,
 ) -> BsSchedGrant
-    ensures { λ r. ⌜ left r (now (station .exit)) (now (queue .exit)) (now (store .entry)) ≡ requestLeft (now (station .entry)) (now (queue .entry)) (now (store .entry)) timeslot code kind number ⌝ }
+    ensures { λ r. ⌜ left r (now (station .exit)) (now (queue .exit)) (now (store .entry)) ≡ requestLeft (now (station .entry))
+        (now (queue .entry)) (now (store .entry)) timeslot code kind number ⌝ }
 {
     if station.len() != 228 {
         return reply::not_granted(2);
     }
     let s = sched_words::station::station_from(station);
-    if !sched_core::station_is_sound(s) {
-        return reply::not_granted(1);
-    }
-    let queued = s.queued;
-    let no = queue_number(queued, queue, store);
+    let no = memory_number(s, queue, store, true);
     if no != 0 {
         return reply::not_granted(no);
     }
@@ -172,17 +183,14 @@ pub extern "C" fn bs_sched_enqueue_ack(
     kind: u8,
     number: u32,
 ) -> u8
-    ensures { λ r. ⌜ left r (now (station .exit)) (now (queue .exit)) (now (store .entry)) ≡ ackLeft (now (station .entry)) (now (queue .entry)) (now (store .entry)) timeslot kind number ⌝ }
+    ensures { λ r. ⌜ left r (now (station .exit)) (now (queue .exit)) (now (store .entry)) ≡ ackLeft (now (station .entry))
+        (now (queue .entry)) (now (store .entry)) timeslot kind number ⌝ }
 {
     if station.len() != 228 {
         return 2;
     }
     let s = sched_words::station::station_from(station);
-    if !sched_core::station_is_sound(s) {
-        return 1;
-    }
-    let queued = s.queued;
-    let no = queue_number(queued, queue, store);
+    let no = memory_number(s, queue, store, true);
     if no != 0 {
         return no;
     }
@@ -209,7 +217,8 @@ pub extern "C" fn bs_sched_enqueue(
     offered: &[u32],
     sdu: &[u8],
 ) -> u8
-    ensures { λ r. ⌜ left r (now (station .exit)) (now (queue .exit)) (now (store .exit)) ≡ enqueueLeft (now (station .entry)) (now (queue .entry)) (now (store .entry)) timeslot (now (offered .entry)) (now (sdu .entry)) ⌝ }
+    ensures { λ r. ⌜ left r (now (station .exit)) (now (queue .exit)) (now (store .exit)) ≡ enqueueLeft (now (station .entry))
+        (now (queue .entry)) (now (store .entry)) timeslot (now (offered .entry)) (now (sdu .entry)) ⌝ }
 {
     if station.len() != 228 {
         return 2;
@@ -218,11 +227,7 @@ pub extern "C" fn bs_sched_enqueue(
         return 2;
     }
     let s = sched_words::station::station_from(station);
-    if !sched_core::station_is_sound(s) {
-        return 1;
-    }
-    let queued = s.queued;
-    let no = queue_number(queued, queue, store);
+    let no = memory_number(s, queue, store, true);
     if no != 0 {
         return no;
     }
@@ -263,21 +268,14 @@ pub extern "C" fn bs_sched_build(
     store: &mut [u8],
     block: &mut [u8],
 ) -> BsSchedBuilt
-    ensures { λ r. ⌜ buildLeft r (now (station .exit)) (now (queue .exit)) (now (store .exit)) (now (block .exit)) ≡ builtLeft (now (station .entry)) (now (queue .entry)) (now (store .entry)) (now (block .entry)) ⌝ }
+    ensures { λ r. ⌜ buildLeft r (now (station .exit)) (now (queue .exit)) (now (store .exit)) (now (block .exit)) ≡ builtLeft (now (station .entry))
+        (now (queue .entry)) (now (store .entry)) (now (block .entry)) ⌝ }
 {
     if station.len() != 228 {
         return reply::not_built(2);
     }
     let s = sched_words::station::station_from(station);
-    if !sched_core::station_is_sound(s) {
-        return reply::not_built(1);
-    }
-    // a block of another length is a no to question 2, like a queue or a store
-    if block.len() != 34 {
-        return reply::not_built(2);
-    }
-    let queued = s.queued;
-    let no = queue_number(queued, queue, store);
+    let no = memory_number(s, queue, store, block.len() == sizes::BLOCK_OCTETS);
     if no != 0 {
         return reply::not_built(no);
     }

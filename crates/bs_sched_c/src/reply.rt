@@ -1,14 +1,12 @@
 // The replies of the exported functions, and how the scheduler's replies become them.
 use optional::OptU8;
 use sched_core::OwnerReply;
-use sched_core::Refusal;
 use sched_core::Reply;
 use sched_core::RequestReply;
 use sched_core::UsageReply;
 use uplink::AccessAssignUlUsage;
 ghost use mathlib.Core.Path.{_≡_};
 ghost use Rattle.uplink.specs.UplinkEntry.{usageNumber, usageMarker, markerOrZero};
-ghost use Rattle.sched_core.specs.Questions.{refusalNumber};
 ghost use Rattle.sched_core.specs.Calls.{replyNumber, ownerNumber};
 ghost use Rattle.bs_sched_c.specs.Exports.{notGranted, grantOf, notBuilt, ownerWord, usageAnswer, usageOf};
 
@@ -47,29 +45,12 @@ pub struct BsSchedUsage {
     pub usage_marker: u8,
 }
 
-fn refusal_number(r: Refusal) -> u8
-    ensures { λ n. ⌜ n ≡ refusalNumber r ⌝ }
-{
-    match r {
-        Refusal::Unsound => 1,
-        Refusal::Lengths => 2,
-        Refusal::Timeslot => 3,
-        Refusal::Requirement => 4,
-        Refusal::Address => 5,
-        Refusal::Header => 6,
-        Refusal::Sdu => 7,
-        Refusal::QueueFull => 8,
-        Refusal::NoRun => 9,
-        Refusal::TooLate => 10,
-    }
-}
-
 pub fn reply_number(r: Reply) -> u8
     ensures { λ n. ⌜ n ≡ replyNumber r ⌝ }
 {
     match r {
         Reply::Done => 0,
-        Reply::Refused(q) => refusal_number(q),
+        Reply::Refused(q) => questions::number(q),
     }
 }
 
@@ -105,7 +86,7 @@ pub fn grant_of(r: RequestReply) -> BsSchedGrant
             delay,
             usage_marker,
         } => granted(capacity, delay, usage_marker),
-        RequestReply::Refused(q) => not_granted(refusal_number(q)),
+        RequestReply::Refused(q) => not_granted(questions::number(q)),
     }
 }
 
@@ -125,7 +106,7 @@ pub fn owner_number(r: OwnerReply) -> u8
 {
     match r {
         OwnerReply::Owner(_) => 0,
-        OwnerReply::Refused(q) => refusal_number(q),
+        OwnerReply::Refused(q) => questions::number(q),
     }
 }
 
@@ -164,6 +145,6 @@ pub fn usage_of(r: UsageReply) -> BsSchedUsage
 {
     match r {
         UsageReply::Usage(u) => usage_found(u),
-        UsageReply::Refused(q) => usage_answer(refusal_number(q), 0, 0),
+        UsageReply::Refused(q) => usage_answer(questions::number(q), 0, 0),
     }
 }

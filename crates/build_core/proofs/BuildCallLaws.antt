@@ -16,9 +16,9 @@ use Rattle.sched_core.specs.declared.Station.{Station}
 use Rattle.sched_core.specs.declared.BuildReply.{BuildReply}
 use Rattle.sched_core.specs.declared.BuildCoreAnswer.{BuildCoreAnswer}
 use Rattle.sched_core.specs.Station.{withQueued}
-use Rattle.sched_core.specs.Questions.{Memory, soundStation, buildQuestions}
+use Rattle.sched_core.specs.Questions.{Memory, soundStation, memoryQuestions, buildLent}
 use Rattle.sched_core.specs.Calls.{notBuilt, current, buildsNow, builtNow, blockBuilt, buildCall, BuildAnswered}
-use Rattle.sched_core.proofs.AskLaws.{FirstYes, every-yes}
+use Rattle.questions.proofs.AskLaws.{FirstYes, every-yes}
 use Rattle.sched_core.proofs.QuestionLaws.{right-lengths}
 
 -- frame and timeslot as the time shows them
@@ -39,13 +39,13 @@ nothing-answered r m block =
     record { answer = ap (λ (ts : List ℕ). record { reply = r; tags = ts; «tag_count» = 0; station = m .station; records = m .records }) no-tags; store = refl; block = refl }
 
 module _ (m : Memory) (block : List ℕ) (sound : soundStation (m .station) ≡ true) (places : length (m .records) ≡ 64) (cells : length (m .store) ≡ 16384) (size : length block ≡ 34) where
-  first : FirstYes 3 (buildQuestions m block)
+  first : FirstYes 3 (memoryQuestions m (buildLent block))
   first = (((tt, sound), right-lengths m places cells), eq-eqb _ _ size)
 
   module _ (queue : soundQueue (m .station .queued) (m .records) (m .store) ≡ true) where
     pub all-yes : cond (buildsNow (m .station)) (blockBuilt m (current (m .station)) (builtNow m)) (notBuilt BuildReply.NoBlock m block) ≡ buildCall m block
     unfolding buildCall
-    all-yes = every-yes _ _ (buildQuestions m block) (first, queue)
+    all-yes = every-yes _ _ (memoryQuestions m (buildLent block)) (first, queue)
 
     pub none-answered : (a : BuildCoreAnswer) → buildsNow (m .station) ≡ false → a ≡ nothing BuildReply.NoBlock m → BuildAnswered (buildCall m block) a (m .store) block
     none-answered a idle e = rw e (subst (λ o. BuildAnswered o (nothing BuildReply.NoBlock m) (m .store) block) (rw idle at all-yes) (nothing-answered BuildReply.NoBlock m block))

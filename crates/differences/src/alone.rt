@@ -14,7 +14,7 @@ fn written(text: &[u8], h: MacResource) {
     let reply = lone_writer::write_header(&mut s, 0, h);
     show::word(text);
     match reply {
-        WriteReply::Refused(r) => show::number(lone_writer::refusal_number(r) as u64),
+        WriteReply::Refused(r) => show::number(questions::number(r) as u64),
         WriteReply::Next(_) => show::number(0),
     }
     if check::same(&s, &before) {

@@ -3,7 +3,7 @@
 use dl_record::QueuedHeader;
 use dl_record::Record;
 use optional::OptU16;
-use sched_core::Refusal;
+use questions::Refusal;
 use sched_core::Reply;
 use sched_core::Station;
 ghost use mathlib.Core.Path.{_≡_};
@@ -11,16 +11,17 @@ ghost use mathlib.Core.Bool.{true};
 ghost use mathlib.Core.List.{List};
 ghost use Prim.Native.Nat.{ℕ, _-_, _≤_, _<_};
 ghost use lib.ListN.{length, getD};
+ghost use Rattle.sizes.specs.Sizes.{timeslots, perTimeslot, queuePlaces, storeOctets};
+ghost use Rattle.questions.specs.declared.Refusal.{Refusal};
 ghost use Rattle.dl_queue.specs.Queue.{nextPlace};
-ghost use Rattle.sched_core.specs.declared.Refusal.{Refusal};
 ghost use Rattle.sched_core.specs.declared.Reply.{Reply};
 ghost use Rattle.sched_core.specs.Questions.{soundStation};
 ghost use Rattle.sched_core.specs.Calls.{ackCall, tmaCall};
 ghost use Rattle.sched_core.specs.Invariant.{oneMore};
 ghost use Rattle.enqueue_core.specs.Plan.{refusedPlan, joinedPlan, QueuePlanned};
 
-// The reply, the station after the call, and the record that joins the queue with its place; where none joins, the place is 64, past
-// the queue, and the record the empty one.
+// The reply, the station after the call, and the record that joins the queue with its place; where none joins, the place is past the
+// queue, and the record the empty one.
 pub struct QueuePlan {
     pub reply: Reply,
     pub station: Station,
@@ -30,16 +31,16 @@ pub struct QueuePlan {
 
 // The place behind those queued for a timeslot.
 pub fn next_place(queued: [u8; 4], timeslot: u8) -> usize
-    requires { ⌜ (1 ≤ timeslot) × (timeslot ≤ 4) × (getD queued (timeslot - 1) 0 < 16) ⌝ }
-    ensures { λ r. ⌜ (r ≡ nextPlace queued (timeslot - 1)) × (r < 64) ⌝ }
+    requires { ⌜ (1 ≤ timeslot) × (timeslot ≤ timeslots) × (getD queued (timeslot - 1) 0 < perTimeslot) ⌝ }
+    ensures { λ r. ⌜ (r ≡ nextPlace queued (timeslot - 1)) × (r < queuePlaces) ⌝ }
 {
     let t = (timeslot - 1) as usize;
-    16 * t + queued[t] as usize
+    sizes::PER_TIMESLOT * t + queued[t] as usize
 }
 
 // The counts with one more for a timeslot.
 pub fn one_more(queued: [u8; 4], timeslot: u8) -> [u8; 4]
-    requires { ⌜ (1 ≤ timeslot) × (timeslot ≤ 4) × (getD queued (timeslot - 1) 0 < 16) ⌝ }
+    requires { ⌜ (1 ≤ timeslot) × (timeslot ≤ timeslots) × (getD queued (timeslot - 1) 0 < perTimeslot) ⌝ }
     ensures { λ r. ⌜ r ≡ oneMore queued timeslot ⌝ }
 {
     let t = (timeslot - 1) as usize;
@@ -55,16 +56,16 @@ fn refused(refusal: Refusal, station: Station) -> QueuePlan
     QueuePlan {
         reply: Reply::Refused(refusal),
         station: station,
-        place: 64,
+        place: sizes::QUEUE_PLACES,
         record: Record::EMPTY,
     }
 }
 
 // The record joins the queue of its timeslot.
 fn joined(station: Station, timeslot: u8, r: Record) -> QueuePlan
-    requires { ⌜ (1 ≤ timeslot) × (timeslot ≤ 4) × (getD (station .queued) (timeslot - 1) 0 < 16) ⌝ }
+    requires { ⌜ (1 ≤ timeslot) × (timeslot ≤ timeslots) × (getD (station .queued) (timeslot - 1) 0 < perTimeslot) ⌝ }
     ensures { λ p. ⌜ p ≡ joinedPlan station timeslot r ⌝ }
-    ensures { λ p. ⌜ p .place < 64 ⌝ }
+    ensures { λ p. ⌜ p .place < queuePlaces ⌝ }
 {
     let queued = station.queued;
     let place = next_place(queued, timeslot);
@@ -110,8 +111,9 @@ pub fn tma_plan(
     sdu: &[u8],
 ) -> QueuePlan
     requires { ⌜ soundStation station ≡ true ⌝ }
-    requires { ⌜ length (now store) ≡ 16384 ⌝ }
-    ensures { λ r. ⌜ QueuePlanned (λ m. tmaCall m timeslot kind number tag header bits (now (sdu .entry))) station (now (store .entry)) (now (store .exit)) r ⌝ }
+    requires { ⌜ length (now store) ≡ storeOctets ⌝ }
+    ensures { λ r. ⌜ QueuePlanned (λ m. tmaCall m timeslot kind number tag header bits (now (sdu .entry)))
+        station (now (store .entry)) (now (store .exit)) r ⌝ }
 {
     if !sched_core::timeslot_is_legal(timeslot) {
         return refused(Refusal::Timeslot, station);
@@ -132,6 +134,6 @@ pub fn tma_plan(
     }
     let p = joined(station, timeslot, r);
     let place = p.place;
-    sdu_store::write_cell(store, 256 * place, sdu, bits as usize);
+    sdu_store::write_cell(store, sizes::CELL_OCTETS * place, sdu, bits as usize);
     p
 }

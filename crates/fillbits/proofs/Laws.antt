@@ -22,7 +22,10 @@ use Rattle.bitbuffer.proofs.Laws.{bits-append, bits-take, bits-drop, part-writt
 use Rattle.bitbuffer.proofs.Octets.{part-split}
 use Rattle.fillbits.specs.Fill.{toOctet, fillWanted, fillBits, fromLastSet, fillAtEnd, reply, fillReply}
 use Rattle.fillbits.specs.declared.FillRemoval.{FillRemoval}
-use Rattle.fillbits.specs.declared.FillRemoval.the-variants.{Bits, NoRoom}
+use Rattle.fillbits.specs.declared.FillRemoval.the-variants.{Bits, Refused}
+use Rattle.questions.specs.declared.Refusal.{Refusal}
+use Rattle.questions.specs.Questions.{ask}
+use Rattle.questions.proofs.NumberLaws.{number-positive, number-tells}
 
 -- ---- the fill that a PDU wants
 
@@ -314,14 +317,14 @@ before-all l start end =
 pub reply-answer : (a b : FillRemoval) → reply a ≡ reply b → a ≡ b
 unfolding reply
 reply-answer (Bits n) (Bits m) e = ap Bits (ap (λ (l : List ℕ). getD l 1 0) e)
-reply-answer (Bits n) NoRoom e = let x = ap (λ (l : List ℕ). getD l 0 0) e in absurd (omega arith)
-reply-answer NoRoom (Bits m) e = let x = ap (λ (l : List ℕ). getD l 0 0) e in absurd (omega arith)
-reply-answer NoRoom NoRoom e = refl
+reply-answer (Bits n) (Refused b) e = let x = ap (λ (l : List ℕ). getD l 0 0) e in absurd (omega (arith, number-positive b))
+reply-answer (Refused a) (Bits m) e = let x = ap (λ (l : List ℕ). getD l 0 0) e in absurd (omega (arith, number-positive a))
+reply-answer (Refused a) (Refused b) e = ap Refused (number-tells a b (ap (λ (l : List ℕ). getD l 0 0) e))
 
-pub refused-past-end : (s : List ℕ) (start end : ℕ) → 8 * length s < end → reply NoRoom ≡ fillReply s start end
-unfolding reply fillReply
+pub refused-past-end : (s : List ℕ) (start end : ℕ) → 8 * length s < end → reply (Refused Refusal.NoRoom) ≡ fillReply s start end
+unfolding reply fillReply ask
 refused-past-end s start end h = rw (lt-leb end (8 * length s) h)
 
 pub bits-found : (s : List ℕ) (start end n : ℕ) → end ≤ 8 * length s → n ≡ fillAtEnd (bitsOf s) start end → reply (Bits n) ≡ fillReply s start end
-unfolding reply fillReply
+unfolding reply fillReply ask
 bits-found s start end n h e = rw (le-leb end (8 * length s) h, e)

@@ -5,8 +5,10 @@ use Prim.Native.Nat.{ℕ, zero, suc, _-_, _*_, _%_, min}
 use lib.Dec.{leb, eqb}
 use lib.ListN.{length, replicate}
 use Rattle.bitbuffer.specs.Bits.{bitsOf, part}
+use Rattle.questions.specs.declared.Refusal.{Refusal}
+use Rattle.questions.specs.Questions.{Question, question, refusalNumber, ask}
 use Rattle.fillbits.specs.declared.FillRemoval.{FillRemoval}
-use Rattle.fillbits.specs.declared.FillRemoval.the-variants.{Bits, NoRoom}
+use Rattle.fillbits.specs.declared.FillRemoval.the-variants.{Bits, Refused}
 
 -- "to the octet": from bit `n` on
 abbrev pub toOctet : ℕ → ℕ
@@ -33,8 +35,12 @@ fillAtEnd l start end = fromLastSet (part l start (end - start))
 -- document 01's number of each answer, and after a 0 its value: "On a no, the number is the whole reply"
 unfoldable pub reply : FillRemoval → List ℕ
 reply (Bits n) = 0 ∷ n ∷ []
-reply NoRoom = 11 ∷ []
+reply (Refused r) = refusalNumber r ∷ []
 
--- "Writer, fill removal: bits enough left? No: 11." Else the fill bits before `end`.
+-- "11. Writer, fill removal: bits enough left? No: 11."
+abbrev pub fillQuestions : List ℕ → ℕ → List Question
+fillQuestions s end = question (leb end (8 * length s)) Refusal.NoRoom ∷ []
+
+-- the fill bits before `end`
 unfoldable pub fillReply : List ℕ → ℕ → ℕ → List ℕ
-fillReply s start end = cond (leb end (8 * length s)) (0 ∷ fillAtEnd (bitsOf s) start end ∷ []) (11 ∷ [])
+fillReply s start end = ask (fillQuestions s end) (reply (Bits (fillAtEnd (bitsOf s) start end))) (λ r. reply (Refused r))

@@ -1,4 +1,5 @@
 // Fill bits of a PDU: how many it wants, their writing and their removal.
+use questions::Refusal;
 ghost use mathlib.Core.Path.{_≡_};
 ghost use Prim.Native.Nat.{_+_, _-_, _*_, _<_, _≤_, _^_};
 ghost use mathlib.Core.List.{_++_};
@@ -41,10 +42,10 @@ pub fn write(buf: &mut [u8], at: usize, n: usize) -> usize
     at + n
 }
 
-// What fill removal answers: the number of fill bits, or that the end is past the buffer.
+// What fill removal answers: the number of fill bits, or a refusal where the end is past the buffer.
 pub enum FillRemoval {
     Bits(usize),
-    NoRoom,
+    Refused(Refusal),
 }
 
 // The bits from the last set bit before `at` up to `end`, where those from `at` on are clear; 0 where none is set from `start` on.
@@ -99,7 +100,7 @@ pub fn get_num_fill_bits(buf: &[u8], start: usize, end: usize) -> FillRemoval
     ensures { λ r. ⌜ reply r ≡ fillReply (now (buf .entry)) start end ⌝ }
 {
     if buf.len() < end / 8 + (end % 8 + 7) / 8 {
-        return FillRemoval::NoRoom;
+        return FillRemoval::Refused(Refusal::NoRoom);
     }
     FillRemoval::Bits(fill_bits_by_parts(buf, start, end))
 }

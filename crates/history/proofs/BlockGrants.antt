@@ -31,8 +31,10 @@ use Rattle.mac_reader.specs.Reader.{noHeader, readBlock}
 use Rattle.dl_queue.specs.Queue.{Item}
 use Rattle.dl_send.specs.Send.{blockOf}
 use Rattle.dl_build.proofs.AfterBuild.{build-read}
-use Rattle.sched_core.specs.Questions.{Memory}
-use Rattle.history.specs.Call.{Call, build, refused, block, noBlock, Stepped, stepped, unlessRefused, buildQuestion}
+use Rattle.questions.specs.declared.Refusal.{Refusal}
+use Rattle.questions.specs.Questions.{refusalNumber, ask}
+use Rattle.sched_core.specs.Questions.{Memory, asksBlock}
+use Rattle.history.specs.Call.{Call, build, refused, block, noBlock, Stepped, stepped, unlessRefused}
 use Rattle.history.specs.Queues.{Queues, queueAt, withQueueAt, someQueued, canBuild}
 use Rattle.history.specs.UplinkModel.{modelVerdict}
 use Rattle.history.specs.Model.{NamedSdu, Model, became, counted, namedBuilt, built, modelStep, modelAt, queueNow, pdusBuilt, namesBuilt}
@@ -112,11 +114,11 @@ module _ (x : TdmaTime) (v : Valid x) (before : List Call) (b : List ℕ) where
   -- it was built, of the model's PDUs
   block-built : (octets tags : List ℕ) → Replied octets tags
       → (canBuild (m .uplink .now) (m .queues) ≡ true) × (modelStep (build b) m .after ≡ done .after) × (octets ≡ blockOf blockOctets (blockBits pdus))
-  unfolding modelStep unlessRefused built pdusBuilt
-  block-built octets tags e = go (eqb (buildQuestion b) 0) (canBuild (m .uplink .now) (m .queues)) e
+  unfolding modelStep unlessRefused ask built pdusBuilt
+  block-built octets tags e = go (asksBlock b .holds) (canBuild (m .uplink .now) (m .queues)) e
     where
       step : Bool → Bool → Stepped Model
-      step right can = cond right (cond can done (stepped (counted m) noBlock)) (stepped (counted m) (refused (buildQuestion b)))
+      step right can = cond right (cond can done (stepped (counted m) noBlock)) (stepped (counted m) (refused (refusalNumber Refusal.Lengths)))
 
       go : (right can : Bool) → step right can .reply ≡ block octets tags
           → (can ≡ true) × (step right can .after ≡ done .after) × (octets ≡ blockOf blockOctets (blockBits pdus))

@@ -2,22 +2,21 @@
 -- one time (`derived`). Assumes nothing.
 use mathlib.Core.Path.{_≡_, refl, sym, ap₂, _∙_}
 use mathlib.Core.Logic.{_↔_}
-use mathlib.Core.Bool.{Bool, true, false, cond}
+use mathlib.Core.List.{[]}
 use Prim.Native.Nat.{ℕ, _≤_}
 use native.Mathlib.Omega.{arith}
-use lib.Dec.{eqb}
-use borrow.Author.Tests.{eqb-true}
 use Rattle.sizes.specs.Sizes.{timeslots}
+use Rattle.questions.specs.Questions.{ask}
+use Rattle.questions.proofs.AskLaws.{AllYes, yes-before, ask-elim}
 use Rattle.optional.specs.declared.OptU8.{OptU8}
 use Rattle.tdma_time.specs.Time.{clock, firstUsable}
 use Rattle.uplink.specs.Search.{Run}
 use Rattle.uplink.specs.Request.{Verdict, noRun, tooLate, grant, capacity, reservedBy, msHalfSlots}
 use Rattle.uplink.proofs.MsLaws.{ms-derives-exactly}
-use Rattle.history.specs.Call.{CapacityRequest, asked, request, refused, granted, stepped, unlessRefused, requestQuestion}
-use Rattle.history.specs.Queues.{queuedAt}
+use Rattle.history.specs.Call.{CapacityRequest, asked, request, granted, Stepped, unlessRefused}
 use Rattle.history.specs.UplinkModel.{modelView, modelVerdict}
-use Rattle.history.specs.Model.{Model, counted, reserved, requested, modelStep}
-use Rattle.history.proofs.QuestionLaws.{request-timeslot}
+use Rattle.history.specs.Model.{Model, requestAsked, reserved, requested, modelStep}
+use Rattle.sched_core.proofs.QuestionLaws.{timeslot-range}
 
 -- ---- a granted request
 
@@ -31,32 +30,30 @@ pub record GrantOf (a : CapacityRequest) (m : Model) (cap delay : ℕ) : Type 0 
   pub reserved-is : reserved a m ≡ reservedBy (modelView (m .uplink .taken)) (a .code) (modelVerdict (m .uplink) (asked a))
 
 module _ (a : CapacityRequest) (m : Model) (cap delay : ℕ) (marker : OptU8) where
-  abbrev k : ℕ
-  k = requestQuestion a (queuedAt (m .queues) (a .timeslot))
+  reserved-passed : AllYes (requestAsked a m) → reserved a m ≡ reservedBy (modelView (m .uplink .taken)) (a .code) (modelVerdict (m .uplink) (asked a))
+  unfolding reserved ask
+  reserved-passed q = yes-before (reservedBy (modelView (m .uplink .taken)) (a .code) (modelVerdict (m .uplink) (asked a))) (λ r. []) (requestAsked a m) [] q
 
   pub grant-of : modelStep (request a) m .reply ≡ granted cap delay marker → GrantOf a m cap delay
-  unfolding modelStep unlessRefused requested reserved
-  grant-of h = go (eqb k 0) refl h
+  unfolding modelStep unlessRefused requested
+  grant-of =
+      ask-elim (λ (y : Stepped Model). y .reply ≡ granted cap delay marker → GrantOf a m cap delay) (requestAsked a m) _ _
+      (λ r h. absurd (let z : _≡_ {A = ℕ} 0 1 = cc in omega arith))
+      (λ q h. by-verdict q (modelVerdict (m .uplink) (asked a)) refl h)
     where
-      by-verdict : eqb k 0 ≡ true → (w : Verdict) → modelVerdict (m .uplink) (asked a) ≡ w → requested a w m .reply ≡ granted cap delay marker
+      by-verdict : AllYes (requestAsked a m) → (w : Verdict) → modelVerdict (m .uplink) (asked a) ≡ w → requested a w m .reply ≡ granted cap delay marker
           → GrantOf a m cap delay
       by-verdict q noRun e h = absurd (let z : _≡_ {A = ℕ} 0 1 = cc in omega arith)
       by-verdict q tooLate e h = absurd (let z : _≡_ {A = ℕ} 0 1 = cc in omega arith)
       by-verdict q (grant g) e h =
           record {
-            in-range = request-timeslot a _ (eqb-true _ _ q);
+            in-range = timeslot-range (a .timeslot) (q .0);
             run = g;
             verdict = e;
             capacity-is = cc;
             delay-is = cc;
-            reserved-is = rw q;
+            reserved-is = reserved-passed q;
           }
-
-      go : (b : Bool) → eqb k 0 ≡ b
-          → cond b (requested a (modelVerdict (m .uplink) (asked a)) m) (stepped (counted m) (refused k)) .reply ≡ granted cap delay marker
-          → GrantOf a m cap delay
-      go true e h = by-verdict e (modelVerdict (m .uplink) (asked a)) refl h
-      go false e h = absurd (let z : _≡_ {A = ℕ} 0 1 = cc in omega arith)
 
   pub derived : modelStep (request a) m .reply ≡ granted cap delay marker → (b : ℕ)
       → (reserved a m ≡ msHalfSlots (a .timeslot) cap delay b)

@@ -4,11 +4,9 @@ pub mod EntryLaws
 pub mod Match
 pub mod Simulation
 pub mod QueueMaps
-pub mod Asked
 pub mod ReadLaws
 pub mod QueueSteps
 pub mod WholeSimulation
-pub mod QuestionLaws
 pub mod ReservedLaws
 pub mod RunLaws
 pub mod Disjoint

@@ -22,14 +22,16 @@ use Rattle.dl_queue.specs.Queue.{Item, item}
 use Rattle.dl_merge.proofs.MergeLaws.{All, all-weaken}
 use Rattle.dl_merge.proofs.NameLaws.{Tied}
 use Rattle.dl_send.proofs.KeptLaws.{all-append}
+use Rattle.questions.specs.Questions.{refusalNumber, ask}
+use Rattle.questions.proofs.AskLaws.{AllYes, yes-before}
+use Rattle.sched_core.proofs.QuestionLaws.{timeslot-range}
 use Rattle.history.specs.Call.{CapacityRequest, asked, RecordOffer, recordOf, Call, advance, request, enqueueAck, enqueueRecord, build, read}
-use Rattle.history.specs.Call.{granted, noBlock, Stepped, stepped, unlessRefused, run, requestQuestion}
-use Rattle.history.specs.Queues.{Queues, noQueues, queueAt, queuedAt, appended, canBuild}
+use Rattle.history.specs.Call.{refused, granted, noBlock, Stepped, stepped, unlessRefused, run}
+use Rattle.history.specs.Queues.{Queues, noQueues, queueAt, appended, canBuild}
 use Rattle.history.specs.UplinkModel.{modelVerdict}
-use Rattle.history.specs.Model.{NamedSdu, named, bare, ofSdu, Model, newModel, counted, requested, built, modelStep, modelAt}
+use Rattle.history.specs.Model.{NamedSdu, named, bare, ofSdu, Model, newModel, counted, requestAsked, requested, built, modelStep, modelAt}
 use Rattle.history.specs.Demand3.{Origin}
 use Rattle.history.proofs.Steps.{run-more, unless-after}
-use Rattle.history.proofs.QuestionLaws.{request-timeslot, ack-timeslot, record-timeslot, record-header}
 use Rattle.history.proofs.GrantNames.{built-left}
 
 -- a record's grant is that of the request it is named after; without a grant it has no name
@@ -156,10 +158,15 @@ module _ (x : TdmaTime) (xs : List Call) (k : modelAt x xs .count ≡ length xs)
         its-octet = refl;
       }
 
-  after-request : (a : CapacityRequest) → Everywhere x (xs ++ request a ∷ []) (m .queues) → requestQuestion a (queuedAt (m .queues) (a .timeslot)) ≡ 0
+  after-request : (a : CapacityRequest) → Everywhere x (xs ++ request a ∷ []) (m .queues) → AllYes (requestAsked a m)
       → Everywhere x (xs ++ request a ∷ []) (requested a (modelVerdict (m .uplink) (asked a)) m .after .queues)
-  unfolding Everywhere modelStep unlessRefused requested
-  after-request a e q = go (modelVerdict (m .uplink) (asked a)) (λ g r. rw (q, r)) refl
+  unfolding Everywhere modelStep unlessRefused ask requested
+  after-request a e q =
+      go (modelVerdict (m .uplink) (asked a))
+      (λ g r.
+      ap (λ (y : Stepped Model). y .reply)
+      (yes-before (requested a (modelVerdict (m .uplink) (asked a)) m) (λ x. stepped (counted m) (refused (refusalNumber x))) (requestAsked a m) [] q)
+      ∙ ap (λ (w : Verdict). requested a w m .reply) r) refl
     where
       go : (w : Verdict)
           → ((g : Run) → modelVerdict (m .uplink) (asked a) ≡ grant g → modelStep (request a) m .reply ≡ requested a (grant g) m .reply)
@@ -167,7 +174,7 @@ module _ (x : TdmaTime) (xs : List Call) (k : modelAt x xs .count ≡ length xs)
       go noRun f r = e
       go tooLate f r = e
       go (grant g) f r =
-          appended-each (Good x (xs ++ request a ∷ [])) (m .queues) (a .timeslot) _ (request-timeslot a _ q .0) (new-good a _ _ _ (f g r)) e
+          appended-each (Good x (xs ++ request a ∷ [])) (m .queues) (a .timeslot) _ (timeslot-range (a .timeslot) (q .0) .0) (new-good a _ _ _ (f g r)) e
 
   offer-bare : (o : RecordOffer) → legalOffered (resourceOf (recordOf o) 0 0) ≡ true → absentU8 (o .header .«slot_granting_element») ≡ true
   unfolding legalOffered
@@ -198,12 +205,12 @@ module _ (x : TdmaTime) (xs : List Call) (k : modelAt x xs .count ≡ length xs)
   after-call (request a) e = unless-after (λ (n : Model). Everywhere x (xs ++ request a ∷ []) (n .queues)) _ (counted m) _ e (after-request a e)
   after-call (enqueueAck o) e =
       unless-after (λ (n : Model). Everywhere x (xs ++ enqueueAck o ∷ []) (n .queues)) _ (counted m) _ e
-      (λ q. bare-joins (xs ++ enqueueAck o ∷ []) (o .timeslot) (item (ackRecord (o .kind) (o .number)) bare) (ack-timeslot o _ q .0) refl refl e)
+      (λ q. bare-joins (xs ++ enqueueAck o ∷ []) (o .timeslot) (item (ackRecord (o .kind) (o .number)) bare) (timeslot-range (o .timeslot) (q .0) .0) refl refl e)
   after-call (enqueueRecord o) e =
       unless-after (λ (n : Model). Everywhere x (xs ++ enqueueRecord o ∷ []) (n .queues)) _ (counted m) _ e
       (λ q.
-      bare-joins (xs ++ enqueueRecord o ∷ []) (o .timeslot) (item (recordOf o) (ofSdu (o .bits) (o .octets))) (record-timeslot o _ q .0)
-      (offer-bare o (record-header o _ q)) refl e)
+      bare-joins (xs ++ enqueueRecord o ∷ []) (o .timeslot) (item (recordOf o) (ofSdu (o .bits) (o .octets))) (timeslot-range (o .timeslot) (q .0) .0)
+      (offer-bare o (q .1 .1 .0)) refl e)
   after-call (build b) e = unless-after (λ (n : Model). Everywhere x (xs ++ build b ∷ []) (n .queues)) _ (counted m) _ e (λ q. after-build _ e)
   after-call (read q) e = unless-after (λ (n : Model). Everywhere x (xs ++ read q ∷ []) (n .queues)) _ (counted m) _ e (λ k. e)
 

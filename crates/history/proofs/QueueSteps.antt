@@ -31,24 +31,25 @@ use Rattle.dl_queue.proofs.PushLaws.{queues-push}
 use Rattle.dl_queue.proofs.SetLaws.{zero-size}
 use Rattle.dl_queue.proofs.SoundLaws.{queue-at, unused-cell}
 use Rattle.dl_merge.proofs.MergeLaws.{reload, sduBits, unnamed}
-use Rattle.sched_core.specs.declared.Refusal.{Refusal}
+use Rattle.questions.specs.declared.Refusal.{Refusal}
+use Rattle.questions.specs.Questions.{Question, ask}
+use Rattle.questions.proofs.AskLaws.{ask-both}
 use Rattle.sched_core.specs.declared.Reply as core
 use Rattle.sched_core.specs.declared.RequestReply.{RequestReply}
 use Rattle.sched_core.specs.Station.{tableOf, advancedStation}
-use Rattle.sched_core.specs.Questions.{Memory, memory, isStationSound, areLengthsRight, isQueueSound, ask}
-use Rattle.sched_core.specs.Questions.{legalTimeslot, isTimeslotLegal, isRequirementLegal, isAddressLegal, isHeaderLegal, isSduPresent, isQueueOpen}
-use Rattle.sched_core.specs.Calls.{Outcome, outcome, grantQueued, requestAnswered, requestOutcome, requestCall, advanceCall, advanceMemory}
+use Rattle.sched_core.specs.Questions.{Memory, memory, legalTimeslot, queuedFor, requestQuestions, ackQuestions, tmaQuestions}
+use Rattle.sched_core.specs.Calls.{Outcome, outcome, grantQueued, requestAnswered, requestCall, advanceCall, advanceMemory}
 use Rattle.sched_core.specs.Calls.{withRecord, withSdu, ackCall, tmaCall}
 use Rattle.sched_core.specs.Invariant.{SoundMemory}
-use Rattle.sched_core.proofs.QuestionLaws.{right-lengths, timeslot-range, sdu-range}
+use Rattle.sched_core.proofs.QuestionLaws.{timeslot-range, sdu-range, memory-passes}
+use Rattle.sched_core.proofs.KeptLaws.{sound-yes}
 use Rattle.history.specs.Call.{CapacityRequest, asked, AckOffer, RecordOffer, recordOf, advance, request, enqueueAck, enqueueRecord}
-use Rattle.history.specs.Call.{done, refused, Stepped, stepped, unlessRefused, requestQuestion, ackQuestion, recordQuestion}
+use Rattle.history.specs.Call.{done, refused, Stepped, stepped, unlessRefused}
 use Rattle.history.specs.Queues.{Queues, queuedAt, appended}
 use Rattle.history.specs.UplinkModel.{modelView, modelVerdict}
-use Rattle.history.specs.Model.{NamedSdu, Model, became, bare, ofSdu, counted, requested, modelStep}
+use Rattle.history.specs.Model.{NamedSdu, Model, became, bare, ofSdu, counted, requestAsked, requested, modelStep}
 use Rattle.history.specs.Memory.{queueReply, requestReply, answered, memoryStep}
 use Rattle.history.proofs.Steps.{Agree}
-use Rattle.history.proofs.Asked.{three-yes, request-asked, ack-asked, record-asked}
 use Rattle.history.proofs.Simulation.{Alike, grant-alike, answer-reply, advance-alike}
 use Rattle.history.proofs.QueueMaps.{Held, same-count, appended-held}
 
@@ -153,7 +154,7 @@ module _ (m : Memory) (b : Model) (k : SoundMemory m) (a : Same m b) where
     given = answer (tableOf (m .station)) (m .station .«next_usage_marker») (m .station .time) (asked c)
 
     abbrev answeredAs : CapReply → Outcome RequestReply
-    answeredAs x = requestOutcome (grantQueued (m .station) (m .records) (c .timeslot) (c .kind) (c .number) given x) (m .store)
+    answeredAs x = grantQueued m (c .timeslot) (c .kind) (c .number) given x
 
     abbrev no : Refusal → Outcome RequestReply
     no r = outcome (RequestReply.Refused r) m
@@ -172,30 +173,19 @@ module _ (m : Memory) (b : Model) (k : SoundMemory m) (a : Same m b) where
         subst (λ (r : CapReply). Agree Same (answered requestReply (answeredAs r)) (requested c (modelVerdict (b .uplink) (asked c)) b))
         (sym (answer-reply _ _ _ _ up (asked c) (modelVerdict (b .uplink) (asked c)) refl)) (answered-agrees legal fits _ refl)
 
-    abbrev asks : Bool → Outcome RequestReply
-    asks free =
-        cond (legalTimeslot (c .timeslot))
-        (cond (leb (c .code) 15)
-        (cond (legalAddress (c .kind) (c .number)) (cond free (answeredAs (given .reply)) (no Refusal.QueueFull)) (no Refusal.Address))
-        (no Refusal.Requirement))
-        (no Refusal.Timeslot)
-
-    request-asks : requestCall m (c .timeslot) (c .code) (c .kind) (c .number) ≡ asks (ltb queued perTimeslot)
-    unfolding requestCall requestAnswered ask
+    -- its own questions decide, and the book counts what the station counts
+    request-asks : requestCall m (c .timeslot) (c .code) (c .kind) (c .number) ≡ ask (requestAsked c b) (answeredAs (given .reply)) no
+    unfolding requestCall requestAnswered
     request-asks =
-        three-yes (isStationSound (m .station)) (areLengthsRight m) (isQueueSound m)
-        (isTimeslotLegal (c .timeslot) ∷ isRequirementLegal (c .code) ∷ isAddressLegal (c .kind) (c .number) ∷ isQueueOpen m (c .timeslot) ∷ [])
-        (answeredAs (given .reply)) no (k .station) (right-lengths m (k .places) (k .cells)) (k .queue)
-        ∙ ap asks (ap (λ (n : ℕ). ltb n perTimeslot) (count-at (c .timeslot)))
+        memory-passes m [] (requestQuestions (queuedFor (m .station .queued) (c .timeslot)) (c .timeslot) (c .code) (c .kind) (c .number)) _ no (sound-yes m k)
+        ∙ ap (λ (n : ℕ). ask (requestQuestions n (c .timeslot) (c .code) (c .kind) (c .number)) (answeredAs (given .reply)) no) (count-at (c .timeslot))
 
     pub request-agrees : Agree Same (memoryStep (request c) m) (modelStep (request c) b)
-    unfolding memoryStep modelStep unlessRefused requestQuestion
+    unfolding memoryStep modelStep unlessRefused
     request-agrees =
         subst (λ (o : Outcome RequestReply). Agree Same (answered requestReply o) (modelStep (request c) b)) (sym request-asks)
-        (request-asked (λ (o : Outcome RequestReply) (y : Stepped Model). Agree Same (answered requestReply o) y)
-        (λ fine n. cond fine (requested c (modelVerdict (b .uplink) (asked c)) b) (stepped (counted b) (refused n))) (answeredAs (given .reply)) no
-        (λ r. record { after = stays; reply = refl })
-        (legalTimeslot (c .timeslot)) (leb (c .code) 15) (legalAddress (c .kind) (c .number)) (ltb queued perTimeslot) (λ b3 b4 b5 b8. searched b3 b8))
+        (ask-both (λ (o : Outcome RequestReply) (y : Stepped Model). Agree Same (answered requestReply o) y) (requestAsked c b) _ no _ _
+        (λ r. record { after = stays; reply = refl }) (λ h. searched (h .0) (h .1 .1 .1 .0)))
 
   -- ---- an ack
 
@@ -209,19 +199,14 @@ module _ (m : Memory) (b : Model) (k : SoundMemory m) (a : Same m b) where
     abbrev ack-open : Bool
     ack-open = ltb (queuedAt (b .queues) (o .timeslot)) perTimeslot
 
-    abbrev asks-ack : Bool → Outcome core.Reply
-    asks-ack free =
-        cond (legalTimeslot (o .timeslot))
-        (cond (legalAddress (o .kind) (o .number)) (cond free ack-done (ack-no Refusal.QueueFull)) (ack-no Refusal.Address))
-        (ack-no Refusal.Timeslot)
+    abbrev ack-own : ℕ → List Question
+    ack-own n = ackQuestions n (o .timeslot) (o .kind) (o .number)
 
-    ack-asks : ackCall m (o .timeslot) (o .kind) (o .number) ≡ asks-ack ack-open
-    unfolding ackCall ask
+    ack-asks : ackCall m (o .timeslot) (o .kind) (o .number) ≡ ask (ack-own (queuedAt (b .queues) (o .timeslot))) ack-done ack-no
+    unfolding ackCall
     ack-asks =
-        three-yes (isStationSound (m .station)) (areLengthsRight m) (isQueueSound m)
-        (isTimeslotLegal (o .timeslot) ∷ isAddressLegal (o .kind) (o .number) ∷ isQueueOpen m (o .timeslot) ∷ [])
-        ack-done ack-no (k .station) (right-lengths m (k .places) (k .cells)) (k .queue)
-        ∙ ap asks-ack (ap (λ (n : ℕ). ltb n perTimeslot) (count-at (o .timeslot)))
+        memory-passes m [] (ack-own (queuedFor (m .station .queued) (o .timeslot))) _ ack-no (sound-yes m k)
+        ∙ ap (λ (n : ℕ). ask (ack-own n) ack-done ack-no) (count-at (o .timeslot))
 
     abbrev ack-joined : Stepped Model
     ack-joined = became b (b .uplink) (appended (b .queues) (o .timeslot) (item (ackRecord (o .kind) (o .number)) bare)) done
@@ -230,13 +215,11 @@ module _ (m : Memory) (b : Model) (k : SoundMemory m) (a : Same m b) where
     ack-joins legal fits = record { after = record { uplink = up; queues = bare-joins (o .timeslot) legal fits _ _ refl }; reply = refl }
 
     pub ack-agrees : Agree Same (memoryStep (enqueueAck o) m) (modelStep (enqueueAck o) b)
-    unfolding memoryStep modelStep unlessRefused ackQuestion
+    unfolding memoryStep modelStep unlessRefused
     ack-agrees =
         subst (λ (y : Outcome core.Reply). Agree Same (answered queueReply y) (modelStep (enqueueAck o) b)) (sym ack-asks)
-        (ack-asked (λ (y : Outcome core.Reply) (z : Stepped Model). Agree Same (answered queueReply y) z)
-        (λ fine n. cond fine ack-joined (stepped (counted b) (refused n)))
-        ack-done ack-no (λ r. record { after = stays; reply = refl })
-        (legalTimeslot (o .timeslot)) (legalAddress (o .kind) (o .number)) ack-open (λ b3 b5 b8. ack-joins b3 b8))
+        (ask-both (λ (y : Outcome core.Reply) (z : Stepped Model). Agree Same (answered queueReply y) z) (ack-own (queuedAt (b .queues) (o .timeslot)))
+        _ ack-no _ _ (λ r. record { after = stays; reply = refl }) (λ h. ack-joins (h .0) (h .1 .1 .0)))
 
   -- ---- a record
 
@@ -250,31 +233,15 @@ module _ (m : Memory) (b : Model) (k : SoundMemory m) (a : Same m b) where
     abbrev rec-open : Bool
     rec-open = ltb (queuedAt (b .queues) (o .timeslot)) perTimeslot
 
-    abbrev header-fine : Bool
-    header-fine = legalOffered (resourceOf (recordOf o) 0 0)
+    abbrev rec-own : ℕ → List Question
+    rec-own n = tmaQuestions n (o .timeslot) (recordOf o) (o .octets)
 
-    abbrev asks-rec : Bool → Outcome core.Reply
-    asks-rec free =
-        cond (legalTimeslot (o .timeslot))
-        (cond (legalAddress (o .kind) (o .number))
-        (cond header-fine
-        (cond (presentSdu (o .bits) (o .octets)) (cond free rec-done (rec-no Refusal.QueueFull)) (rec-no Refusal.Sdu))
-        (rec-no Refusal.Header))
-        (rec-no Refusal.Address))
-        (rec-no Refusal.Timeslot)
-
-    rec-asks : tmaCall m (o .timeslot) (o .kind) (o .number) (o .tag) (o .header) (o .bits) (o .octets) ≡ asks-rec rec-open
-    unfolding tmaCall ask
+    rec-asks : tmaCall m (o .timeslot) (o .kind) (o .number) (o .tag) (o .header) (o .bits) (o .octets)
+        ≡ ask (rec-own (queuedAt (b .queues) (o .timeslot))) rec-done rec-no
+    unfolding tmaCall
     rec-asks =
-        three-yes (isStationSound (m .station)) (areLengthsRight m) (isQueueSound m)
-        (isTimeslotLegal (o .timeslot)
-        ∷ isAddressLegal (o .kind) (o .number)
-        ∷ isHeaderLegal (recordOf o)
-        ∷ isSduPresent (o .bits) (o .octets)
-        ∷ isQueueOpen m (o .timeslot)
-        ∷ [])
-        rec-done rec-no (k .station) (right-lengths m (k .places) (k .cells)) (k .queue)
-        ∙ ap asks-rec (ap (λ (n : ℕ). ltb n perTimeslot) (count-at (o .timeslot)))
+        memory-passes m [] (rec-own (queuedFor (m .station .queued) (o .timeslot))) _ rec-no (sound-yes m k)
+        ∙ ap (λ (n : ℕ). ask (rec-own n) rec-done rec-no) (count-at (o .timeslot))
 
     abbrev rec-joined : Stepped Model
     rec-joined = became b (b .uplink) (appended (b .queues) (o .timeslot) (item (recordOf o) (ofSdu (o .bits) (o .octets)))) done
@@ -295,11 +262,8 @@ module _ (m : Memory) (b : Model) (k : SoundMemory m) (a : Same m b) where
         }
 
     pub rec-agrees : Agree Same (memoryStep (enqueueRecord o) m) (modelStep (enqueueRecord o) b)
-    unfolding memoryStep modelStep unlessRefused recordQuestion
+    unfolding memoryStep modelStep unlessRefused
     rec-agrees =
         subst (λ (y : Outcome core.Reply). Agree Same (answered queueReply y) (modelStep (enqueueRecord o) b)) (sym rec-asks)
-        (record-asked (λ (y : Outcome core.Reply) (z : Stepped Model). Agree Same (answered queueReply y) z)
-        (λ fine n. cond fine rec-joined (stepped (counted b) (refused n)))
-        rec-done rec-no (λ r. record { after = stays; reply = refl })
-        (legalTimeslot (o .timeslot)) (legalAddress (o .kind) (o .number)) header-fine (presentSdu (o .bits) (o .octets)) rec-open
-        (λ b3 b5 b6 b7 b8. rec-joins b3 b7 b8))
+        (ask-both (λ (y : Outcome core.Reply) (z : Stepped Model). Agree Same (answered queueReply y) z) (rec-own (queuedAt (b .queues) (o .timeslot)))
+        _ rec-no _ _ (λ r. record { after = stays; reply = refl }) (λ h. rec-joins (h .0) (h .1 .1 .1 .0) (h .1 .1 .1 .1 .0)))

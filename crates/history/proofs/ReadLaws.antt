@@ -3,7 +3,6 @@ use mathlib.Core.Path.{_≡_, refl, ap, _∙_}
 use mathlib.Core.Bool.{Bool, true, false, cond}
 use Prim.Native.Nat.{ℕ}
 use native.Mathlib.Omega.{arith}
-use lib.Dec.{eqb}
 use Rattle.tdma_time.specs.Time.{valid, timeOf, slotOf, clock}
 use Rattle.tdma_time.proofs.TimeLaws.{slotOf-timeOf, timeOf-valid, valid-true}
 use Rattle.uplink.specs.declared.Entry.{Entry}
@@ -11,27 +10,28 @@ use Rattle.uplink.specs.declared.PhyBlockNum.{PhyBlockNum}
 use Rattle.uplink.specs.UplinkEntry.{entryAt, ownerOf, usageOf}
 use Rattle.uplink.proofs.TableLaws.{entry-clock}
 use Rattle.sched_core.specs.declared.Station.{Station}
-use Rattle.sched_core.specs.declared.Refusal.{Refusal}
+use Rattle.questions.specs.declared.Refusal.{Refusal}
+use Rattle.questions.specs.Questions.{refusalNumber, ask}
 use Rattle.sched_core.specs.declared.OwnerReply.{OwnerReply}
 use Rattle.sched_core.specs.declared.UsageReply.{UsageReply}
 use Rattle.sched_core.specs.Station.{tableOf}
-use Rattle.sched_core.specs.Questions.{Memory, soundStation, ask}
+use Rattle.sched_core.specs.Questions.{Memory, soundStation, timeQuestions}
 use Rattle.sched_core.specs.Calls.{ownerCall, usageCall}
-use Rattle.history.specs.Call.{Query, owner, usage, read, done, refused, stepped, unlessRefused, readQuestion}
+use Rattle.history.specs.Call.{Query, owner, usage, timeRead, read, done, refused, stepped, unlessRefused}
 use Rattle.history.specs.Memory.{ownerReply, usageReply, memoryStep}
 use Rattle.history.proofs.Steps.{Agree}
 
 -- ---- refused for their time only
 
 pub read-agrees : {S : Type 0} (R : Memory → S → Type 0) (q : Query) (m : Memory) (s : S) → R m s → soundStation (m .station) ≡ true
-    → Agree R (memoryStep (read q) m) (unlessRefused (readQuestion q) s (stepped s done))
-unfolding memoryStep ownerCall usageCall ask readQuestion unlessRefused
+    → Agree R (memoryStep (read q) m) (unlessRefused (timeQuestions (timeRead q)) s (stepped s done))
+unfolding memoryStep ownerCall usageCall ask unlessRefused
 read-agrees R (owner x half) m s h e = rw e (go (valid x))
   where
     go : (b : Bool)
         → Agree R
         (stepped m (ownerReply (cond b (OwnerReply.Owner (ownerOf half (entryAt (tableOf (m .station)) (slotOf x)))) (OwnerReply.Refused Refusal.Unsound))))
-        (cond (eqb (cond b 0 1) 0) (stepped s done) (stepped s (refused (cond b 0 1))))
+        (cond b (stepped s done) (stepped s (refused (refusalNumber Refusal.Unsound))))
     go true = record { after = h; reply = refl }
     go false = record { after = h; reply = refl }
 read-agrees R (usage x) m s h e = rw e (go (valid x))
@@ -39,7 +39,7 @@ read-agrees R (usage x) m s h e = rw e (go (valid x))
     go : (b : Bool)
         → Agree R
         (stepped m (usageReply (cond b (UsageReply.Usage (usageOf (entryAt (tableOf (m .station)) (slotOf x)))) (UsageReply.Refused Refusal.Unsound))))
-        (cond (eqb (cond b 0 1) 0) (stepped s done) (stepped s (refused (cond b 0 1))))
+        (cond b (stepped s done) (stepped s (refused (refusalNumber Refusal.Unsound))))
     go true = record { after = h; reply = refl }
     go false = record { after = h; reply = refl }
 

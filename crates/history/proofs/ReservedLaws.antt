@@ -7,6 +7,7 @@ use native.Mathlib.Omega.{arith}
 use lib.ListN.{length, getD}
 use lib.Dec.{eqb}
 use borrow.Author.Tests.{eqb-true}
+use Rattle.questions.proofs.AskLaws.{ask-elim, ask-both}
 use Rattle.optional.specs.declared.OptU32.{OptU32}
 use Rattle.optional.proofs.Tests.{and-left, and-right}
 use Rattle.tdma_time.specs.Time.{clock}
@@ -18,10 +19,9 @@ use Rattle.uplink.specs.Search.{Run}
 use Rattle.uplink.specs.Request.{Request, fits, Verdict, noRun, tooLate, grant, capacity, halvesOf, reservedBy, markerOf}
 use Rattle.uplink.proofs.VerdictLaws.{Near, Granted, verdict-grant, granted-near, granted-fits, granted-length}
 use Rattle.uplink.proofs.Basics.{not-both}
-use Rattle.history.specs.Call.{CapacityRequest, asked, request, refused, stepped, unlessRefused, requestQuestion}
-use Rattle.history.specs.Queues.{queuedAt}
+use Rattle.history.specs.Call.{CapacityRequest, asked, request, Stepped, unlessRefused}
 use Rattle.history.specs.UplinkModel.{Taken, takenBy, modelView, takeHalves, modelVerdict, takenFor}
-use Rattle.history.specs.Model.{Model, counted, reserved, requested, modelStep}
+use Rattle.history.specs.Model.{Model, counted, requestAsked, reserved, requested, modelStep}
 use Rattle.history.specs.Demand3.{slotsAgreed}
 use Rattle.history.proofs.Steps.{unless-after}
 use Rattle.history.proofs.ModelLaws.{Free, takes-has, takes-stays}
@@ -105,29 +105,28 @@ request-now a m = unless-after (λ (n : Model). n .uplink .now ≡ m .uplink .no
 pub request-taken : (a : CapacityRequest) (m : Model)
     → modelStep (request a) m .after .uplink .taken ≡ takeHalves (reserved a m) (a .number) (markerOf (m .uplink .markers) (asked a)) (m .uplink .taken)
 unfolding modelStep unlessRefused requested takenFor reserved reservedBy takeHalves
-request-taken a m = go (eqb (requestQuestion a (queuedAt (m .queues) (a .timeslot))) 0) (modelVerdict (m .uplink) (asked a))
+request-taken a m =
+    ask-both (λ (y : Stepped Model) (hs : List HalfSlot). y .after .uplink .taken ≡ takeHalves hs (a .number) (markerOf (m .uplink .markers) (asked a)) (m .uplink .taken))
+    (requestAsked a m) _ _ _ _ (λ r. refl) (λ q. go (modelVerdict (m .uplink) (asked a)))
   where
-    go : (b : Bool) (w : Verdict)
-        → cond b (requested a w m) (stepped (counted m) (refused (requestQuestion a (queuedAt (m .queues) (a .timeslot))))) .after .uplink .taken
-        ≡ takeHalves (cond b (reservedBy (modelView (m .uplink .taken)) (a .code) w) []) (a .number) (markerOf (m .uplink .markers) (asked a))
-        (m .uplink .taken)
-    go true noRun = refl
-    go true tooLate = refl
-    go true (grant g) = refl
-    go false w = refl
+    go : (w : Verdict)
+        → requested a w m .after .uplink .taken
+        ≡ takeHalves (reservedBy (modelView (m .uplink .taken)) (a .code) w) (a .number) (markerOf (m .uplink .markers) (asked a)) (m .uplink .taken)
+    go noRun = refl
+    go tooLate = refl
+    go (grant g) = refl
 
 -- what it reserves is near and was free
 module _ (a : CapacityRequest) (m : Model) where
   reserved-all : (P : HalfSlot → Type 0) → ((g : Run) → Granted (modelView (m .uplink .taken)) (m .uplink .now) (asked a) g
       → All P (reservedBy (modelView (m .uplink .taken)) (a .code) (grant g))) → All P (reserved a m)
   unfolding reserved reservedBy modelVerdict
-  reserved-all P f = go (eqb (requestQuestion a (queuedAt (m .queues) (a .timeslot))) 0) (modelVerdict (m .uplink) (asked a)) refl
+  reserved-all P f = ask-elim (All P) (requestAsked a m) _ _ (λ r. tt) (λ q. go (modelVerdict (m .uplink) (asked a)) refl)
     where
-      go : (b : Bool) (w : Verdict) → modelVerdict (m .uplink) (asked a) ≡ w → All P (cond b (reservedBy (modelView (m .uplink .taken)) (a .code) w) [])
-      go true noRun e = tt
-      go true tooLate e = tt
-      go true (grant g) e = f g (verdict-grant (modelView (m .uplink .taken)) (m .uplink .now) (asked a) g e)
-      go false w e = tt
+      go : (w : Verdict) → modelVerdict (m .uplink) (asked a) ≡ w → All P (reservedBy (modelView (m .uplink .taken)) (a .code) w)
+      go noRun e = tt
+      go tooLate e = tt
+      go (grant g) e = f g (verdict-grant (modelView (m .uplink .taken)) (m .uplink .now) (asked a) g e)
 
   reserved-near : All (NearBy (m .uplink .now)) (reserved a m)
   reserved-near = reserved-all (NearBy (m .uplink .now)) (grant-near (m .uplink .taken) (m .uplink .now) (asked a))

@@ -1,11 +1,9 @@
 -- Runs of any stepping thing: one after another, and two that step alike. Assumes nothing.
 use mathlib.Core.Path.{_≡_, refl}
-use mathlib.Core.Bool.{Bool, true, false, cond}
 use mathlib.Core.List.{List, [], _∷_, _++_}
-use Prim.Native.Nat.{ℕ}
-use lib.Dec.{eqb}
-use borrow.Author.Tests.{eqb-true}
-use Rattle.history.specs.Call.{Call, refused, Stepped, stepped, unlessRefused, run}
+use Rattle.questions.specs.Questions.{Question}
+use Rattle.questions.proofs.AskLaws.{AllYes, ask-elim}
+use Rattle.history.specs.Call.{Call, Stepped, unlessRefused, run}
 
 module _ {S : Type 0} where
   module _ (step : Call → S → Stepped S) where
@@ -19,13 +17,10 @@ module _ {S : Type 0} where
     run-more cs c s = run-append cs (c ∷ []) s
 
   -- a fact of what a call leaves, refused or not
-  pub unless-after : (P : S → Type 0) (k : ℕ) (s : S) (fine : Stepped S) → P s → (k ≡ 0 → P (fine .after)) → P (unlessRefused k s fine .after)
+  pub unless-after : (P : S → Type 0) (qs : List Question) (s : S) (fine : Stepped S) → P s → (AllYes qs → P (fine .after))
+      → P (unlessRefused qs s fine .after)
   unfolding unlessRefused
-  unless-after P k s fine h g = go (eqb k 0) refl
-    where
-      go : (b : Bool) → eqb k 0 ≡ b → P (cond b fine (stepped s (refused k)) .after)
-      go true e = g (eqb-true _ _ e)
-      go false e = h
+  unless-after P qs s fine h g = ask-elim (λ (y : Stepped S). P (y .after)) qs fine _ (λ r. h) g
 
 -- ---- two that step alike
 

@@ -20,21 +20,21 @@ use Rattle.dl_send.specs.Send.{Sent, cellSdu, blockOf}
 use Rattle.dl_send.proofs.MapLaws.{reloadSent}
 use Rattle.dl_build.specs.Build.{buildList, builtOf}
 use Rattle.dl_build.proofs.AfterBuild.{build-holds}
-use Rattle.sched_core.specs.declared.Refusal.{Refusal}
+use Rattle.questions.specs.declared.Refusal.{Refusal}
+use Rattle.questions.specs.Questions.{refusalNumber, ask}
 use Rattle.sched_core.specs.declared.BuildReply.{BuildReply}
-use Rattle.sched_core.specs.Questions.{Memory, isStationSound, areLengthsRight, isBlockLength, isBlockLengthRight, isQueueSound}
+use Rattle.sched_core.specs.Questions.{Memory, asksBlock, buildLent}
 use Rattle.sched_core.specs.Calls.{BuildOutcome}
 use Rattle.sched_core.specs.Calls.{current, buildsNow, builtNow, withLeft, blockBuilt, notBuilt, buildCall, newMemory}
 use Rattle.sched_core.specs.Invariant.{SoundMemory}
-use Rattle.sched_core.proofs.QuestionLaws.{right-lengths}
-use Rattle.sched_core.proofs.KeptLaws.{every-call-keeps}
+use Rattle.sched_core.proofs.QuestionLaws.{memory-passes}
+use Rattle.sched_core.proofs.KeptLaws.{every-call-keeps, sound-yes}
 use Rattle.history.specs.Call.{Call, advance, request, enqueueAck, enqueueRecord, build, read}
-use Rattle.history.specs.Call.{refused, block, noBlock, stepped, unlessRefused, buildQuestion}
+use Rattle.history.specs.Call.{refused, block, noBlock, stepped, unlessRefused}
 use Rattle.history.specs.Queues.{Queues, queueAt, withQueueAt, someQueued, canBuild}
 use Rattle.history.specs.Model.{Model, newModel, became, counted, namedBuilt, queueNow, built, modelStep, modelAt}
 use Rattle.history.specs.Memory.{answeredBuild, memoryStep, memoryAt}
 use Rattle.history.proofs.Steps.{Agree, run-agree}
-use Rattle.history.proofs.Asked.{third-asked}
 use Rattle.history.proofs.Simulation.{new-alike}
 use Rattle.history.proofs.QueueMaps.{Held, set-held, cellsBuilt, steadyBits, steadyNames, same-built}
 use Rattle.history.proofs.ReadLaws.{read-agrees}
@@ -91,31 +91,30 @@ module _ (m : Memory) (b : Model) (k : SoundMemory m) (a : Same m b) where
   -- only the length of the block is in doubt
   abbrev asks-build : List ℕ → Bool → ℕ → BuildOutcome
   asks-build l can j =
-      cond (isBlockLength l)
+      cond (asksBlock l .holds)
       (cond can (blockBuilt m j (builtOf ns (m .records) (m .store) j)) (notBuilt BuildReply.NoBlock m l))
       (notBuilt (BuildReply.Refused Refusal.Lengths) m l)
 
   build-asks : (l : List ℕ) → buildCall m l ≡ asks-build l (canBuild (b .uplink .now) (b .queues)) (t - 1)
-  unfolding buildCall builtNow
+  unfolding buildCall builtNow ask
   build-asks l =
-      third-asked (isStationSound (m .station)) (areLengthsRight m) (isBlockLengthRight l) (isQueueSound m) _ (λ r. notBuilt (BuildReply.Refused r) m l)
-      (k .station) (right-lengths m (k .places) (k .cells)) (k .queue)
+      memory-passes m (buildLent l) [] _ (λ r. notBuilt (BuildReply.Refused r) m l) (sound-yes m k)
       ∙ ap₂ (λ (can : Bool) (j : ℕ). asks-build l can j) same-can here
 
   build-agrees : (l : List ℕ) → Agree Same (memoryStep (build l) m) (modelStep (build l) b)
-  unfolding memoryStep modelStep unlessRefused buildQuestion built
-  build-agrees l = rw (build-asks l) (go (isBlockLength l) (canBuild (b .uplink .now) (b .queues)))
+  unfolding memoryStep modelStep unlessRefused ask built
+  build-agrees l = rw (build-asks l) (go (asksBlock l .holds) (canBuild (b .uplink .now) (b .queues)))
     where
       go : (right can : Bool)
           → Agree Same
           (answeredBuild
           (cond right (cond can (blockBuilt m (t - 1) sent) (notBuilt BuildReply.NoBlock m l)) (notBuilt (BuildReply.Refused Refusal.Lengths) m l)))
-          (cond (eqb (cond right 0 2) 0)
+          (cond right
           (cond can
           (became b (b .uplink) (withQueueAt (b .queues) t (namedBuilt (queueNow b) .left))
           (block (blockOf blockOctets (blockBits (namedBuilt (queueNow b) .pdus))) (namedBuilt (queueNow b) .tags)))
           (stepped (counted b) noBlock))
-          (stepped (counted b) (refused (cond right 0 2))))
+          (stepped (counted b) (refused (refusalNumber Refusal.Lengths))))
       go true true =
           record {
             after = record { uplink = a .uplink; queues = same-left };

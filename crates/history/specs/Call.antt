@@ -1,21 +1,15 @@
--- The calls of a history with their arguments, their questions, and what a call comes to. Assumes nothing.
-use mathlib.Core.Bool.{not, cond}
+-- The calls of a history with their arguments, and what a call comes to. Assumes nothing.
 use mathlib.Core.List.{List, [], _∷_}
 use Prim.Native.Nat.{ℕ}
-use lib.Dec.{eqb, leb, ltb}
-use Rattle.sizes.specs.Sizes.{perTimeslot}
+use Rattle.questions.specs.Questions.{Question, refusalNumber, ask}
 use Rattle.optional.specs.declared.OptU8.{OptU8}
 use Rattle.optional.specs.declared.OptU16.{OptU16}
 use Rattle.tdma_time.specs.declared.TdmaTime.{TdmaTime}
-use Rattle.tdma_time.specs.Time.{valid}
 use Rattle.uplink.specs.declared.PhyBlockNum.{PhyBlockNum}
 use Rattle.uplink.specs.Request.{Request}
-use Rattle.mac_pdus.specs.Legal.{legalOffered}
 use Rattle.dl_record.specs.declared.QueuedHeader.{QueuedHeader}
 use Rattle.dl_record.specs.declared.Record.{Record}
-use Rattle.dl_record.specs.Record.{offeredRecord, resourceOf}
-use Rattle.dl_record.specs.Questions.{legalAddress, presentSdu}
-use Rattle.sched_core.specs.Questions.{legalTimeslot, isBlockLength}
+use Rattle.dl_record.specs.Record.{offeredRecord}
 
 -- a request for capacity, as the call is given it: timeslot, requirement code, address kind and number
 pub record CapacityRequest : Type 0 where
@@ -84,43 +78,11 @@ module _ {S : Type 0} where
   abbrev pub stepped : S → Reply → Stepped S
   stepped s r = record { after = s; reply = r }
 
-  -- "On a no, the number is the whole reply and each lent bit and the state are those that came in.": k is the number of the first question
-  -- that is answered no, or 0
-  unfoldable pub unlessRefused : ℕ → S → Stepped S → Stepped S
-  unlessRefused k s fine = cond (eqb k 0) fine (stepped s (refused k))
+  -- "On a no, the number is the whole reply and each lent bit and the state are those that came in."
+  unfoldable pub unlessRefused : List Question → S → Stepped S → Stepped S
+  unlessRefused qs s fine = ask qs fine (λ r. stepped s (refused (refusalNumber r)))
 
   -- "In a history each call gets state, queue and store as the last one left them"
   unfoldable pub run : (Call → S → Stepped S) → List Call → S → S
   run step [] s = s
   run step (c ∷ cs) s = run step cs (step c s .after)
-
--- ---- questions, where so many are queued for the timeslot: the number of the first that is answered no, or 0
-
--- 1: "a time given to the call is judged here too"
-unfoldable pub readQuestion : Query → ℕ
-readQuestion q = cond (valid (timeRead q)) 0 1
-
--- 2, of a build's block
-unfoldable pub buildQuestion : List ℕ → ℕ
-buildQuestion b = cond (isBlockLength b) 0 2
-
--- 3, 4, 5 and 8; then come 9 and 10, which the search decides
-unfoldable pub requestQuestion : CapacityRequest → ℕ → ℕ
-requestQuestion a queued =
-    cond (not (legalTimeslot (a .timeslot))) 3
-    (cond (not (leb (a .code) 15)) 4
-    (cond (not (legalAddress (a .kind) (a .number))) 5
-    (cond (not (ltb queued perTimeslot)) 8 0)))
-
--- 3, 5 and 8
-unfoldable pub ackQuestion : AckOffer → ℕ → ℕ
-ackQuestion o queued =
-    cond (not (legalTimeslot (o .timeslot))) 3 (cond (not (legalAddress (o .kind) (o .number))) 5 (cond (not (ltb queued perTimeslot)) 8 0))
-
--- 3, 5, 6, 7 and 8
-unfoldable pub recordQuestion : RecordOffer → ℕ → ℕ
-recordQuestion o queued =
-    cond (not (legalTimeslot (o .timeslot))) 3
-    (cond (not (legalAddress (o .kind) (o .number))) 5
-    (cond (not (legalOffered (resourceOf (recordOf o) 0 0))) 6
-    (cond (not (presentSdu (o .bits) (o .octets))) 7 (cond (not (ltb queued perTimeslot)) 8 0))))

@@ -7,7 +7,8 @@ use Rattle.sched_core.specs.declared.RequestReply.{RequestReply}
 use Rattle.sched_core.specs.declared.BuildReply.{BuildReply}
 use Rattle.sched_core.specs.declared.OwnerReply.{OwnerReply}
 use Rattle.sched_core.specs.declared.UsageReply.{UsageReply}
-use Rattle.sched_core.specs.Questions.{Memory, refusalNumber}
+use Rattle.questions.specs.Questions.{refusalNumber}
+use Rattle.sched_core.specs.Questions.{Memory}
 use Rattle.sched_core.specs.Calls.{Outcome, BuildOutcome, ownerCall, usageCall, requestCall, ackCall, tmaCall, buildCall, newMemory, advanceMemory}
 use Rattle.history.specs.Call.{Query, owner, usage, Call, advance, request, enqueueAck, enqueueRecord, build, read}
 use Rattle.history.specs.Call.{Reply, done, refused, granted, block, noBlock, Stepped, stepped, run}

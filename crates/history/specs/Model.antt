@@ -6,6 +6,8 @@ use Prim.Native.Nat.{ℕ, suc}
 use lib.Dec.{eqb}
 use lib.ListN.{take}
 use Rattle.sizes.specs.Sizes.{blockWidth, blockOctets}
+use Rattle.questions.specs.declared.Refusal.{Refusal}
+use Rattle.questions.specs.Questions.{Question, refusalNumber, ask}
 use Rattle.bitbuffer.specs.Bits.{bitsOf}
 use Rattle.tdma_time.specs.declared.TdmaTime.{TdmaTime}
 use Rattle.tdma_time.specs.Time.{timeslot}
@@ -21,9 +23,9 @@ use Rattle.dl_merge.specs.Merge.{Named, mergeNamed}
 use Rattle.bs_frag.specs.NextPdu.{Next}
 use Rattle.dl_send.specs.Send.{Sent, blockOf, nullIn, turn}
 use Rattle.dl_build.specs.Build.{inOrder, buildList}
-use Rattle.history.specs.Call.{CapacityRequest, asked, recordOf, Call, advance, request, enqueueAck, enqueueRecord, build, read}
+use Rattle.sched_core.specs.Questions.{requestQuestions, ackQuestions, tmaQuestions, buildLent, timeQuestions}
+use Rattle.history.specs.Call.{CapacityRequest, asked, recordOf, timeRead, Call, advance, request, enqueueAck, enqueueRecord, build, read}
 use Rattle.history.specs.Call.{done, refused, granted, block, noBlock, Reply, Stepped, stepped, unlessRefused, run}
-use Rattle.history.specs.Call.{readQuestion, buildQuestion, requestQuestion, ackQuestion, recordQuestion}
 use Rattle.history.specs.Queues.{Queues, noQueues, queueAt, queuedAt, withQueueAt, appended, canBuild}
 use Rattle.history.specs.UplinkModel.{UplinkModel, newUplink, modelView, advancedUplink, modelVerdict, takenFor}
 
@@ -64,18 +66,19 @@ counted m = record { uplink = m .uplink; queues = m .queues; count = suc (m .cou
 
 -- ---- a request
 
+-- what it is asked before the search: "Questions about table or queue are asked of the book"
+abbrev pub requestAsked : CapacityRequest → Model → List Question
+requestAsked a m = requestQuestions (queuedAt (m .queues) (a .timeslot)) (a .timeslot) (a .code) (a .kind) (a .number)
+
 -- "The half-slots it takes, in order, [..] are its reserved list": none where a question is answered no
 unfoldable pub reserved : CapacityRequest → Model → List HalfSlot
-reserved a m =
-    cond (eqb (requestQuestion a (queuedAt (m .queues) (a .timeslot))) 0)
-    (reservedBy (modelView (m .uplink .taken)) (a .code) (modelVerdict (m .uplink) (asked a)))
-    []
+reserved a m = ask (requestAsked a m) (reservedBy (modelView (m .uplink .taken)) (a .code) (modelVerdict (m .uplink) (asked a))) (λ r. [])
 
 -- "9. Does the run exist?" "10. At most 13 before it?" "Its grant, with the delay counted there and any marker drawn as above, is queued and
 -- named after the request": after its place in the history
 unfoldable pub requested : CapacityRequest → Verdict → Model → Stepped Model
-requested a noRun m = stepped (counted m) (refused 9)
-requested a tooLate m = stepped (counted m) (refused 10)
+requested a noRun m = stepped (counted m) (refused (refusalNumber Refusal.NoRun))
+requested a tooLate m = stepped (counted m) (refused (refusalNumber Refusal.TooLate))
 requested a (grant g) m =
     let cap = capacity (modelView (m .uplink .taken)) (a .code) (g .slots) in
     let marker = markerOf (m .uplink .markers) (asked a) in
@@ -105,15 +108,15 @@ built m =
 unfoldable pub modelStep : Call → Model → Stepped Model
 modelStep advance m = became m (advancedUplink (m .uplink)) (m .queues) done
 modelStep (request a) m =
-    unlessRefused (requestQuestion a (queuedAt (m .queues) (a .timeslot))) (counted m) (requested a (modelVerdict (m .uplink) (asked a)) m)
+    unlessRefused (requestAsked a m) (counted m) (requested a (modelVerdict (m .uplink) (asked a)) m)
 modelStep (enqueueAck o) m =
-    unlessRefused (ackQuestion o (queuedAt (m .queues) (o .timeslot))) (counted m)
+    unlessRefused (ackQuestions (queuedAt (m .queues) (o .timeslot)) (o .timeslot) (o .kind) (o .number)) (counted m)
     (became m (m .uplink) (appended (m .queues) (o .timeslot) (item (ackRecord (o .kind) (o .number)) bare)) done)
 modelStep (enqueueRecord o) m =
-    unlessRefused (recordQuestion o (queuedAt (m .queues) (o .timeslot))) (counted m)
+    unlessRefused (tmaQuestions (queuedAt (m .queues) (o .timeslot)) (o .timeslot) (recordOf o) (o .octets)) (counted m)
     (became m (m .uplink) (appended (m .queues) (o .timeslot) (item (recordOf o) (ofSdu (o .bits) (o .octets)))) done)
-modelStep (build b) m = unlessRefused (buildQuestion b) (counted m) (built m)
-modelStep (read q) m = unlessRefused (readQuestion q) (counted m) (stepped (counted m) done)
+modelStep (build b) m = unlessRefused (buildLent b) (counted m) (built m)
+modelStep (read q) m = unlessRefused (timeQuestions (timeRead q)) (counted m) (stepped (counted m) done)
 
 -- the model after a list of calls on a new station at time x
 abbrev pub modelAt : TdmaTime → List Call → Model

@@ -9,23 +9,23 @@ use Rattle.dl_record.specs.Record.{emptyHeader}
 use Rattle.sched_core.specs.declared.RequestReply.{RequestReply}
 use Rattle.sched_core.specs.declared.Answer.{Answer}
 use Rattle.sched_core.specs.declared.RequestAnswer.{RequestAnswer}
-use Rattle.sched_core.specs.declared.CoreAnswer.{CoreAnswer}
-use Rattle.sched_core.specs.declared.RequestCoreAnswer.{RequestCoreAnswer}
 use Rattle.sched_core.specs.declared.BuildCoreAnswer.{BuildCoreAnswer}
 use Rattle.sched_core.specs.Questions.{Memory, memory}
-use Rattle.sched_core.specs.Calls.{Outcome, outcome, requestOutcome, queueOutcome, BuildOutcome, BuildAnswered, tmaCall}
+use Rattle.sched_core.specs.Calls.{Outcome, outcome, BuildOutcome, BuildAnswered, tmaCall}
 use Rattle.bs_sched.specs.declared.BuildAnswer.{BuildAnswer}
 use Rattle.bs_sched.specs.Entries.{BuildLeft, buildLeft, leftBy}
+use Rattle.interpreter.specs.declared.calls.RequestLeft.{RequestLeft}
+use Rattle.interpreter.specs.declared.calls.QueueLeft.{QueueLeft}
 
-pub request-answered : (r : RequestCoreAnswer) (a : RequestAnswer) (rs : List Record) (st : List ℕ) (o : Outcome RequestReply)
-    → r ≡ record { reply = a .reply; station = a .station; records = rs } → outcome (a .reply) (memory (a .station) rs st) ≡ o → requestOutcome r st ≡ o
-request-answered r a rs st o e h = ap (λ (x : RequestCoreAnswer). requestOutcome x st) e ∙ h
+pub request-answered : (r : RequestLeft) (a : RequestAnswer) (rs : List Record) (st : List ℕ) (o : Outcome RequestReply)
+    → r ≡ record { reply = a .reply; station = a .station; records = rs } → outcome (a .reply) (memory (a .station) rs st) ≡ o → outcome (r .reply) (memory (r .station) (r .records) st) ≡ o
+request-answered r a rs st o e h = ap (λ (x : RequestLeft). outcome (x .reply) (memory (x .station) (x .records) st)) e ∙ h
 
-pub record-queued : (r : CoreAnswer) (a : Answer) (rs : List Record) (st : List ℕ) (m : Memory) (t kind n : ℕ) (tag : OptU16) (header : QueuedHeader)
+pub record-queued : (r : QueueLeft) (a : Answer) (rs : List Record) (st : List ℕ) (m : Memory) (t kind n : ℕ) (tag : OptU16) (header : QueuedHeader)
     (bits : ℕ) (sdu : List ℕ) → r ≡ record { reply = a .reply; station = a .station; records = rs } → header ≡ emptyHeader
-    → outcome (a .reply) (memory (a .station) rs st) ≡ tmaCall m t kind n tag header bits sdu → queueOutcome r st ≡ tmaCall m t kind n tag emptyHeader bits sdu
+    → outcome (a .reply) (memory (a .station) rs st) ≡ tmaCall m t kind n tag header bits sdu → outcome (r .reply) (memory (r .station) (r .records) st) ≡ tmaCall m t kind n tag emptyHeader bits sdu
 record-queued r a rs st m t kind n tag header bits sdu e none h =
-    ap (λ (x : CoreAnswer). queueOutcome x st) e ∙ h ∙ ap (λ (x : QueuedHeader). tmaCall m t kind n tag x bits sdu) none
+    ap (λ (x : QueueLeft). outcome (x .reply) (memory (x .station) (x .records) st)) e ∙ h ∙ ap (λ (x : QueuedHeader). tmaCall m t kind n tag x bits sdu) none
 
 pub build-answered : (r : BuildCoreAnswer) (a : BuildAnswer) (rs : List Record) (st block : List ℕ) (o : BuildOutcome)
     → r ≡ record { reply = a .reply; tags = a .tags; «tag_count» = a .«tag_count»; station = a .station; records = rs }

@@ -18,17 +18,18 @@ use Rattle.dl_send.specs.Progress.{tagRow}
 use Rattle.sched_core.specs.declared.Station.{Station}
 use Rattle.sched_core.specs.declared.Reply.{Reply}
 use Rattle.sched_core.specs.declared.Answer.{Answer}
-use Rattle.sched_core.specs.declared.CoreAnswer.{CoreAnswer}
-use Rattle.sched_core.specs.declared.RequestCoreAnswer.{RequestCoreAnswer}
 use Rattle.sched_core.specs.declared.BuildCoreAnswer.{BuildCoreAnswer}
 use Rattle.sched_core.specs.declared.RequestReply.{RequestReply}
 use Rattle.sched_core.specs.declared.BuildReply.{BuildReply}
-use Rattle.sched_core.specs.declared.Refusal.{Refusal}
+use Rattle.questions.specs.declared.Refusal.{Refusal}
 use Rattle.sched_core.specs.Station.{newStation}
-use Rattle.sched_core.specs.Questions.{Memory, memory, isTimeSound, refusalNumber}
-use Rattle.sched_core.specs.Calls.{Outcome, replyNumber, newCall, newMemory, advanceCall, advanceMemory, requestCall, requestOutcome, tmaCall, queueOutcome, buildCall, BuildAnswered}
+use Rattle.questions.specs.Questions.{refusalNumber}
+use Rattle.sched_core.specs.Questions.{Memory, memory, timeQuestions}
+use Rattle.sched_core.specs.Calls.{Outcome, outcome, replyNumber, newCall, newMemory, advanceCall, advanceMemory, requestCall, tmaCall, buildCall, BuildAnswered}
 use Rattle.sched_core.specs.Invariant.{isDone}
-use Rattle.sched_core.proofs.AskLaws.{ask-elim}
+use Rattle.questions.proofs.AskLaws.{ask-elim}
+use Rattle.interpreter.specs.declared.calls.RequestLeft.{RequestLeft}
+use Rattle.interpreter.specs.declared.calls.QueueLeft.{QueueLeft}
 use Rattle.interpreter.specs.declared.Command.{Command}
 use Rattle.interpreter.specs.declared.Executed.{Executed}
 use Rattle.interpreter.specs.Text.{number, line}
@@ -45,7 +46,7 @@ relined {out} {out'} {count} e w = subst (λ t. Wrote out 0 out' count t) e w
 
 new-station : (x : TdmaTime) → newCall x .station ≡ newStation x
 unfolding newCall
-new-station x = ask-elim (λ (a : Answer). a .station ≡ newStation x) (isTimeSound x ∷ []) _ _ (λ r. refl) (λ said. refl)
+new-station x = ask-elim (λ (a : Answer). a .station ≡ newStation x) (timeQuestions x) _ _ (λ r. refl) (λ said. refl)
 
 zeros : (n : ℕ) (l : List ℕ) → length l ≡ n → paste l 0 (replicate n 0) n ≡ replicate n 0
 zeros n l e =
@@ -90,8 +91,8 @@ advanced s out out' a n count made num few w rs store =
 
 -- ---- 52 request
 
-pub requested : (m : Memory) (ops out out' st : List ℕ) (a : RequestCoreAnswer) (n count : ℕ) → n ≡ fourOctets ops 3
-    → requestOutcome a st ≡ requestCall m (octet ops 0) (octet ops 1) (octet ops 2) n → count ≤ 173
+pub requested : (m : Memory) (ops out out' st : List ℕ) (a : RequestLeft) (n count : ℕ) → n ≡ fourOctets ops 3
+    → outcome (a .reply) (memory (a .station) (a .records) st) ≡ requestCall m (octet ops 0) (octet ops 1) (octet ops 2) n → count ≤ 173
     → Wrote out 0 out' count (line 82 (grantFields (a .reply))) → Executes (requestStep m ops) (record { station = a .station; queue = a .records; count = count }) st out out'
 unfolding requestStep
 requested m ops out out' st a n count num h few w =
@@ -104,8 +105,8 @@ requested m ops out out' st a n count num h few w =
 
 -- ---- 51 queue a record
 
-pub queued : (m : Memory) (stage ops out out' st : List ℕ) (a : CoreAnswer) (n tag bits k count : ℕ) → n ≡ fourOctets ops 2 → tag ≡ twoOctets ops 6
-    → bits ≡ twoOctets ops 8 → queueOutcome a st ≡ tmaCall m (octet ops 0) (octet ops 1) n (OptU16.Of tag) emptyHeader bits stage
+pub queued : (m : Memory) (stage ops out out' st : List ℕ) (a : QueueLeft) (n tag bits k count : ℕ) → n ≡ fourOctets ops 2 → tag ≡ twoOctets ops 6
+    → bits ≡ twoOctets ops 8 → outcome (a .reply) (memory (a .station) (a .records) st) ≡ tmaCall m (octet ops 0) (octet ops 1) n (OptU16.Of tag) emptyHeader bits stage
     → k ≡ replyNumber (a .reply) → count ≤ 8 → Wrote out 0 out' count (line 81 (number k))
     → Executes (queueStep m stage ops) (record { station = a .station; queue = a .records; count = count }) st out out'
 unfolding queueStep

@@ -19,9 +19,9 @@ use Rattle.dl_build.specs.Build.{inOrder, buildList, builtOf}
 use Rattle.dl_build.proofs.OrderLaws.{order-length}
 use Rattle.dl_build.proofs.BuildLaws.{merged-most}
 use Rattle.sched_core.specs.declared.BuildReply.{BuildReply}
-use Rattle.sched_core.specs.Questions.{Memory, buildQuestions}
+use Rattle.sched_core.specs.Questions.{Memory, memoryQuestions, buildLent}
 use Rattle.sched_core.specs.Calls.{BuildOutcome, notBuilt, current, buildsNow, builtNow, blockBuilt, buildCall}
-use Rattle.sched_core.proofs.AskLaws.{AllYes, ask-elim}
+use Rattle.questions.proofs.AskLaws.{AllYes, ask-elim}
 
 one-tag : (o : Outcome) (t : OptU16) → length (tagsOf o t) ≤ 1
 one-tag Finished OptU16.Absent = omega arith
@@ -38,7 +38,7 @@ sent-tags sdu room (x ∷ xs) =
     omega (arith, length-append (tagsOf (n .outcome) (x .rec .tag)) (sendAll sdu (n .room) xs .tags), one-tag (n .outcome) (x .rec .tag), sent-tags sdu (n .room) xs)
 
 module _ (m : Memory) (block : List ℕ) (four : length (m .station .queued) ≡ 4) where
-  built-tags : AllYes (buildQuestions m block) → length (builtNow m .tags) ≤ 16
+  built-tags : AllYes (memoryQuestions m (buildLent block)) → length (builtNow m .tags) ≤ 16
   unfolding builtNow builtOf buildList
   built-tags said =
       let ns = m .station .queued in
@@ -50,9 +50,9 @@ module _ (m : Memory) (block : List ℕ) (four : length (m .station .queued) ≡
 
   pub few-tags : length (buildCall m block .tags) ≤ 16
   unfolding buildCall
-  few-tags = ask-elim (λ (o : BuildOutcome). length (o .tags) ≤ 16) (buildQuestions m block) _ _ (λ r. omega arith) (λ said. go said (buildsNow (m .station)))
+  few-tags = ask-elim (λ (o : BuildOutcome). length (o .tags) ≤ 16) (memoryQuestions m (buildLent block)) _ _ (λ r. omega arith) (λ said. go said (buildsNow (m .station)))
     where
-      go : AllYes (buildQuestions m block) → (b : Bool)
+      go : AllYes (memoryQuestions m (buildLent block)) → (b : Bool)
           → length (cond b (blockBuilt m (current (m .station)) (builtNow m)) (notBuilt BuildReply.NoBlock m block) .tags) ≤ 16
       go said true = built-tags said
       go said false = omega arith

@@ -1,11 +1,11 @@
 -- Derived by `python3 tools/derive.py --walks=tools/walks_interpreter.py`: run it again, do not edit.
 -- `interpreter::calls::request`: the kinds of its parameters, and its contract as its callers read it.
 use Rattle.bs_sched.proofs.Rows_Record as in-Record
+use Rattle.interpreter.proofs.calls.RequestLeft
+use Rattle.interpreter.proofs.calls.RequestLeft.Laws as Laws'
 use Rattle.interpreter.proofs.calls.request
-use Rattle.sched_core.proofs.RequestCoreAnswer
-use Rattle.sched_core.proofs.RequestCoreAnswer.Laws
 use Rattle.sched_core.proofs.Station
-use Rattle.sched_core.proofs.Station.Laws as Laws'
+use Rattle.sched_core.proofs.Station.Laws
 use base.Logic
 use borrow.Fn.Kinds
 use borrow.Fn.Learn
@@ -34,21 +34,21 @@ abbrev pub kinds : List.List (Kinds.PK 1)
 kinds = (Value.pVal record {
   ty = Declared.row Station.the-type;
   one = Path'.refl;
-  val = Laws''.val Station.the-type Laws'.the-laws;
+  val = Laws''.val Station.the-type Laws.the-laws;
   tells =
-      Laws''.tells Station.the-type Laws'.the-laws;
-  still = Laws''.still Station.the-type Laws'.the-copy Exit.yes;
+      Laws''.tells Station.the-type Laws.the-laws;
+  still = Laws''.still Station.the-type Laws.the-copy Exit.yes;
   row = Rows.whole (Declared.row
       Station.the-type);
   rd = λ x. x;
   mk = λ x. x;
 } λ M 𝓤 H A W. record {
-  copies = Laws''.copy Station.the-type Laws'.the-copy 𝓤 H A W;
+  copies = Laws''.copy Station.the-type Laws.the-copy 𝓤 H A W;
   lawful =
-      Laws''.lawful Station.the-type Laws'.the-laws 𝓤 H A W;
-  makes = Laws''.makes Station.the-type Laws'.the-plain 𝓤 H A;
-  in-mem = Local.mem-whole 𝓤 H A
-      W (Declared.row Station.the-type);
+      Laws''.lawful Station.the-type Laws.the-laws 𝓤 H A W;
+  makes = Laws''.makes Station.the-type Laws.the-plain 𝓤 H A;
+  in-mem = Local.mem-whole 𝓤 H A W
+      (Declared.row Station.the-type);
   of-mem = Local.whole-mem 𝓤 H A W (Declared.row Station.the-type);
 }) ∷ (Array.pArr in-Record.element
     in-Record.element-laws 64) ∷ (ShrSlice.pShrS (Referent.rtF (Referent.fInt Syntax.w8)) 0 tt) ∷ (Kinds.pNum Syntax.w8) ∷ (Kinds.pNum Syntax.w8) ∷
@@ -56,25 +56,24 @@ kinds = (Value.pVal record {
 
 abbrev pub result : Kinds.RK 1
 result = Value.rVal record {
-  ty = Declared.row RequestCoreAnswer.the-type;
+  ty = Declared.row RequestLeft.the-type;
   one = Path'.refl;
-  val = Laws''.val RequestCoreAnswer.the-type
-      Laws.the-laws;
-  tells = Laws''.tells RequestCoreAnswer.the-type Laws.the-laws;
-  still = Laws''.still RequestCoreAnswer.the-type Laws.the-copy
-      Exit.yes;
-  row = Rows.whole (Declared.row RequestCoreAnswer.the-type);
+  val = Laws''.val RequestLeft.the-type Laws'.the-laws;
+  tells =
+      Laws''.tells RequestLeft.the-type Laws'.the-laws;
+  still = Laws''.still RequestLeft.the-type Laws'.the-copy Exit.yes;
+  row = Rows.whole
+      (Declared.row RequestLeft.the-type);
   rd = λ x. x;
   mk = λ x. x;
 } λ M 𝓤 H A W. record {
-  copies = Laws''.copy
-      RequestCoreAnswer.the-type Laws.the-copy 𝓤 H A W;
-  lawful = Laws''.lawful RequestCoreAnswer.the-type Laws.the-laws 𝓤 H A W;
-  makes = Laws''.makes
-      RequestCoreAnswer.the-type Laws.the-plain 𝓤 H A;
-  in-mem = Local.mem-whole 𝓤 H A W (Declared.row RequestCoreAnswer.the-type);
-  of-mem =
-      Local.whole-mem 𝓤 H A W (Declared.row RequestCoreAnswer.the-type);
+  copies = Laws''.copy RequestLeft.the-type Laws'.the-copy 𝓤 H
+      A W;
+  lawful = Laws''.lawful RequestLeft.the-type Laws'.the-laws 𝓤 H A W;
+  makes = Laws''.makes RequestLeft.the-type Laws'.the-plain 𝓤 H A;
+  in-mem =
+      Local.mem-whole 𝓤 H A W (Declared.row RequestLeft.the-type);
+  of-mem = Local.whole-mem 𝓤 H A W (Declared.row RequestLeft.the-type);
 }
 
 abbrev pub Ghost : Type 0

@@ -11,7 +11,8 @@ use Rattle.bitbuffer.specs.Bits.{written, part}
 use Rattle.dl_record.specs.Record.{emptyHeader}
 use Rattle.sched_core.specs.declared.RequestReply.{RequestReply}
 use Rattle.sched_core.specs.declared.BuildReply.{BuildReply}
-use Rattle.sched_core.specs.Questions.{Memory, refusalNumber}
+use Rattle.questions.specs.Questions.{refusalNumber}
+use Rattle.sched_core.specs.Questions.{Memory}
 use Rattle.sched_core.specs.Calls.{Outcome, outcome, replyNumber, newCall, newMemory, advanceMemory, requestCall, tmaCall, buildCall}
 use Rattle.sched_core.specs.Invariant.{isDone}
 use Rattle.interpreter.specs.declared.Command.{Command}

@@ -5,35 +5,49 @@ use dl_record::Record;
 use optional::OptU16;
 use sched_core::Answer;
 use sched_core::BuildCoreAnswer;
-use sched_core::CoreAnswer;
+use sched_core::Reply;
 use sched_core::RequestAnswer;
-use sched_core::RequestCoreAnswer;
+use sched_core::RequestReply;
 use sched_core::Station;
 ghost use mathlib.Core.Path.{_≡_};
 ghost use Rattle.dl_record.specs.Record.{emptyHeader};
 ghost use Rattle.optional.specs.declared.OptU16.{OptU16};
 ghost use Rattle.sched_core.specs.Questions.{memory};
-ghost use Rattle.sched_core.specs.Calls.{requestCall, tmaCall, buildCall, requestOutcome, queueOutcome, BuildAnswered};
+ghost use Rattle.sched_core.specs.Calls.{outcome, requestCall, tmaCall, buildCall, BuildAnswered};
+
+// The reply to a request, and the station and the queue after it.
+pub struct RequestLeft {
+    pub reply: RequestReply,
+    pub station: Station,
+    pub records: [Record; 64],
+}
+
+// The same for a record that is queued.
+pub struct QueueLeft {
+    pub reply: Reply,
+    pub station: Station,
+    pub records: [Record; 64],
+}
 
 // An answer with the queue after the call.
-fn request_left(a: RequestAnswer, records: [Record; 64]) -> RequestCoreAnswer
+fn request_left(a: RequestAnswer, records: [Record; 64]) -> RequestLeft
     ensures { λ r. ⌜ r ≡ record { reply = a .reply; station = a .station; records = records } ⌝ }
 {
     let reply = a.reply;
     let station = a.station;
-    RequestCoreAnswer {
+    RequestLeft {
         reply: reply,
         station: station,
         records: records,
     }
 }
 
-fn queue_left(a: Answer, records: [Record; 64]) -> CoreAnswer
+fn queue_left(a: Answer, records: [Record; 64]) -> QueueLeft
     ensures { λ r. ⌜ r ≡ record { reply = a .reply; station = a .station; records = records } ⌝ }
 {
     let reply = a.reply;
     let station = a.station;
-    CoreAnswer {
+    QueueLeft {
         reply: reply,
         station: station,
         records: records,
@@ -72,8 +86,9 @@ pub fn request(
     code: u8,
     kind: u8,
     number: u32,
-) -> RequestCoreAnswer
-    ensures { λ r. ⌜ requestOutcome r (now (store .entry)) ≡ requestCall (memory s records (now (store .entry))) timeslot code kind number ⌝ }
+) -> RequestLeft
+    ensures { λ r. ⌜ outcome (r .reply) (memory (r .station) (r .records) (now (store .entry)))
+        ≡ requestCall (memory s records (now (store .entry))) timeslot code kind number ⌝ }
 {
     let mut queue = records;
     let a = bs_sched::ul_process_cap_req(s, &mut queue, store, timeslot, code, kind, number);
@@ -91,8 +106,9 @@ pub fn queue_record(
     tag: u16,
     bits: u16,
     sdu: &[u8],
-) -> CoreAnswer
-    ensures { λ r. ⌜ queueOutcome r (now (store .exit)) ≡ tmaCall (memory s records (now (store .entry))) timeslot kind number (OptU16.Of tag) emptyHeader bits (now (sdu .entry)) ⌝ }
+) -> QueueLeft
+    ensures { λ r. ⌜ outcome (r .reply) (memory (r .station) (r .records) (now (store .exit)))
+        ≡ tmaCall (memory s records (now (store .entry))) timeslot kind number (OptU16.Of tag) emptyHeader bits (now (sdu .entry)) ⌝ }
 {
     let mut queue = records;
     let header = empty_header();

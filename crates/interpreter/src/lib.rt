@@ -1,13 +1,13 @@
 // The commands of `slotrun`: each is read, done and answered by a line (document 01, "Cases").
 use dl_record::Record;
-use sched_core::Refusal;
+use questions::Refusal;
 use sched_core::Reply;
 use sched_core::Station;
 ghost use mathlib.Core.Path.{_≡_};
 ghost use mathlib.Core.Bool.{true};
 ghost use Prim.Native.Nat.{_+_, _*_, _^_, _<_, _≤_};
 ghost use lib.ListN.{length, drop};
-ghost use Rattle.sched_core.specs.Questions.{refusalNumber};
+ghost use Rattle.questions.specs.Questions.{refusalNumber};
 ghost use Rattle.sched_core.specs.Calls.{replyNumber};
 ghost use Rattle.sched_core.specs.Questions.{memory};
 ghost use Rattle.interpreter.specs.declared.Command.{Command};
@@ -126,18 +126,7 @@ pub fn four_octets(s: &[u8], at: usize) -> u32
 pub fn refusal_number(r: Refusal) -> u16
     ensures { λ n. ⌜ n ≡ refusalNumber r ⌝ }
 {
-    match r {
-        Refusal::Unsound => 1,
-        Refusal::Lengths => 2,
-        Refusal::Timeslot => 3,
-        Refusal::Requirement => 4,
-        Refusal::Address => 5,
-        Refusal::Header => 6,
-        Refusal::Sdu => 7,
-        Refusal::QueueFull => 8,
-        Refusal::NoRun => 9,
-        Refusal::TooLate => 10,
-    }
+    wide(questions::number(r))
 }
 
 // The number of a reply: 0 done.

@@ -12,6 +12,8 @@ use Rattle.bitbuffer.proofs.Laws.{length-bitsOf, value-valueBits, written-eq}
 use Rattle.bitbuffer.proofs.Octets.{drop-bitsOf, written-add}
 use Rattle.mac_pdus.specs.Headers.{resourceBits, fixedBits, addressBits, elementsBits, addressType, headerBits}
 use Rattle.mac_reader.specs.Reader.{headers, blockPdus, replyOf, readBlock}
+use Rattle.mac_reader.proofs.Replies.{listed-or-not}
+use Rattle.questions.specs.Questions.{ask}
 use Rattle.mac_reader.specs.PduList.{Pdu, whole, first, frag, final, null, header, body, pduBits, blockBits, placed, Fits}
 use Rattle.mac_reader.proofs.ListRoundTrip.{pdus-read-back}
 
@@ -108,13 +110,13 @@ some k = simp (length-append, length-bitsOf) (omega arith)
 -- octets whose bits are those of the PDUs, and then zeros, read as the PDUs' headers at their positions: a block of up to 34 octets
 pub block-reads-back : (o : ℕ) (ps : List Pdu) (s : List ℕ) (k : ℕ) → 0 < o → o ≤ 34 → length s ≡ o → Fits (8 * o - 4) 0 ps → bitsOf s ≡ blockBits ps ++ replicate k 0
     → readBlock o s ≡ replyOf (headers (placed 0 ps))
-unfolding readBlock blockPdus
+unfolding readBlock ask blockPdus
 block-reads-back o ps s k pos few n f e =
     let w = 8 * o - 4 in
     let inside = fits-inside ps w 0 (omega arith) f in
     let many = fits-few ps w 0 (omega arith) f in
     rw (eq-eqb (length s) o n, eq-eqb (getD s (o - 1) 0 % 16) 0 (four-zeros s (blockBits ps) k (o - 1) (omega arith) (omega arith) e))
-    (ap replyOf (pdus-read-back ps 16 w 0 (bitsOf (s ++ replicate 14 0)) (replicate k 0 ++ bitsOf (replicate 14 0)) (omega arith) f
+    (sym (listed-or-not (blockPdus o s)) ∙ ap replyOf (pdus-read-back ps 16 w 0 (bitsOf (s ++ replicate 14 0)) (replicate k 0 ++ bitsOf (replicate 14 0)) (omega arith) f
     (bitsOf-append s (replicate 14 0) ∙ ap (λ (x : List ℕ). x ++ bitsOf (replicate 14 0)) e ∙ append-assoc (blockBits ps) (replicate k 0) (bitsOf (replicate 14 0)))
     (some k)))
 

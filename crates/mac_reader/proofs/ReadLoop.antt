@@ -9,6 +9,7 @@ use native.Mathlib.Omega.{arith}
 use lib.ListN.{length, take, drop, getD, set, replicate, length-append}
 use lib.Seq.{set-at, drop-cons, take-suc, append-snoc, length-take-le, take-all}
 use lib.Dec.{ltb, leb, eqb}
+use Rattle.questions.specs.declared.Refusal.{Refusal}
 use Rattle.bitbuffer.specs.Bits.{bitsValue, part, field}
 use Rattle.mac_pdus.specs.declared.ResourceHeader.{ResourceHeader}
 use Rattle.mac_pdus.specs.Headers.{ifZero, addressType}
@@ -125,7 +126,7 @@ module _ (w : ℕ) (l : List ℕ) (pdus : List PlacedHeader) (n at : ℕ) (g : G
       reply (g .ds) pdus n (g .size) (g .holds)
       ∙ ap replyOf (ap headers (sym (append-nil (g .ds))) ∙ ap (joined (g .ds)) (sym (none-left (16 - n) w l at (omega arith))) ∙ sym (g .left))
 
-  pub got-refused : n < 16 → at + 16 ≤ w → pduAt w l at ≡ Malformed → noHeaders ReadOutcome.Malformed ≡ replyOf (readPdus 16 w l 0)
+  pub got-refused : n < 16 → at + 16 ≤ w → pduAt w l at ≡ Malformed → noHeaders Refusal.Malformed ≡ replyOf (readPdus 16 w l 0)
   got-refused k h e =
       ap replyOf (ap (joined (g .ds)) (sym (ap (λ (m : ℕ). readPdus m w l at) (less k) ∙ refused-read (16 - (n + 1)) w l at h e)) ∙ sym (g .left))
 

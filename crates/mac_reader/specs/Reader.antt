@@ -1,10 +1,12 @@
 -- What the block reader lists and refuses (document 01, section "Block" and questions 2 and 12). Assumes nothing.
 use mathlib.Core.Path.{_≡_}
-use mathlib.Core.Bool.{Bool, cond, not, _&&_, _||_}
+use mathlib.Core.Bool.{Bool, true, false, cond, not, _&&_, _||_}
 use Prim.Native.Nat.{ℕ, zero, suc, _+_, _-_, _*_, _%_}
 use mathlib.Core.List.{List, [], _∷_, _++_}
 use lib.ListN.{length, getD, replicate}
 use lib.Dec.{ltb, leb, eqb}
+use Rattle.questions.specs.declared.Refusal.{Refusal}
+use Rattle.questions.specs.Questions.{Question, question, refusalNumber, ask, askedNumber}
 use Rattle.bitbuffer.specs.Bits.{bitsOf, field}
 use Rattle.mac_pdus.specs.declared.ResourceHeader.{ResourceHeader}
 use Rattle.mac_pdus.specs.declared.MacEndDl.{MacEndDl}
@@ -101,41 +103,43 @@ blockPdus o s = readPdus 16 (8 * o - 4) (bitsOf (s ++ replicate 14 0)) 0
 
 -- ---- the reply
 
--- question 2, "Are the lent lengths those above?", and question 12
+-- "number (0 done)"
 abbrev pub outcomeNumber : ReadOutcome → ℕ
 outcomeNumber ReadOutcome.Listed = 0
-outcomeNumber ReadOutcome.Lengths = 2
-outcomeNumber ReadOutcome.Malformed = 12
+outcomeNumber (ReadOutcome.Refused r) = refusalNumber r
 
 -- what fills the list behind its last header
 abbrev pub noHeader : PlacedHeader
 noHeader = record { at = 0; header = PduHeader.Frag (record { «fill_bits» = 0 }) }
 
-abbrev pub noHeaders : ReadOutcome → BlockHeaders
-noHeaders x = record { outcome = x; count = 0; headers = replicate 16 noHeader }
+-- "On a no, the number is the whole reply"
+abbrev pub noHeaders : Refusal → BlockHeaders
+noHeaders r = record { outcome = ReadOutcome.Refused r; count = 0; headers = replicate 16 noHeader }
 
 abbrev pub replyOf : Reading → BlockHeaders
-replyOf refused = noHeaders ReadOutcome.Malformed
+replyOf refused = noHeaders Refusal.Malformed
 replyOf (headers ps) = record { outcome = ReadOutcome.Listed; count = length ps; headers = ps ++ replicate (16 - length ps) noHeader }
 
 -- "the block's last four bits zero"
 abbrev pub lastFourZero : ℕ → List ℕ → Bool
 lastFourZero o s = eqb (getD s (o - 1) 0 % 16) 0
 
+abbrev pub isList : Reading → Bool
+isList refused = false
+isList (headers ps) = true
+
+-- "2. Are the lent lengths those above?", and 12
+abbrev pub readQuestions : ℕ → List ℕ → List Question
+readQuestions o s =
+    question (eqb (length s) o) Refusal.Lengths
+    ∷ question (lastFourZero o s && isList (blockPdus o s)) Refusal.Malformed
+    ∷ []
+
 -- the reader on a block of `o` octets: 34 of them make a full slot, 268 bits
 unfoldable pub readBlock : ℕ → List ℕ → BlockHeaders
-readBlock o s =
-    cond (eqb (length s) o) (cond (lastFourZero o s) (replyOf (blockPdus o s)) (noHeaders ReadOutcome.Malformed)) (noHeaders ReadOutcome.Lengths)
-
-abbrev pub readingNumber : Reading → ℕ
-readingNumber refused = 12
-readingNumber (headers ps) = 0
-
--- questions 2 and 12, in this order: the number of the first that is answered no
-unfoldable pub readNumber : ℕ → List ℕ → ℕ
-readNumber o s = cond (eqb (length s) o) (cond (lastFourZero o s) (readingNumber (blockPdus o s)) 12) 2
+readBlock o s = ask (readQuestions o s) (replyOf (blockPdus o s)) noHeaders
 
 -- the reader's promise: the number of its outcome, and its reply
 pub record ReadAs (o : ℕ) (s : List ℕ) (reply : BlockHeaders) : Type 0 where
-  pub number : outcomeNumber (reply .outcome) ≡ readNumber o s
+  pub number : outcomeNumber (reply .outcome) ≡ askedNumber (readQuestions o s)
   pub replies : reply ≡ readBlock o s

@@ -10,6 +10,7 @@ use mac_pdus::MacEndDl;
 use mac_pdus::MacFragDl;
 use mac_pdus::PduHeader;
 use mac_pdus::ResourceHeader;
+use questions::Refusal;
 
 // A header and the bit position where it stands.
 pub struct PlacedHeader {
@@ -20,8 +21,7 @@ pub struct PlacedHeader {
 // How a reading ends: with a list of headers, or refused.
 pub enum ReadOutcome {
     Listed,
-    Lengths,
-    Malformed,
+    Refused(Refusal),
 }
 
 // The reader's reply: the outcome, and the headers, `count` of them.
@@ -44,8 +44,7 @@ pub fn outcome_number(x: ReadOutcome) -> u8
 {
     match x {
         ReadOutcome::Listed => 0,
-        ReadOutcome::Lengths => 2,
-        ReadOutcome::Malformed => 12,
+        ReadOutcome::Refused(r) => questions::number(r),
     }
 }
 
@@ -183,8 +182,8 @@ fn read_pdu(s: &[u8], w: usize, at: usize) -> PduStep
 }
 
 // A refused reading.
-fn no_headers(outcome: ReadOutcome) -> BlockHeaders
-    ensures { λ r. ⌜ r ≡ noHeaders outcome ⌝ }
+fn no_headers(refusal: Refusal) -> BlockHeaders
+    ensures { λ r. ⌜ r ≡ noHeaders refusal ⌝ }
 {
     let none = PlacedHeader {
         at: 0,
@@ -192,7 +191,7 @@ fn no_headers(outcome: ReadOutcome) -> BlockHeaders
     };
     let headers = [none; 16];
     BlockHeaders {
-        outcome,
+        outcome: ReadOutcome::Refused(refusal),
         count: 0,
         headers,
     }
@@ -221,7 +220,7 @@ pub fn read_list(s: &[u8], w: usize) -> BlockHeaders
         let step = read_pdu(s, w, at);
         match step {
             PduStep::Malformed => {
-                return no_headers(ReadOutcome::Malformed);
+                return no_headers(Refusal::Malformed);
             }
             PduStep::Last(header) => {
                 headers[n] = PlacedHeader { at, header };
@@ -264,10 +263,10 @@ pub fn read_block(block: &[u8]) -> BlockHeaders
     ensures { λ r. ⌜ ReadAs 34 (now (block .entry)) r ⌝ }
 {
     if block.len() != 34 {
-        return no_headers(ReadOutcome::Lengths);
+        return no_headers(Refusal::Lengths);
     }
     if block[33] % 16 != 0 {
-        return no_headers(ReadOutcome::Malformed);
+        return no_headers(Refusal::Malformed);
     }
     let pad = padded(block);
     read_list(&pad, 268)

@@ -7,6 +7,9 @@ use native.Mathlib.Omega.{arith}
 use lib.ListN.{length}
 use lib.Dec.{ltb, leb}
 use borrow.Author.Tests.{ltb-true, leb-true, leb-false, lt-ltb, le-ltb, le-leb, lt-leb}
+use Rattle.questions.specs.declared.Refusal.{Refusal}
+use Rattle.questions.specs.Questions.{ask, askedNumber}
+use Rattle.questions.proofs.AskLaws.{first-no, every-yes, ask-map, ask-elim}
 use Rattle.bitbuffer.specs.Bits.{bitsOf, written, Wrote}
 use Rattle.mac_pdus.specs.declared.MacResource.{MacResource}
 use Rattle.mac_pdus.specs.declared.ResourceHeader.{ResourceHeader}
@@ -16,9 +19,8 @@ use Rattle.mac_pdus.specs.Headers.{resourceBits, headerLength}
 use Rattle.mac_pdus.specs.Legal.{legalLone, onAir}
 use Rattle.mac_pdus.proofs.Conjunctions.{and2}
 use Rattle.mac_pdus.proofs.LengthLaws.{header-size}
-use Rattle.mac_writer.specs.declared.HeaderRefusal.{HeaderRefusal}
 use Rattle.mac_writer.specs.declared.WriteReply.{WriteReply}
-use Rattle.mac_writer.specs.Writer.{replyNumber, numberFits, roomFor, writeNumber, writeReply, bitsAfter, WrittenAs}
+use Rattle.mac_writer.specs.Writer.{replyNumber, roomFor, writeQuestions, writeReply, bitsAfter, WrittenAs}
 
 -- ---- question 11
 
@@ -49,36 +51,28 @@ room-test octets at n h k =
 
 -- ---- the reply
 
-reply-number : (octets at : ℕ) (h : MacResource) → replyNumber (writeReply octets at h) ≡ writeNumber octets at h
-unfolding writeReply writeNumber
-reply-number octets at h = go (numberFits h) (legalLone h) (roomFor octets at (headerLength (onAir h)))
-  where
-    go : (a b c : Bool)
-        → replyNumber (cond a (cond b (cond c (WriteReply.Next (at + headerLength (onAir h))) (WriteReply.Refused HeaderRefusal.NoRoom)) (WriteReply.Refused HeaderRefusal.Header)) (WriteReply.Refused HeaderRefusal.Address))
-        ≡ cond a (cond b (cond c 0 11) 6) 5
-    go true true true = refl
-    go true true false = refl
-    go true false c = refl
-    go false b c = refl
+reply-number : (octets at : ℕ) (h : MacResource) → replyNumber (writeReply octets at h) ≡ askedNumber (writeQuestions octets at h)
+unfolding writeReply
+reply-number octets at h = ask-map replyNumber (writeQuestions octets at h) _ _
 
 as-written : (s t : List ℕ) (at : ℕ) (h : MacResource) (reply : WriteReply) → reply ≡ writeReply (length s) at h → bitsOf t ≡ bitsAfter (bitsOf s) at h reply
     → WrittenAs s at h reply t
 as-written s t at h reply e b = record { number = ap replyNumber e ∙ reply-number (length s) at h; replies = e; bits = b }
 
-pub refused-address : (s : List ℕ) (at : ℕ) (h : MacResource) → 16777216 ≤ h .number → WrittenAs s at h (WriteReply.Refused HeaderRefusal.Address) s
+pub refused-address : (s : List ℕ) (at : ℕ) (h : MacResource) → 16777216 ≤ h .number → WrittenAs s at h (WriteReply.Refused Refusal.Address) s
 unfolding writeReply
-refused-address s at h k = as-written s s at h _ (rw (le-ltb (h .number) 16777216 k)) refl
+refused-address s at h k = as-written s s at h _ (first-no _ _ 0 (writeQuestions (length s) at h) tt (le-ltb (h .number) 16777216 k)) refl
 
-pub refused-header : (s : List ℕ) (at : ℕ) (h : MacResource) → h .number < 16777216 → legalLone h ≡ false → WrittenAs s at h (WriteReply.Refused HeaderRefusal.Header) s
+pub refused-header : (s : List ℕ) (at : ℕ) (h : MacResource) → h .number < 16777216 → legalLone h ≡ false → WrittenAs s at h (WriteReply.Refused Refusal.Header) s
 unfolding writeReply
-refused-header s at h k l = as-written s s at h _ (rw (lt-ltb (h .number) 16777216 k, l)) refl
+refused-header s at h k l = as-written s s at h _ (first-no _ _ 1 (writeQuestions (length s) at h) (tt, lt-ltb (h .number) 16777216 k) l) refl
 
 pub refused-room : (s : List ℕ) (at : ℕ) (h : MacResource) (r : ResourceHeader) (n : ℕ) → h .number < 16777216 → legalLone h ≡ true → r ≡ onAir h → n ≡ headerLength r
-    → roomFor (length s) at n ≡ false → WrittenAs s at h (WriteReply.Refused HeaderRefusal.NoRoom) s
+    → roomFor (length s) at n ≡ false → WrittenAs s at h (WriteReply.Refused Refusal.NoRoom) s
 unfolding writeReply
 refused-room s at h r n k l er en lacks =
     let room : roomFor (length s) at (headerLength (onAir h)) ≡ false = ap (roomFor (length s) at) (sym (en ∙ ap headerLength er)) ∙ lacks in
-    as-written s s at h _ (rw (lt-ltb (h .number) 16777216 k, l, room)) refl
+    as-written s s at h _ (first-no _ _ 2 (writeQuestions (length s) at h) ((tt, lt-ltb (h .number) 16777216 k), l) room) refl
 
 pub header-written : (s t : List ℕ) (at : ℕ) (h : MacResource) (r : ResourceHeader) (n next : ℕ) → h .number < 16777216 → legalLone h ≡ true → r ≡ onAir h
     → n ≡ headerLength r → roomFor (length s) at n ≡ true → Wrote (bitsOf s) at (bitsOf t) next (resourceBits r) → WrittenAs s at h (WriteReply.Next next) t
@@ -87,7 +81,7 @@ header-written s t at h r n next k l er en has w =
     let room : roomFor (length s) at (headerLength (onAir h)) ≡ true = ap (roomFor (length s) at) (sym (en ∙ ap headerLength er)) ∙ has in
     let ends : next ≡ at + headerLength (onAir h) = w .ends ∙ ap (λ (x : ℕ). at + x) (sym (header-size r) ∙ ap headerLength er) in
     as-written s t at h _
-    (rw (lt-ltb (h .number) 16777216 k, l, room) (ap WriteReply.Next ends))
+    (ap WriteReply.Next ends ∙ every-yes _ _ (writeQuestions (length s) at h) (((tt, lt-ltb (h .number) 16777216 k), l), room))
     (w .bits ∙ ap (λ (x : ResourceHeader). written (bitsOf s) at (resourceBits x)) er)
 
 -- the header that passed has its fields within their widths
@@ -100,7 +94,7 @@ pub record Taken (octets at : ℕ) (h : MacResource) (next : ℕ) : Type 0 where
   pub room : roomFor octets at (headerLength (onAir h)) ≡ true
   pub ends : next ≡ at + headerLength (onAir h)
 
-never : {X : Type 0} {n : ℕ} {x : HeaderRefusal} → WriteReply.Next n ≡ WriteReply.Refused x → X
+never : {X : Type 0} {n : ℕ} {x : Refusal} → WriteReply.Next n ≡ WriteReply.Refused x → X
 never e = absurd (let z : _≡_ {A = ℕ} 0 1 = cc in omega arith)
 
 same : {n m : ℕ} → WriteReply.Next n ≡ WriteReply.Next m → n ≡ m
@@ -108,12 +102,7 @@ same e = cc
 
 pub was-taken : (octets at : ℕ) (h : MacResource) (next : ℕ) → WriteReply.Next next ≡ writeReply octets at h → Taken octets at h next
 unfolding writeReply
-was-taken octets at h next e = go (numberFits h) (legalLone h) (roomFor octets at (headerLength (onAir h))) refl refl e
-  where
-    go : (a b c : Bool) → legalLone h ≡ b → roomFor octets at (headerLength (onAir h)) ≡ c
-        → WriteReply.Next next ≡ cond a (cond b (cond c (WriteReply.Next (at + headerLength (onAir h))) (WriteReply.Refused HeaderRefusal.NoRoom)) (WriteReply.Refused HeaderRefusal.Header)) (WriteReply.Refused HeaderRefusal.Address)
-        → Taken octets at h next
-    go true true true p q e = record { legal = p; room = q; ends = same e }
-    go true true false p q e = never e
-    go true false c p q e = never e
-    go false b c p q e = never e
+was-taken octets at h next =
+    ask-elim (λ (r : WriteReply). WriteReply.Next next ≡ r → Taken octets at h next) (writeQuestions octets at h) _ WriteReply.Refused
+    (λ r e. never e)
+    (λ yes e. record { legal = yes .1 .0; room = yes .1 .1 .0; ends = same e })

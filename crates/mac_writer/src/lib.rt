@@ -1,6 +1,7 @@
 // Writers of the short headers, MAC-FRAG, MAC-END and the null PDU, and of a run of bits; the replies of the lone writer.
 use mac_pdus::MacEndDl;
 use mac_pdus::MacFragDl;
+use questions::Refusal;
 ghost use mathlib.Core.Path.{_≡_};
 ghost use Prim.Native.Nat.{_+_, _*_, _<_, _≤_, _^_};
 ghost use lib.ListN.{length};
@@ -47,15 +48,8 @@ pub fn put_end(s: &mut [u8], at: usize, e: MacEndDl) -> usize
     bitbuffer::put(s, at, 13, 3072 + (e.fill_bits as u64 * 512 + low))
 }
 
-// Why a header is not written.
-pub enum HeaderRefusal {
-    Address,
-    Header,
-    NoRoom,
-}
-
 // A refusal, or the position after the header.
 pub enum WriteReply {
-    Refused(HeaderRefusal),
+    Refused(Refusal),
     Next(usize),
 }

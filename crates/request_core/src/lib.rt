@@ -2,7 +2,7 @@
 // the queue elsewhere.
 use dl_record::Record;
 use optional::OptU8;
-use sched_core::Refusal;
+use questions::Refusal;
 use sched_core::RequestReply;
 use sched_core::Station;
 use uplink::CapAnswer;
@@ -11,16 +11,17 @@ ghost use mathlib.Core.Path.{_≡_};
 ghost use mathlib.Core.Bool.{true};
 ghost use Prim.Native.Nat.{_-_, _≤_, _<_};
 ghost use lib.ListN.{getD};
+ghost use Rattle.sizes.specs.Sizes.{timeslots, perTimeslot, latestDelay};
+ghost use Rattle.questions.specs.declared.Refusal.{Refusal};
 ghost use Rattle.tdma_time.specs.Time.{Valid};
 ghost use Rattle.uplink.specs.declared.CapReply.{CapReply};
-ghost use Rattle.sched_core.specs.declared.Refusal.{Refusal};
 ghost use Rattle.sched_core.specs.declared.RequestReply.{RequestReply};
 ghost use Rattle.sched_core.specs.Questions.{soundStation};
-ghost use Rattle.sched_core.specs.Calls.{grantQueued, requestCall};
-ghost use Rattle.request_core.specs.RequestPlan.{refusedRequest, Grants, requestLeaves, RequestPlanned};
+ghost use Rattle.sched_core.specs.Calls.{grantQueued, requestAnswered, requestCall};
+ghost use Rattle.request_core.specs.RequestPlan.{refusedRequest, Grants, RequestPlanned};
 
-// The reply, the station after the request, and the grant that joins the queue with its place; where none joins, the place is 64,
-// past the queue, and the record the empty one.
+// The reply, the station after the request, and the grant that joins the queue with its place; where none joins, the place is past the
+// queue, and the record the empty one.
 pub struct RequestPlan {
     pub reply: RequestReply,
     pub station: Station,
@@ -34,7 +35,7 @@ fn request_refused(refusal: Refusal, station: Station) -> RequestPlan
     RequestPlan {
         reply: RequestReply::Refused(refusal),
         station: station,
-        place: 64,
+        place: sizes::QUEUE_PLACES,
         record: Record::EMPTY,
     }
 }
@@ -50,9 +51,9 @@ fn queue_grant(
     delay: u8,
     usage_marker: OptU8,
 ) -> RequestPlan
-    requires { ⌜ (1 ≤ timeslot) × (timeslot ≤ 4) × (getD (station .queued) (timeslot - 1) 0 < 16) ⌝ }
-    requires { ⌜ (capacity ≤ 15) × (delay ≤ 13) ⌝ }
-    ensures { λ r. ⌜ Grants r (λ rs. grantQueued station rs timeslot kind number answer (CapReply.Granted capacity delay «usage_marker»)) ⌝ }
+    requires { ⌜ (1 ≤ timeslot) × (timeslot ≤ timeslots) × (getD (station .queued) (timeslot - 1) 0 < perTimeslot) ⌝ }
+    requires { ⌜ (capacity ≤ 15) × (delay ≤ latestDelay) ⌝ }
+    ensures { λ r. ⌜ Grants (λ m. grantQueued m timeslot kind number answer (CapReply.Granted capacity delay «usage_marker»)) station r ⌝ }
 {
     let octet = capacity * 16 + delay;
     let grant = dl_record::grant_record(kind, number, octet, usage_marker);
@@ -89,8 +90,8 @@ fn queue_grant(
 // Questions 9 and 10, then the grant is queued.
 fn request_answered(station: Station, timeslot: u8, code: u8, kind: u8, number: u32) -> RequestPlan
     requires { ⌜ Valid (station .time) ⌝ }
-    requires { ⌜ (1 ≤ timeslot) × (timeslot ≤ 4) × (getD (station .queued) (timeslot - 1) 0 < 16) ⌝ }
-    ensures { λ r. ⌜ RequestPlanned (requestLeaves timeslot code kind number) station r ⌝ }
+    requires { ⌜ (1 ≤ timeslot) × (timeslot ≤ timeslots) × (getD (station .queued) (timeslot - 1) 0 < perTimeslot) ⌝ }
+    ensures { λ r. ⌜ RequestPlanned (λ m. requestAnswered m timeslot code kind number) station r ⌝ }
 {
     let now = station.time;
     let counters = station.next_usage_marker;

@@ -19,12 +19,12 @@ use Rattle.uplink.specs.HalfSlot.{firstHalf, vacant}
 use Rattle.uplink.specs.Search.{Run}
 use Rattle.uplink.specs.UplinkEntry.{Table, tableView}
 use Rattle.uplink.specs.Request.{Request, Verdict, tooLate, grant, earliestRun, settle, verdict, capacity, markerOf, replyTo, given, answer}
-use Rattle.dl_record.specs.declared.Record.{Record}
 use Rattle.sched_core.specs.declared.Station.{Station}
-use Rattle.sched_core.specs.declared.Refusal.{Refusal}
+use Rattle.questions.specs.declared.Refusal.{Refusal}
 use Rattle.sched_core.specs.declared.RequestReply.{RequestReply}
 use Rattle.sched_core.specs.Station.{tableOf}
-use Rattle.sched_core.specs.Calls.{requestCoreAnswer, grantQueued, requestAnswered}
+use Rattle.sched_core.specs.Questions.{Memory}
+use Rattle.sched_core.specs.Calls.{outcome, grantQueued, requestAnswered}
 
 -- a granted capacity and delay fit in four bits each, and the marker is that drawn
 pub record GrantHolds (ms : List ℕ) (r : Request) (cap delay : ℕ) (m : OptU8) : Type 0 where
@@ -60,22 +60,26 @@ module _ (tb : Table) (ms : List ℕ) (now : TdmaTime) (r : Request) (cap delay 
 
 -- ---- the three replies of the search
 
-module _ (s : Station) (rs : List Record) (t code kind n : ℕ) (a : CapAnswer)
-    (is : a ≡ answer (tableOf s) (s .«next_usage_marker») (s .time) (record { timeslot = t; code = code; number = n })) where
-  pub answered-no-run : a .reply ≡ CapReply.NoRun → requestCoreAnswer (RequestReply.Refused Refusal.NoRun) s rs ≡ requestAnswered s rs t code kind n
+module _ (m : Memory) (t code kind n : ℕ) (a : CapAnswer)
+    (is : a ≡ answer (tableOf (m .station)) (m .station .«next_usage_marker») (m .station .time) (record { timeslot = t; code = code; number = n })) where
+  pub answered-no-run : a .reply ≡ CapReply.NoRun → outcome (RequestReply.Refused Refusal.NoRun) m ≡ requestAnswered m t code kind n
   unfolding requestAnswered grantQueued
   answered-no-run e = rw (← is, e)
 
-  pub answered-too-late : a .reply ≡ CapReply.TooLate → requestCoreAnswer (RequestReply.Refused Refusal.TooLate) s rs ≡ requestAnswered s rs t code kind n
+  pub answered-too-late : a .reply ≡ CapReply.TooLate → outcome (RequestReply.Refused Refusal.TooLate) m ≡ requestAnswered m t code kind n
   unfolding requestAnswered grantQueued
   answered-too-late e = rw (← is, e)
 
-  pub answered-grant : (cap delay : ℕ) (m : OptU8) → a .reply ≡ CapReply.Granted cap delay m
-      → grantQueued s rs t kind n a (CapReply.Granted cap delay m) ≡ requestAnswered s rs t code kind n
+  pub answered-grant : (cap delay : ℕ) (marker : OptU8) → a .reply ≡ CapReply.Granted cap delay marker
+      → grantQueued m t kind n a (CapReply.Granted cap delay marker) ≡ requestAnswered m t code kind n
   unfolding requestAnswered
-  answered-grant cap delay m e = rw (← is, e)
+  answered-grant cap delay marker e = rw (← is, e)
 
-  pub grant-fits : (cap delay : ℕ) (m : OptU8) → a .reply ≡ CapReply.Granted cap delay m → (cap ≤ 15) × (delay ≤ 13)
-  grant-fits cap delay m e =
-      let h = grant-holds (tableOf s) (s .«next_usage_marker») (s .time) (record { timeslot = t; code = code; number = n }) cap delay m (ap (λ (x : CapAnswer). x .reply) (sym is) ∙ e) in
-      (h .cap-fits, h .delay-fits)
+-- a grant's capacity and delay fit their four bits
+pub grant-fits : (s : Station) (t code n : ℕ) (a : CapAnswer)
+    → a ≡ answer (tableOf s) (s .«next_usage_marker») (s .time) (record { timeslot = t; code = code; number = n })
+    → (cap delay : ℕ) (marker : OptU8) → a .reply ≡ CapReply.Granted cap delay marker → (cap ≤ 15) × (delay ≤ 13)
+grant-fits s t code n a is cap delay marker e =
+    let r : Request = record { timeslot = t; code = code; number = n } in
+    let h = grant-holds (tableOf s) (s .«next_usage_marker») (s .time) r cap delay marker (ap (λ (x : CapAnswer). x .reply) (sym is) ∙ e) in
+    (h .cap-fits, h .delay-fits)

@@ -8,6 +8,7 @@ use lib.Dec.{leb}
 use lib.ListN.{length, getD, take, drop, replicate, length-set, length-replicate, getD-replicate, replicate-append-replicate}
 use lib.Seq.{take-at, drop-at, length-paste}
 use borrow.Author.Tests.{leb-true, le-leb, lt-ltb, le-ltb}
+use Rattle.sizes.specs.Sizes.{timeslots, perTimeslot, queuePlaces, storeOctets}
 use Rattle.optional.specs.declared.OptU8.{OptU8}
 use Rattle.optional.specs.declared.OptU16.{OptU16}
 use Rattle.optional.proofs.Tests.{and-right, and-intro}
@@ -47,15 +48,16 @@ use Rattle.dl_send.proofs.KeptLaws.{Staying}
 use Rattle.dl_build.specs.Build.{builtOf}
 use Rattle.dl_build.proofs.AfterBuild.{build-stays, build-holds}
 use Rattle.sched_core.specs.declared.Answer.{Answer}
-use Rattle.sched_core.specs.declared.Refusal.{Refusal}
+use Rattle.questions.specs.declared.Refusal.{Refusal}
 use Rattle.sched_core.specs.declared.Reply.{Reply}
 use Rattle.sched_core.specs.declared.RequestReply.{RequestReply}
 use Rattle.sched_core.specs.declared.BuildReply.{BuildReply}
 use Rattle.sched_core.specs.Station.{tableOf, stationOf}
-use Rattle.sched_core.specs.Questions.{Memory, memory, Question, soundCount, requestQuestions, ackQuestions, tmaQuestions, buildQuestions, isStationSound, areLengthsRight, isQueueSound, ask}
-use Rattle.sched_core.specs.Calls.{Outcome, withRecord, withSdu, requestOutcome, grantQueued, requestAnswered, requestCall, ackCall, tmaCall, BuildOutcome, notBuilt, current, buildsNow, builtNow, withLeft, blockBuilt, buildCall, advanceCall, newMemory, advanceMemory}
+use Rattle.sched_core.specs.Questions.{Memory, memory, soundCount, asksStation, queuedFor, memoryQuestions, requestQuestions, ackQuestions, tmaQuestions, buildLent}
+use Rattle.sched_core.specs.Calls.{Outcome, withRecord, withSdu, grantQueued, requestAnswered, requestCall, ackCall, tmaCall, BuildOutcome}
+use Rattle.sched_core.specs.Calls.{notBuilt, current, buildsNow, builtNow, withLeft, blockBuilt, buildCall, advanceCall, newMemory, advanceMemory}
 use Rattle.sched_core.specs.Invariant.{SoundMemory, EveryCallKeeps}
-use Rattle.sched_core.proofs.AskLaws.{ask-elim}
+use Rattle.questions.proofs.AskLaws.{AllYes, ask-elim}
 use Rattle.sched_core.proofs.StationLaws.{sound-parts, parts-sound}
 use Rattle.sched_core.proofs.QuestionLaws.{right-lengths, timeslot-range, address-number, room-left}
 use Rattle.sched_core.proofs.GrantLaws.{grant-holds}
@@ -70,11 +72,11 @@ pub record Parts (x : TdmaTime) (tb : Table) (ms ns : List ℕ) (rs : List Recor
   pub time : Valid x
   pub shape : FourRowsOfEighteen tb
   pub entries : soundTable tb ≡ true
-  pub four-counters : length ms ≡ 4
+  pub four-counters : length ms ≡ timeslots
   pub counters : soundCounters ms ≡ true
-  pub four-counts : length ns ≡ 4
-  pub places : length rs ≡ 64
-  pub cells : length st ≡ 16384
+  pub four-counts : length ns ≡ timeslots
+  pub places : length rs ≡ queuePlaces
+  pub cells : length st ≡ storeOctets
   pub octets : Octets st
   pub queue : soundQueue ns rs st ≡ true
 
@@ -87,7 +89,7 @@ parts-memory x tb ms ns rs st p =
             time = p .time;
             table = ap soundTable same ∙ p .entries;
             counters = p .counters;
-            counts = at-all soundCount ns 0 (λ i h. le-leb (getD ns i 0) 16 (queue-at ns rs st (p .queue) i h .0));
+            counts = at-all soundCount ns 0 (λ i h. le-leb (getD ns i 0) perTimeslot (queue-at ns rs st (p .queue) i h .0));
           });
       queue = p .queue;
       places = p .places;
@@ -120,7 +122,7 @@ memory-parts m h =
 pub advance-keeps : (m : Memory) → SoundMemory m → SoundMemory (advanceMemory m .memory)
 unfolding advanceMemory advanceCall
 advance-keeps m h =
-    ask-elim (λ (a : Answer). SoundMemory (memory (a .station) (m .records) (m .store))) (isStationSound (m .station) ∷ []) _ _ (λ r. h)
+    ask-elim (λ (a : Answer). SoundMemory (memory (a .station) (m .records) (m .store))) (asksStation (m .station) ∷ []) _ _ (λ r. h)
     (λ yes.
     let p = memory-parts m h in
     parts-memory _ _ _ _ _ _
@@ -186,7 +188,7 @@ counters-at-4 = refl
 pub new-sound : (x : TdmaTime) → Valid x → SoundMemory (newMemory x)
 unfolding newMemory
 new-sound x h =
-    parts-memory x emptyTable (replicate 4 4) (zeros 4) (replicate 64 emptyRecord) (zeros 16384)
+    parts-memory x emptyTable (replicate 4 4) (zeros 4) (replicate queuePlaces emptyRecord) (zeros storeOctets)
     (record {
       time = h;
       shape = empty-shape;
@@ -194,15 +196,15 @@ new-sound x h =
       four-counters = refl;
       counters = counters-at-4;
       four-counts = refl;
-      places = length-replicate 64 emptyRecord;
-      cells = length-replicate {A = ℕ} 16384 0;
-      octets = octets-zero 16384;
-      queue = empty-queue-sound 4 64 16384 refl refl;
+      places = length-replicate queuePlaces emptyRecord;
+      cells = length-replicate {A = ℕ} storeOctets 0;
+      octets = octets-zero storeOctets;
+      queue = empty-queue-sound timeslots queuePlaces storeOctets refl refl;
     })
 
 -- ---- acks and records
 
-module _ (m : Memory) (t : ℕ) (h : SoundMemory m) (low : 1 ≤ t) (high : t ≤ 4) (room : getD (m .station .queued) (t - 1) 0 < 16) where
+module _ (m : Memory) (t : ℕ) (h : SoundMemory m) (low : 1 ≤ t) (high : t ≤ timeslots) (room : getD (m .station .queued) (t - 1) 0 < perTimeslot) where
   abbrev ns : List ℕ
   ns = m .station .queued
 
@@ -211,7 +213,7 @@ module _ (m : Memory) (t : ℕ) (h : SoundMemory m) (low : 1 ≤ t) (high : t �
 
   -- the memory with a record queued, where the queue stays sound
   joined : (r : Record) (st : List ℕ) (tb : Table) (ms : List ℕ) → FourRowsOfEighteen tb → soundTable tb ≡ true → length ms ≡ 4 → soundCounters ms ≡ true
-      → length st ≡ 16384 → Octets st → soundQueue (enqueued ns (m .records) (t - 1) r .counts) (enqueued ns (m .records) (t - 1) r .records) st ≡ true
+      → length st ≡ storeOctets → Octets st → soundQueue (enqueued ns (m .records) (t - 1) r .counts) (enqueued ns (m .records) (t - 1) r .records) st ≡ true
       → SoundMemory (memory (stationOf (m .station .time) tb ms (enqueued ns (m .records) (t - 1) r .counts)) (enqueued ns (m .records) (t - 1) r .records) st)
   joined r st tb ms shape entries four-ms counters size octets sound =
       parts-memory (m .station .time) tb ms _ _ st
@@ -256,7 +258,7 @@ module _ (m : Memory) (t : ℕ) (h : SoundMemory m) (low : 1 ≤ t) (high : t �
   module _ (kind n : ℕ) (address : legalAddress kind n ≡ true) (a : CapAnswer) (shape : FourRowsOfEighteen (uplinkTable a)) (entries : soundTable (uplinkTable a) ≡ true)
       (four-ms : length (a .«next_usage_marker») ≡ 4) (counters : soundCounters (a .«next_usage_marker») ≡ true) where
     grant-joined : (cap delay : ℕ) (mk : OptU8) → cap ≤ 15 → delay ≤ 13 → optFits 6 mk ≡ true
-        → SoundMemory (requestOutcome (grantQueued (m .station) (m .records) t kind n a (CapReply.Granted cap delay mk)) (m .store) .memory)
+        → SoundMemory (grantQueued m t kind n a (CapReply.Granted cap delay mk) .memory)
     unfolding grantQueued
     grant-joined cap delay mk c d w =
         joined (grantRecord kind n (grantOctet cap delay) mk) (m .store) (uplinkTable a) (a .«next_usage_marker») shape entries four-ms counters (h .cells) (h .octets)
@@ -264,7 +266,7 @@ module _ (m : Memory) (t : ℕ) (h : SoundMemory m) (low : 1 ≤ t) (high : t �
         (lt-ltb (grantOctet cap delay) (2 ^ 8) (omega (arith, c, d))) w .sound)
 
     answer-joined : (x : CapReply) → ((cap delay : ℕ) (mk : OptU8) → x ≡ CapReply.Granted cap delay mk → (cap ≤ 15) × (delay ≤ 13) × (optFits 6 mk ≡ true))
-        → SoundMemory (requestOutcome (grantQueued (m .station) (m .records) t kind n a x) (m .store) .memory)
+        → SoundMemory (grantQueued m t kind n a x .memory)
     unfolding grantQueued
     answer-joined CapReply.NoRun f = h
     answer-joined CapReply.TooLate f = h
@@ -311,23 +313,23 @@ module _ (tb : Table) (ms : List ℕ) (r : Request) where
 pub ack-keeps : (m : Memory) (t kind n : ℕ) → SoundMemory m → SoundMemory (ackCall m t kind n .memory)
 unfolding ackCall
 ack-keeps m t kind n h =
-    ask-elim (λ (o : Outcome Reply). SoundMemory (o .memory)) (ackQuestions m t kind n) _ _ (λ r. h)
+    ask-elim (λ (o : Outcome Reply). SoundMemory (o .memory)) (memoryQuestions m [] ++ ackQuestions (queuedFor (m .station .queued) t) t kind n) _ _ (λ r. h)
     (λ yes.
     let ts = timeslot-range t (yes .1 .1 .1 .0) in
-    ack-joined m t h (ts .0) (ts .1) (room-left (m .station .queued) t (yes .1 .1 .1 .1 .1 .0)) kind n (yes .1 .1 .1 .1 .0))
+    ack-joined m t h (ts .0) (ts .1) (room-left (queuedFor (m .station .queued) t) (yes .1 .1 .1 .1 .1 .0)) kind n (yes .1 .1 .1 .1 .0))
 
 pub tma-keeps : (m : Memory) (t kind n : ℕ) (tag : OptU16) (header : QueuedHeader) (bits : ℕ) (sdu : List ℕ) → SoundMemory m → SoundMemory (tmaCall m t kind n tag header bits sdu .memory)
 unfolding tmaCall
 tma-keeps m t kind n tag header bits sdu h =
-    ask-elim (λ (o : Outcome Reply). SoundMemory (o .memory)) (tmaQuestions m t (offeredRecord kind n tag header bits) sdu) _ _ (λ r. h)
+    ask-elim (λ (o : Outcome Reply). SoundMemory (o .memory)) (memoryQuestions m [] ++ tmaQuestions (queuedFor (m .station .queued) t) t (offeredRecord kind n tag header bits) sdu) _ _ (λ r. h)
     (λ yes.
     let ts = timeslot-range t (yes .1 .1 .1 .0) in
-    tma-joined m t h (ts .0) (ts .1) (room-left (m .station .queued) t (yes .1 .1 .1 .1 .1 .1 .1 .0)) kind n tag header bits sdu (yes .1 .1 .1 .1 .0) (yes .1 .1 .1 .1 .1 .0) (yes .1 .1 .1 .1 .1 .1 .0))
+    tma-joined m t h (ts .0) (ts .1) (room-left (queuedFor (m .station .queued) t) (yes .1 .1 .1 .1 .1 .1 .1 .0)) kind n tag header bits sdu (yes .1 .1 .1 .1 .0) (yes .1 .1 .1 .1 .1 .0) (yes .1 .1 .1 .1 .1 .1 .0))
 
 pub request-keeps : (m : Memory) (t code kind n : ℕ) → SoundMemory m → SoundMemory (requestCall m t code kind n .memory)
 unfolding requestCall requestAnswered
 request-keeps m t code kind n h =
-    ask-elim (λ (o : Outcome RequestReply). SoundMemory (o .memory)) (requestQuestions m t code kind n) _ _ (λ r. h)
+    ask-elim (λ (o : Outcome RequestReply). SoundMemory (o .memory)) (memoryQuestions m [] ++ requestQuestions (queuedFor (m .station .queued) t) t code kind n) _ _ (λ r. h)
     (λ yes.
     let ts = timeslot-range t (yes .1 .1 .1 .0) in
     let p = memory-parts m h in
@@ -347,7 +349,7 @@ request-keeps m t code kind n h =
       number = address-number kind n (yes .1 .1 .1 .1 .1 .0);
     } in
     let g = granted-exactly tb ms (m .station .time) r good in
-    answer-joined m t h (ts .0) (ts .1) (room-left (m .station .queued) t (yes .1 .1 .1 .1 .1 .1 .0)) kind n (yes .1 .1 .1 .1 .1 .0)
+    answer-joined m t h (ts .0) (ts .1) (room-left (queuedFor (m .station .queued) t) (yes .1 .1 .1 .1 .1 .1 .0)) kind n (yes .1 .1 .1 .1 .1 .0)
     (answer tb ms (m .station .time) r) (answer-shape tb ms r (m .station .time) (p .shape)) (g .sound) (answer-four tb ms r (m .station .time) (p .four-counters)) (g .sound-counters)
     (answer tb ms (m .station .time) r .reply)
     (λ cap delay mk e.
@@ -383,7 +385,7 @@ left-sound m h =
 
 pub build-keeps : (m : Memory) (block : List ℕ) → SoundMemory m → SoundMemory (buildCall m block .memory)
 unfolding buildCall
-build-keeps m block h = ask-elim (λ (o : BuildOutcome). SoundMemory (o .memory)) (buildQuestions m block) _ _ (λ r. h) (λ yes. go (buildsNow (m .station)))
+build-keeps m block h = ask-elim (λ (o : BuildOutcome). SoundMemory (o .memory)) (memoryQuestions m (buildLent block)) _ _ (λ r. h) (λ yes. go (buildsNow (m .station)))
   where
     go : (b : Bool) → SoundMemory (cond b (blockBuilt m (current (m .station)) (builtNow m)) (notBuilt BuildReply.NoBlock m block) .memory)
     go true = left-sound m h
@@ -392,8 +394,6 @@ build-keeps m block h = ask-elim (λ (o : BuildOutcome). SoundMemory (o .memory)
 pub every-call-keeps : EveryCallKeeps
 every-call-keeps = record { new = new-sound; advance = advance-keeps; request = request-keeps; ack = ack-keeps; tma = tma-keeps; build = build-keeps }
 
--- of a sound memory questions 1 and 2 are answered yes: what is asked of the arguments decides
-pub sound-asks : {A : Type 0} (m : Memory) (qs : List Question) (done : A) (refused : Refusal → A) → SoundMemory m
-    → ask (isStationSound (m .station) ∷ areLengthsRight m ∷ isQueueSound m ∷ qs) done refused ≡ ask qs done refused
-unfolding ask
-sound-asks m qs done refused h = rw (h .station, right-lengths m (h .places) (h .cells), h .queue)
+-- of a sound memory questions 1 and 2 are answered yes
+pub sound-yes : (m : Memory) → SoundMemory m → AllYes (memoryQuestions m [])
+sound-yes m h = (h .station, (right-lengths m (h .places) (h .cells), (h .queue, tt)))

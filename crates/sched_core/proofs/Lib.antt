@@ -1,4 +1,3 @@
-pub mod AskLaws
 pub mod StationLaws
 pub mod QuestionLaws
 pub mod GrantLaws

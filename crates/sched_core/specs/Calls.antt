@@ -1,10 +1,13 @@
 -- Document 01: each call as its whole outcome, the reply and the memory after it. Assumes nothing.
 use mathlib.Core.Path.{_≡_}
 use mathlib.Core.Bool.{Bool, _&&_, cond}
-use mathlib.Core.List.{List, [], _∷_}
+use mathlib.Core.List.{List, [], _∷_, _++_}
 use Prim.Native.Nat.{ℕ, _-_}
 use lib.Dec.{ltb}
 use lib.ListN.{length, getD, replicate}
+use Rattle.sizes.specs.Sizes.{perTimeslot, queuePlaces, storeOctets, blockOctets}
+use Rattle.questions.specs.declared.Refusal.{Refusal}
+use Rattle.questions.specs.Questions.{Question, refusalNumber, ask}
 use Rattle.optional.specs.declared.OptU16.{OptU16}
 use Rattle.tdma_time.specs.declared.TdmaTime.{TdmaTime}
 use Rattle.tdma_time.specs.Time.{slotOf, timeslot, usable}
@@ -25,18 +28,15 @@ use Rattle.dl_send.specs.Send.{Sent, blockOf}
 use Rattle.dl_send.specs.Progress.{tagRow}
 use Rattle.dl_build.specs.Build.{builtOf}
 use Rattle.sched_core.specs.declared.Station.{Station}
-use Rattle.sched_core.specs.declared.Refusal.{Refusal}
 use Rattle.sched_core.specs.declared.Reply.{Reply}
 use Rattle.sched_core.specs.declared.RequestReply.{RequestReply}
 use Rattle.sched_core.specs.declared.BuildReply.{BuildReply}
 use Rattle.sched_core.specs.declared.OwnerReply.{OwnerReply}
 use Rattle.sched_core.specs.declared.UsageReply.{UsageReply}
 use Rattle.sched_core.specs.declared.Answer.{Answer}
-use Rattle.sched_core.specs.declared.CoreAnswer.{CoreAnswer}
-use Rattle.sched_core.specs.declared.RequestCoreAnswer.{RequestCoreAnswer}
 use Rattle.sched_core.specs.declared.BuildCoreAnswer.{BuildCoreAnswer}
 use Rattle.sched_core.specs.Station.{tableOf, stationOf, newStation, advancedStation, withQueued}
-use Rattle.sched_core.specs.Questions.{Memory, memory, Question, isStationSound, isTimeSound, requestQuestions, ackQuestions, tmaQuestions, buildQuestions, ask, refusalNumber}
+use Rattle.sched_core.specs.Questions.{Memory, memory, asksStation, queuedFor, memoryQuestions, requestQuestions, ackQuestions, tmaQuestions, buildLent, timeQuestions}
 
 -- document 01's numbers of the replies: "number (0 done)", else the question answered no
 abbrev pub replyNumber : Reply → ℕ
@@ -63,18 +63,20 @@ answerOf r s = record { reply = r; station = s }
 
 -- new: "a time given to the call is judged". The station of a time that is not in range is refused by every call.
 unfoldable pub newCall : TdmaTime → Answer
-newCall x = ask (isTimeSound x ∷ []) (answerOf Reply.Done (newStation x)) (λ r. answerOf (Reply.Refused r) (newStation x))
+newCall x = ask (timeQuestions x) (answerOf Reply.Done (newStation x)) (λ r. answerOf (Reply.Refused r) (newStation x))
 
 -- advance
 unfoldable pub advanceCall : Station → Answer
-advanceCall s = ask (isStationSound s ∷ []) (answerOf Reply.Done (advancedStation s)) (λ r. answerOf (Reply.Refused r) s)
+advanceCall s = ask (asksStation s ∷ []) (answerOf Reply.Done (advancedStation s)) (λ r. answerOf (Reply.Refused r) s)
 
 -- owner and usage of the slot at a time
 unfoldable pub ownerCall : Station → TdmaTime → PhyBlockNum → OwnerReply
-ownerCall s x half = ask (isStationSound s ∷ isTimeSound x ∷ []) (OwnerReply.Owner (ownerOf half (entryAt (tableOf s) (slotOf x)))) OwnerReply.Refused
+ownerCall s x half =
+    ask (asksStation s ∷ timeQuestions x) (OwnerReply.Owner (ownerOf half (entryAt (tableOf s) (slotOf x)))) OwnerReply.Refused
 
 unfoldable pub usageCall : Station → TdmaTime → UsageReply
-usageCall s x = ask (isStationSound s ∷ isTimeSound x ∷ []) (UsageReply.Usage (usageOf (entryAt (tableOf s) (slotOf x)))) UsageReply.Refused
+usageCall s x =
+    ask (asksStation s ∷ timeQuestions x) (UsageReply.Usage (usageOf (entryAt (tableOf s) (slotOf x)))) UsageReply.Refused
 
 -- ---- calls that queue
 
@@ -86,9 +88,10 @@ pub record Outcome (R : Type 0) : Type 0 where
 abbrev pub outcome : {R : Type 0} → R → Memory → Outcome R
 outcome r m = record { reply = r; memory = m }
 
--- "On a no, the number is the whole reply and each lent bit and the state are those that came in."
+-- the questions of a call that queues, its own behind those of the memory: "On a no, the number is the whole reply and each lent bit
+-- and the state are those that came in."
 abbrev pub judged : {R : Type 0} → (Refusal → R) → Memory → List Question → Outcome R → Outcome R
-judged refused m qs done = ask qs done (λ r. outcome (refused r) m)
+judged refused m own done = ask (memoryQuestions m [] ++ own) done (λ r. outcome (refused r) m)
 
 -- "A timeslot's records fill its places from the first": the memory with a record more for timeslot t
 abbrev pub withRecord : Memory → ℕ → Record → Memory
@@ -102,45 +105,38 @@ withSdu m t r sdu =
     let q = enqueued (m .station .queued) (m .records) (t - 1) r in
     memory (withQueued (m .station) (q .counts)) (q .records) (withCell (m .store) (m .station .queued) (t - 1) (cellOf (r .bits) sdu))
 
-abbrev pub requestCoreAnswer : RequestReply → Station → List Record → RequestCoreAnswer
-requestCoreAnswer r s rs = record { reply = r; station = s; records = rs }
-
 -- "Reference: `ul_process_cap_req`, then `dl_enqueue_grant`.": questions 9 and 10, then the grant is queued, and table and counters
 -- are those of the answer
-unfoldable pub grantQueued : Station → List Record → ℕ → ℕ → ℕ → CapAnswer → CapReply → RequestCoreAnswer
-grantQueued s rs t kind n a CapReply.NoRun = requestCoreAnswer (RequestReply.Refused Refusal.NoRun) s rs
-grantQueued s rs t kind n a CapReply.TooLate = requestCoreAnswer (RequestReply.Refused Refusal.TooLate) s rs
-grantQueued s rs t kind n a (CapReply.Granted capacity delay marker) =
-    let q = enqueued (s .queued) rs (t - 1) (grantRecord kind n (grantOctet capacity delay) marker) in
-    requestCoreAnswer (RequestReply.Granted capacity delay marker) (stationOf (s .time) (uplinkTable a) (a .«next_usage_marker») (q .counts)) (q .records)
+unfoldable pub grantQueued : Memory → ℕ → ℕ → ℕ → CapAnswer → CapReply → Outcome RequestReply
+grantQueued m t kind n a CapReply.NoRun = outcome (RequestReply.Refused Refusal.NoRun) m
+grantQueued m t kind n a CapReply.TooLate = outcome (RequestReply.Refused Refusal.TooLate) m
+grantQueued m t kind n a (CapReply.Granted capacity delay marker) =
+    let q = enqueued (m .station .queued) (m .records) (t - 1) (grantRecord kind n (grantOctet capacity delay) marker) in
+    outcome (RequestReply.Granted capacity delay marker)
+    (memory (stationOf (m .station .time) (uplinkTable a) (a .«next_usage_marker») (q .counts)) (q .records) (m .store))
 
 -- what a request is answered that questions 1 to 8 let pass
-unfoldable pub requestAnswered : Station → List Record → ℕ → ℕ → ℕ → ℕ → RequestCoreAnswer
-requestAnswered s rs t code kind n =
+unfoldable pub requestAnswered : Memory → ℕ → ℕ → ℕ → ℕ → Outcome RequestReply
+requestAnswered m t code kind n =
+    let s = m .station in
     let a = answer (tableOf s) (s .«next_usage_marker») (s .time) (record { timeslot = t; code = code; number = n }) in
-    grantQueued s rs t kind n a (a .reply)
-
--- what a body answers, with the store after it, as an outcome
-abbrev pub queueOutcome : CoreAnswer → List ℕ → Outcome Reply
-queueOutcome a st = outcome (a .reply) (memory (a .station) (a .records) st)
-
-abbrev pub requestOutcome : RequestCoreAnswer → List ℕ → Outcome RequestReply
-requestOutcome a st = outcome (a .reply) (memory (a .station) (a .records) st)
+    grantQueued m t kind n a (a .reply)
 
 -- request
 unfoldable pub requestCall : Memory → ℕ → ℕ → ℕ → ℕ → Outcome RequestReply
 requestCall m t code kind n =
-    judged RequestReply.Refused m (requestQuestions m t code kind n) (requestOutcome (requestAnswered (m .station) (m .records) t code kind n) (m .store))
+    judged RequestReply.Refused m (requestQuestions (queuedFor (m .station .queued) t) t code kind n) (requestAnswered m t code kind n)
 
 -- queue an ack
 unfoldable pub ackCall : Memory → ℕ → ℕ → ℕ → Outcome Reply
-ackCall m t kind n = judged Reply.Refused m (ackQuestions m t kind n) (outcome Reply.Done (withRecord m t (ackRecord kind n)))
+ackCall m t kind n =
+    judged Reply.Refused m (ackQuestions (queuedFor (m .station .queued) t) t kind n) (outcome Reply.Done (withRecord m t (ackRecord kind n)))
 
 -- queue a record
 unfoldable pub tmaCall : Memory → ℕ → ℕ → ℕ → OptU16 → QueuedHeader → ℕ → List ℕ → Outcome Reply
 tmaCall m t kind n tag header bits sdu =
     let r = offeredRecord kind n tag header bits in
-    judged Reply.Refused m (tmaQuestions m t r sdu) (outcome Reply.Done (withSdu m t r sdu))
+    judged Reply.Refused m (tmaQuestions (queuedFor (m .station .queued) t) t r sdu) (outcome Reply.Done (withSdu m t r sdu))
 
 -- ---- a build
 
@@ -176,18 +172,19 @@ withLeft m t x =
 -- "268 bits in 34 octets, the last four bits zero."
 abbrev pub blockBuilt : Memory → ℕ → Sent (List ℕ) → BuildOutcome
 blockBuilt m t x =
-    record { reply = BuildReply.Built; tags = x .tags; memory = withLeft m t x; block = blockOf 34 (blockBits (x .pdus)) }
+    record { reply = BuildReply.Built; tags = x .tags; memory = withLeft m t x; block = blockOf blockOctets (blockBits (x .pdus)) }
 
 -- build: "Frame 18, or nothing queued, gives none and leaves the lent block; in frame 18 nothing is merged or altered."
 unfoldable pub buildCall : Memory → List ℕ → BuildOutcome
 buildCall m block =
-    ask (buildQuestions m block) (cond (buildsNow (m .station)) (blockBuilt m (current (m .station)) (builtNow m)) (notBuilt BuildReply.NoBlock m block))
+    ask (memoryQuestions m (buildLent block))
+    (cond (buildsNow (m .station)) (blockBuilt m (current (m .station)) (builtNow m)) (notBuilt BuildReply.NoBlock m block))
     (λ r. notBuilt (BuildReply.Refused r) m block)
 
 -- what the body of a build answers for an outcome: sixteen tags, zeros behind those that come back
 abbrev pub buildCoreAnswer : BuildOutcome → BuildCoreAnswer
 buildCoreAnswer o =
-    record { reply = o .reply; tags = tagRow 16 (o .tags); «tag_count» = length (o .tags); station = o .memory .station; records = o .memory .records }
+    record { reply = o .reply; tags = tagRow perTimeslot (o .tags); «tag_count» = length (o .tags); station = o .memory .station; records = o .memory .records }
 
 -- and the caller's buffers after it
 pub record BuildAnswered (o : BuildOutcome) (a : BuildCoreAnswer) (store' block' : List ℕ) : Type 0 where
@@ -199,7 +196,7 @@ pub record BuildAnswered (o : BuildOutcome) (a : BuildCoreAnswer) (store' block'
 
 -- "on a new station at any valid time, every place and cell empty"
 unfoldable pub newMemory : TdmaTime → Memory
-newMemory x = memory (newStation x) (replicate 64 emptyRecord) (replicate 16384 0)
+newMemory x = memory (newStation x) (replicate queuePlaces emptyRecord) (replicate storeOctets 0)
 
 -- an advance leaves queue and store
 unfoldable pub advanceMemory : Memory → Outcome Reply

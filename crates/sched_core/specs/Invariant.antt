@@ -4,6 +4,7 @@ use mathlib.Core.Bool.{Bool, true, false, cond}
 use mathlib.Core.List.{List}
 use Prim.Native.Nat.{ℕ, _+_, _-_, _^_, _<_}
 use lib.ListN.{length, getD, set}
+use Rattle.sizes.specs.Sizes.{timeslots, queuePlaces, storeOctets}
 use Rattle.optional.specs.declared.OptU16.{OptU16}
 use Rattle.tdma_time.specs.declared.TdmaTime.{TdmaTime}
 use Rattle.tdma_time.specs.Time.{Valid}
@@ -20,11 +21,11 @@ use Rattle.sched_core.specs.Calls.{newMemory, advanceMemory, requestCall
 pub record SoundMemory (m : Memory) : Type 0 where
   pub station : soundStation (m .station) ≡ true
   pub queue : soundQueue (m .station .queued) (m .records) (m .store) ≡ true
-  pub places : length (m .records) ≡ 64
-  pub cells : length (m .store) ≡ 16384
+  pub places : length (m .records) ≡ queuePlaces
+  pub cells : length (m .store) ≡ storeOctets
   pub table : FourRowsOfEighteen (tableOf (m .station))
-  pub counters : length (m .station .«next_usage_marker») ≡ 4
-  pub counts : length (m .station .queued) ≡ 4
+  pub counters : length (m .station .«next_usage_marker») ≡ timeslots
+  pub counts : length (m .station .queued) ≡ timeslots
   pub octets : (i : ℕ) → getD (m .store) i 0 < 2 ^ 8
 
 -- A new station's memory is sound, and each call keeps a sound memory so, whatever its arguments.

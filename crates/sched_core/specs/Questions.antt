@@ -1,9 +1,13 @@
--- Document 01, "Questions put to each call": 1 to 8, and how they are asked. Assumes nothing.
-use mathlib.Core.Bool.{Bool, _&&_, cond}
-use mathlib.Core.List.{List, [], _∷_}
+-- Document 01, "Questions put to each call": 1 to 8, and which are put to each call. A question is named `asks..`, the test it makes
+-- by what it finds. Assumes nothing.
+use mathlib.Core.Bool.{Bool, _&&_}
+use mathlib.Core.List.{List, [], _∷_, _++_}
 use Prim.Native.Nat.{ℕ, _-_}
 use lib.Dec.{leb, ltb, eqb}
 use lib.ListN.{length, getD}
+use Rattle.sizes.specs.Sizes.{timeslots, perTimeslot, queuePlaces, storeOctets, blockOctets}
+use Rattle.questions.specs.declared.Refusal.{Refusal}
+use Rattle.questions.specs.Questions.{Question, question}
 use Rattle.tdma_time.specs.declared.TdmaTime.{TdmaTime}
 use Rattle.tdma_time.specs.Time.{valid}
 use Rattle.uplink.specs.UplinkEntry.{all, soundTable, soundCounters}
@@ -13,29 +17,7 @@ use Rattle.dl_record.specs.Record.{resourceOf}
 use Rattle.dl_record.specs.Questions.{legalAddress, presentSdu}
 use Rattle.dl_queue.specs.Questions.{soundQueue}
 use Rattle.sched_core.specs.declared.Station.{Station}
-use Rattle.sched_core.specs.declared.Refusal.{Refusal}
 use Rattle.sched_core.specs.Station.{tableOf}
-
--- "No: 1." to "No: 10."
-abbrev pub refusalNumber : Refusal → ℕ
-refusalNumber Refusal.Unsound = 1
-refusalNumber Refusal.Lengths = 2
-refusalNumber Refusal.Timeslot = 3
-refusalNumber Refusal.Requirement = 4
-refusalNumber Refusal.Address = 5
-refusalNumber Refusal.Header = 6
-refusalNumber Refusal.Sdu = 7
-refusalNumber Refusal.QueueFull = 8
-refusalNumber Refusal.NoRun = 9
-refusalNumber Refusal.TooLate = 10
-
--- "counts up to 16"
-abbrev pub soundCount : ℕ → Bool
-soundCount n = leb n 16
-
--- "1. Is the state sound: time and counters in range, no second half without a first, a marker (4–62) only in a taken entry, counts up to 16"
-unfoldable pub soundStation : Station → Bool
-soundStation s = valid (s .time) && soundTable (tableOf s) && soundCounters (s .«next_usage_marker») && all soundCount (s .queued)
 
 -- what a call works on: the station, the queue of records and the SDU store
 pub record Memory : Type 0 where
@@ -46,93 +28,95 @@ pub record Memory : Type 0 where
 abbrev pub memory : Station → List Record → List ℕ → Memory
 memory s rs st = record { station = s; records = rs; store = st }
 
--- a question: is the answer yes, and what is the refusal if not
-pub record Question : Type 0 where
-  pub holds : Bool
-  pub refusal : Refusal
+-- "counts up to 16"
+abbrev pub soundCount : ℕ → Bool
+soundCount n = leb n perTimeslot
 
-abbrev pub question : Bool → Refusal → Question
-question b r = record { holds = b; refusal = r }
+-- "1. Is the state sound: time and counters in range, no second half without a first, a marker (4–62) only in a taken entry, counts up to 16"
+unfoldable pub soundStation : Station → Bool
+soundStation s = valid (s .time) && soundTable (tableOf s) && soundCounters (s .«next_usage_marker») && all soundCount (s .queued)
 
--- "1. Is the state sound"
-abbrev pub isStationSound : Station → Question
-isStationSound s = question (soundStation s) Refusal.Unsound
+abbrev pub asksStation : Station → Question
+asksStation s = question (soundStation s) Refusal.Unsound
 
 -- "a time given to the call is judged here too"
-abbrev pub isTimeSound : TdmaTime → Question
-isTimeSound x = question (valid x) Refusal.Unsound
+abbrev pub asksTime : TdmaTime → Question
+asksTime x = question (valid x) Refusal.Unsound
 
 -- "2. Are the lent lengths those above?": "a lent run of 64 records", "64 cells of 256 octets"
-abbrev pub areLengthsRight : Memory → Question
-areLengthsRight m = question (eqb (length (m .records)) 64 && eqb (length (m .store)) 16384) Refusal.Lengths
+abbrev pub asksLengths : Memory → Question
+asksLengths m = question (eqb (length (m .records)) queuePlaces && eqb (length (m .store)) storeOctets) Refusal.Lengths
 
 -- and of the block: "268 bits in 34 octets"
-abbrev pub isBlockLength : List ℕ → Bool
-isBlockLength block = eqb (length block) 34
-
-abbrev pub isBlockLengthRight : List ℕ → Question
-isBlockLengthRight block = question (isBlockLength block) Refusal.Lengths
+abbrev pub asksBlock : List ℕ → Question
+asksBlock block = question (eqb (length block) blockOctets) Refusal.Lengths
 
 -- "Records and cells are looked at only after 2 has passed"
-abbrev pub isQueueSound : Memory → Question
-isQueueSound m = question (soundQueue (m .station .queued) (m .records) (m .store)) Refusal.Unsound
+abbrev pub asksQueue : Memory → Question
+asksQueue m = question (soundQueue (m .station .queued) (m .records) (m .store)) Refusal.Unsound
 
 -- "3. Timeslot 1–4?"
 abbrev pub legalTimeslot : ℕ → Bool
-legalTimeslot t = leb 1 t && leb t 4
+legalTimeslot t = leb 1 t && leb t timeslots
 
-abbrev pub isTimeslotLegal : ℕ → Question
-isTimeslotLegal t = question (legalTimeslot t) Refusal.Timeslot
+abbrev pub asksTimeslot : ℕ → Question
+asksTimeslot t = question (legalTimeslot t) Refusal.Timeslot
 
 -- "4. Requirement code 0–15?"
-abbrev pub isRequirementLegal : ℕ → Question
-isRequirementLegal code = question (leb code 15) Refusal.Requirement
+abbrev pub asksRequirement : ℕ → Question
+asksRequirement code = question (leb code 15) Refusal.Requirement
 
 -- "5. Address kind 0–2 and number below 2^24?"
-abbrev pub isAddressLegal : ℕ → ℕ → Question
-isAddressLegal kind n = question (legalAddress kind n) Refusal.Address
+abbrev pub asksAddress : ℕ → ℕ → Question
+asksAddress kind n = question (legalAddress kind n) Refusal.Address
 
 -- "6. Header legal? [..] in a queued record an address and no label; in one offered to the queue no grant."
-abbrev pub isHeaderLegal : Record → Question
-isHeaderLegal r = question (legalOffered (resourceOf r 0 0)) Refusal.Header
+abbrev pub asksHeader : Record → Question
+asksHeader r = question (legalOffered (resourceOf r 0 0)) Refusal.Header
 
 -- "7. SDU at most 2,048 bits and present in the lent octets?"
-abbrev pub isSduPresent : ℕ → List ℕ → Question
-isSduPresent bits sdu = question (presentSdu bits sdu) Refusal.Sdu
+abbrev pub asksSdu : ℕ → List ℕ → Question
+asksSdu bits sdu = question (presentSdu bits sdu) Refusal.Sdu
 
--- "8. Fewer than sixteen queued?"
-abbrev pub hasRoom : List ℕ → ℕ → Bool
-hasRoom ns t = ltb (getD ns (t - 1) 0) 16
+-- "8. Fewer than sixteen queued?": of that many
+abbrev pub hasRoom : ℕ → Bool
+hasRoom queued = ltb queued perTimeslot
 
-abbrev pub isQueueOpen : Memory → ℕ → Question
-isQueueOpen m t = question (hasRoom (m .station .queued) t) Refusal.QueueFull
+abbrev pub asksRoom : ℕ → Question
+asksRoom queued = question (hasRoom queued) Refusal.QueueFull
 
--- "Only those that apply, in this order.": those put to a request, to an ack, and to a record that is offered with its SDU
-abbrev pub requestQuestions : Memory → ℕ → ℕ → ℕ → ℕ → List Question
-requestQuestions m t code kind n =
-    isStationSound (m .station) ∷ areLengthsRight m ∷ isQueueSound m ∷ isTimeslotLegal t ∷ isRequirementLegal code ∷ isAddressLegal kind n ∷ isQueueOpen m t ∷ []
+-- how many are queued for timeslot t, by the counts
+abbrev pub queuedFor : List ℕ → ℕ → ℕ
+queuedFor ns t = getD ns (t - 1) 0
 
-abbrev pub ackQuestions : Memory → ℕ → ℕ → ℕ → List Question
-ackQuestions m t kind n =
-    isStationSound (m .station) ∷ areLengthsRight m ∷ isQueueSound m ∷ isTimeslotLegal t ∷ isAddressLegal kind n ∷ isQueueOpen m t ∷ []
+-- ---- "Only those that apply, in this order."
 
-abbrev pub tmaQuestions : Memory → ℕ → Record → List ℕ → List Question
-tmaQuestions m t r sdu =
-    isStationSound (m .station)
-    ∷ areLengthsRight m
-    ∷ isQueueSound m
-    ∷ isTimeslotLegal t
-    ∷ isAddressLegal (r .«address_kind») (r .number)
-    ∷ isHeaderLegal r
-    ∷ isSduPresent (r .bits) sdu
-    ∷ isQueueOpen m t
+-- Put first to a call that has the queue: 1 for the state, 2 with the further lengths lent to it, and 1 for records and cells.
+abbrev pub memoryQuestions : Memory → List Question → List Question
+memoryQuestions m lent = asksStation (m .station) ∷ asksLengths m ∷ lent ++ asksQueue m ∷ []
+
+-- Then its own, where so many are queued for the timeslot: those put to a request,
+abbrev pub requestQuestions : ℕ → ℕ → ℕ → ℕ → ℕ → List Question
+requestQuestions queued t code kind n = asksTimeslot t ∷ asksRequirement code ∷ asksAddress kind n ∷ asksRoom queued ∷ []
+
+-- to an ack,
+abbrev pub ackQuestions : ℕ → ℕ → ℕ → ℕ → List Question
+ackQuestions queued t kind n = asksTimeslot t ∷ asksAddress kind n ∷ asksRoom queued ∷ []
+
+-- and to a record that is offered with its SDU.
+abbrev pub tmaQuestions : ℕ → ℕ → Record → List ℕ → List Question
+tmaQuestions queued t r sdu =
+    asksTimeslot t
+    ∷ asksAddress (r .«address_kind») (r .number)
+    ∷ asksHeader r
+    ∷ asksSdu (r .bits) sdu
+    ∷ asksRoom queued
     ∷ []
 
--- those put to a build: 1 for the state, 2, and 1 for records and cells
-abbrev pub buildQuestions : Memory → List ℕ → List Question
-buildQuestions m block = isStationSound (m .station) ∷ areLengthsRight m ∷ isBlockLengthRight block ∷ isQueueSound m ∷ []
+-- A build has none of its own, and is lent its block.
+abbrev pub buildLent : List ℕ → List Question
+buildLent block = asksBlock block ∷ []
 
--- "On a no, the number is the whole reply": what follows where every answer is yes, else the refusal of the first no
-unfoldable pub ask : {A : Type 0} → List Question → A → (Refusal → A) → A
-ask [] done refused = done
-ask {A} (q ∷ qs) done refused = let rest : A = ask qs done refused in cond (q .holds) rest (refused (q .refusal))
+-- A call that reads the slot at a time, or is a new station's.
+abbrev pub timeQuestions : TdmaTime → List Question
+timeQuestions x = asksTime x ∷ []

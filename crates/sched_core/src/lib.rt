@@ -2,6 +2,7 @@
 use dl_record::Record;
 use optional::OptU8;
 use optional::OptU32;
+use questions::Refusal;
 use tdma_time::TdmaTime;
 use uplink::AccessAssignUlUsage;
 use uplink::Entry;
@@ -11,7 +12,7 @@ ghost use Prim.Native.Nat.{_≤_};
 ghost use Rattle.tdma_time.specs.Time.{Valid};
 ghost use Rattle.uplink.specs.UplinkEntry.{emptyTable, all};
 ghost use Rattle.sched_core.specs.Station.{tableOf, stationOf, advancedStation, withQueued};
-ghost use Rattle.sched_core.specs.Questions.{soundCount, soundStation, legalTimeslot, hasRoom};
+ghost use Rattle.sched_core.specs.Questions.{soundCount, soundStation, legalTimeslot, queuedFor, hasRoom};
 ghost use Rattle.sched_core.specs.Calls.{newCall, advanceCall, ownerCall, usageCall};
 
 // The station: the time, the uplink table row by row, the counters of usage markers, and how many records are queued for each timeslot.
@@ -23,20 +24,6 @@ pub struct Station {
     pub row4: [Entry; 18],
     pub next_usage_marker: [u8; 4],
     pub queued: [u8; 4],
-}
-
-// Which question was answered no.
-pub enum Refusal {
-    Unsound,
-    Lengths,
-    Timeslot,
-    Requirement,
-    Address,
-    Header,
-    Sdu,
-    QueueFull,
-    NoRun,
-    TooLate,
 }
 
 // The reply to a call that answers nothing but whether it was done.
@@ -86,27 +73,13 @@ pub struct RequestAnswer {
     pub station: Station,
 }
 
-// What the body of a call answers: the reply, with the station and the records after it.
-pub struct CoreAnswer {
-    pub reply: Reply,
-    pub station: Station,
-    pub records: [Record; 64],
-}
-
-// The same for a request.
-pub struct RequestCoreAnswer {
-    pub reply: RequestReply,
-    pub station: Station,
-    pub records: [Record; 64],
-}
-
-// The same for a build, with the tags of the records that are finished.
+// What the body of a build answers: the reply, the tags of the records that are finished, with the station and the records after it.
 pub struct BuildCoreAnswer {
     pub reply: BuildReply,
-    pub tags: [u16; 16],
+    pub tags: [u16; sizes::PER_TIMESLOT],
     pub tag_count: u8,
     pub station: Station,
-    pub records: [Record; 64],
+    pub records: [Record; sizes::QUEUE_PLACES],
 }
 
 // The uplink table of a station.
@@ -150,8 +123,8 @@ fn counts_are_sound(queued: [u8; 4]) -> bool
 {
     let mut sound = true;
     for i in 0..4 {
-        let n = queued[i];
-        sound = sound & (n <= 16);
+        let n = queued[i] as usize;
+        sound = sound & (n <= sizes::PER_TIMESLOT);
     }
     sound
 }
@@ -270,10 +243,11 @@ pub fn timeslot_is_legal(timeslot: u8) -> bool
 // Question 8.
 pub fn has_room(queued: [u8; 4], timeslot: u8) -> bool
     requires { ⌜ (1 ≤ timeslot) × (timeslot ≤ 4) ⌝ }
-    ensures { λ r. ⌜ r ≡ hasRoom queued timeslot ⌝ }
+    ensures { λ r. ⌜ r ≡ hasRoom (queuedFor queued timeslot) ⌝ }
 {
     let t = (timeslot - 1) as usize;
-    queued[t] < 16
+    let n = queued[t] as usize;
+    n < sizes::PER_TIMESLOT
 }
 
 // The station with other numbers of records queued.

@@ -24,7 +24,7 @@ fn removed(buf: &[u8], start: usize, end: usize) {
             show::number(0);
             show::number(n as u64);
         }
-        FillRemoval::NoRoom => show::number(11),
+        FillRemoval::Refused(r) => show::number(questions::number(r) as u64),
     }
     show::end();
 }

@@ -172,7 +172,7 @@ fn written(at: usize, h: MacResource) {
     show::number(at as u64);
     show::word(b":");
     match reply {
-        WriteReply::Refused(r) => show::number(lone_writer::refusal_number(r) as u64),
+        WriteReply::Refused(r) => show::number(questions::number(r) as u64),
         WriteReply::Next(n) => {
             show::number(0);
             show::number(n as u64);

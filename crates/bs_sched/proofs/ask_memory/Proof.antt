@@ -16,12 +16,12 @@ use Rattle.dl_record.specs.declared.Record.{Record}
 use Rattle.dl_record.specs.Record.{emptyRecord}
 use Rattle.dl_queue.specs.Questions.{soundPlace, soundPlaces, soundQueue}
 use Rattle.dl_queue.proofs.PlaceLaws.{queue-many, queue-fail, queue-pass, queue-done, queue-seen, places-start, places-pass, places-fail, places-done, place-seen}
-use Rattle.sched_core.specs.declared.Refusal.{Refusal}
-use Rattle.sched_core.specs.Questions.{Memory, memory, Question, question, ask}
-use Rattle.sched_core.proofs.AskLaws.{said-no, said-yes, FirstYes, first-no, every-yes}
-use Rattle.sched_core.proofs.QuestionLaws.{right-lengths, queue-not-64, store-not-16384}
+use Rattle.questions.specs.declared.Refusal.{Refusal}
+use Rattle.questions.specs.Questions.{Question, question, ask}
+use Rattle.sched_core.specs.Questions.{Memory, memory, memoryQuestions}
+use Rattle.questions.proofs.AskLaws.{said-no, said-yes, FirstYes, first-no, every-yes}
+use Rattle.sched_core.proofs.QuestionLaws.{right-lengths, other-places, other-octets}
 use Rattle.bs_sched.specs.declared.Verdict.{Verdict}
-use Rattle.bs_sched.specs.Entries.{memoryQuestions}
 use Rattle.bs_sched.proofs.ask_memory.Statement.{statement}
 use Rattle.bs_sched.proofs.ask_memory.Proof.Tie as tie
 
@@ -123,14 +123,14 @@ returns-2 : tie.Need-returns-2 Inv-loop2 μ-loop2 Inv-loop3 μ-loop3 Inv-loop μ
 returns-2 c =
     let k = c .before .before in
     let s = k .before .before in
-    first-no Verdict.Passed Verdict.No 1 (questions s) (tt, said-yes (k .station-is-sound .ensures) (c .before .if1 .left)) (queue-not-64 (all s) (c .if2 .taken))
+    first-no Verdict.Passed Verdict.No 1 (questions s) (tt, said-yes (k .station-is-sound .ensures) (c .before .if1 .left)) (other-places (all s) (c .if2 .taken))
 
 returns-3 : tie.Need-returns-3 Inv-loop2 μ-loop2 Inv-loop3 μ-loop3 Inv-loop μ-loop
 returns-3 c =
     let k = c .before .before .before in
     let s = k .before .before in
     first-no Verdict.Passed Verdict.No 1 (questions s) (tt, said-yes (k .station-is-sound .ensures) (c .before .before .if1 .left))
-    (store-not-16384 (all s) (c .before .if2 .left) (c .if3 .taken))
+    (other-octets (all s) (c .before .if2 .left) (c .if3 .taken))
 
 returns-4 : tie.Need-returns-4 Inv-loop2 μ-loop2 Inv-loop3 μ-loop3 Inv-loop μ-loop
 returns-4 c =

@@ -7,9 +7,10 @@ use borrow.Author.Needs.{needs}
 use borrow.Author.Tests.{eqb-true}
 use Rattle.dl_record.specs.declared.Record.{Record}
 use Rattle.dl_queue.specs.Questions.{soundQueue}
-use Rattle.sched_core.specs.Questions.{isBlockLength}
-use Rattle.sched_core.proofs.AskLaws.{said-no}
-use Rattle.bs_sched.proofs.EntryLaws.{Told, told, build-refused, build-nothing, build-saved}
+use Rattle.sched_core.specs.Questions.{asksBlock}
+use Rattle.questions.proofs.AskLaws.{said-no}
+use Rattle.enqueue_core.proofs.PlanLaws.{Told}
+use Rattle.bs_sched.proofs.EntryLaws.{told, build-refused, build-nothing, build-saved}
 use Rattle.bs_sched.proofs.QueueLaws.{first64-whole}
 use Rattle.bs_sched.proofs.dl_build_block.Statement.{statement}
 use Rattle.bs_sched.proofs.dl_build_block.Proof.Tie as tie
@@ -27,11 +28,11 @@ returns c =
 -- the questions are answered yes
 passed : (c : tie.After-enum-told)
     → let a = start (c .before .before) .args in
-    Told (a .s) (a .queue .now) (a .store .now) (isBlockLength (a .block .now))
+    Told (a .s) (a .queue .now) (a .store .now) (asksBlock (a .block .now) .holds)
 passed c =
     let q = c .before .before in
     let a = start q .args in
-    told (a .s) (a .queue .now) (a .store .now) (isBlockLength (a .block .now)) (q .ask-memory .ensures) (c .enum-told .given .1)
+    told (a .s) (a .queue .now) (a .store .now) (asksBlock (a .block .now) .holds) (q .ask-memory .ensures) (c .enum-told .given .1)
 
 builds-now-requires : tie.Need-builds-now-requires
 builds-now-requires c κs = passed c .station

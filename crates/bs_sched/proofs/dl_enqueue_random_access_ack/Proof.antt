@@ -5,7 +5,8 @@ use mathlib.Core.Bool.{true}
 use borrow.Author.Needs.{needs}
 use Rattle.sched_core.specs.declared.Reply.{Reply}
 use Rattle.sched_core.specs.Calls.{ackCall}
-use Rattle.bs_sched.proofs.EntryLaws.{Told, told, plan-refused, plan-stored}
+use Rattle.enqueue_core.proofs.PlanLaws.{Told}
+use Rattle.bs_sched.proofs.EntryLaws.{told, plan-refused, plan-stored}
 use Rattle.bs_sched.proofs.dl_enqueue_random_access_ack.Statement.{statement}
 use Rattle.bs_sched.proofs.dl_enqueue_random_access_ack.Proof.Tie as tie
 

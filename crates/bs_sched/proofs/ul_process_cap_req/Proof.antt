@@ -5,7 +5,8 @@ use mathlib.Core.Bool.{true}
 use borrow.Author.Needs.{needs}
 use Rattle.sched_core.specs.declared.RequestReply.{RequestReply}
 use Rattle.sched_core.specs.Calls.{requestCall}
-use Rattle.bs_sched.proofs.EntryLaws.{Told, told, plan-refused, plan-stored}
+use Rattle.enqueue_core.proofs.PlanLaws.{Told}
+use Rattle.bs_sched.proofs.EntryLaws.{told, plan-refused, plan-stored}
 use Rattle.bs_sched.proofs.ul_process_cap_req.Statement.{statement}
 use Rattle.bs_sched.proofs.ul_process_cap_req.Proof.Tie as tie
 

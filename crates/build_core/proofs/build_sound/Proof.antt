@@ -6,7 +6,7 @@ use lib.ListN.{length}
 use Rattle.tdma_time.specs.Time.{Valid}
 use Rattle.tdma_time.proofs.TimeLaws.{slotOf-timeslot}
 use Rattle.sched_core.specs.Questions.{Memory, memory}
-use Rattle.sched_core.proofs.AskLaws.{said-no, said-yes}
+use Rattle.questions.proofs.AskLaws.{said-no, said-yes}
 use Rattle.sched_core.proofs.StationLaws.{sound-parts}
 use Rattle.build_core.proofs.BuildCallLaws.{none-answered, built-answered}
 use borrow.Author.Needs.{needs}

@@ -1,58 +1,58 @@
--- The questions in order, then the place behind those queued. Assumes nothing.
+-- Its own questions in order, then the place behind those queued. Assumes nothing.
 use mathlib.Core.Path.{refl, sym, ap, _∙_, subst}
 use mathlib.Core.List.{List}
 use Prim.Native.Nat.{ℕ, _≤_}
-use Rattle.dl_record.specs.declared.Record.{Record}
-use Rattle.sched_core.specs.declared.Refusal.{Refusal}
+use Rattle.sizes.specs.Sizes.{timeslots}
+use Rattle.questions.specs.Questions.{Question}
+use Rattle.questions.proofs.AskLaws.{said-no, said-yes, FirstYes}
+use Rattle.sched_core.specs.declared.Station.{Station}
 use Rattle.sched_core.specs.declared.Reply.{Reply}
-use Rattle.sched_core.specs.Questions.{Memory, memory, Question, ackQuestions}
+use Rattle.sched_core.specs.Questions.{queuedFor, ackQuestions}
 use Rattle.sched_core.specs.Calls.{replyNumber, ackCall}
-use Rattle.sched_core.proofs.AskLaws.{said-no, said-yes, FirstYes}
 use Rattle.sched_core.proofs.QuestionLaws.{timeslot-range, room-left}
 use Rattle.enqueue_core.specs.declared.QueuePlan.{QueuePlan}
-use Rattle.enqueue_core.specs.Plan.{SoundQueue, joinedPlan, QueuePlanned}
-use Rattle.enqueue_core.proofs.PlanLaws.{next-place-below, first-yes, no-planned, yes-planned, joined-planned}
+use Rattle.enqueue_core.specs.Plan.{joinedPlan, QueuePlanned}
+use Rattle.enqueue_core.proofs.PlanLaws.{next-place-below, no-planned, yes-planned, joined-planned}
 use borrow.Author.Needs.{needs}
 use Rattle.enqueue_core.proofs.ack_plan.Statement.{statement}
 use Rattle.enqueue_core.proofs.ack_plan.Tie as tie
 
-abbrev questions : tie.Start → Memory → List Question
-questions s m = ackQuestions m (s .args .timeslot) (s .args .kind) (s .args .number)
+abbrev own : tie.Start → Station → List Question
+own s x = ackQuestions (queuedFor (x .queued) (s .args .timeslot)) (s .args .timeslot) (s .args .kind) (s .args .number)
 
 abbrev Plans : tie.Start → List ℕ → QueuePlan → Type 0
 Plans s st p = QueuePlanned (λ m. ackCall m (s .args .timeslot) (s .args .kind) (s .args .number)) (s .args .station) st st p
 
--- the first k questions are answered yes, whatever the queue
+-- the first k of its own questions are answered yes
 abbrev Yes : ℕ → tie.Start → Type 0
-Yes k s = (st : List ℕ) (rs : List Record) → SoundQueue (s .args .station) rs st → FirstYes k (questions s (memory (s .args .station) rs st))
+Yes k s = FirstYes k (own s (s .args .station))
 
-yes0 : (s : tie.Start) → Yes 3 s
-yes0 s st rs q = first-yes (s .args .station) rs st (s .pre) q
+yes1 : (c : tie.Else1) → Yes 1 (c .before .before)
+yes1 c = (tt, said-yes (c .before .timeslot-is-legal .ensures) (c .if1 .left))
 
-yes1 : (c : tie.Else1) → Yes 4 (c .before .before)
-yes1 c st rs q = (yes0 (c .before .before) st rs q, said-yes (c .before .timeslot-is-legal .ensures) (c .if1 .left))
+yes2 : (c : tie.Else2) → Yes 2 (c .before .before .before .before)
+yes2 c = (yes1 (c .before .before), said-yes (c .before .address-is-legal .ensures) (c .if2 .left))
 
-yes2 : (c : tie.Else2) → Yes 5 (c .before .before .before .before)
-yes2 c st rs q = (yes1 (c .before .before) st rs q, said-yes (c .before .address-is-legal .ensures) (c .if2 .left))
-
-yes3 : (c : tie.Else3) → Yes 6 (c .before .before .before .before .before .before .before)
-yes3 c st rs q = (yes2 (c .before .before .before) st rs q, said-yes (c .before .has-room .ensures) (c .if3 .left))
+yes3 : (c : tie.Else3) → Yes 3 (c .before .before .before .before .before .before .before)
+yes3 c = (yes2 (c .before .before .before), said-yes (c .before .has-room .ensures) (c .if3 .left))
 
 returns : tie.Need-returns
 unfolding ackCall
 returns c st =
     let k = c .before .before in
     let s = k .before in
-    subst (Plans s st) (sym (c .refused .ensures)) (no-planned replyNumber (s .args .station) st Reply.Refused (questions s) _ 3 Refusal.Timeslot refl (λ rs q. (yes0 s st rs q, said-no (k .timeslot-is-legal .ensures) (c .before .if1 .taken), refl)))
+    subst (Plans s st) (sym (c .refused .ensures))
+    (no-planned replyNumber (s .args .station) st Reply.Refused (own s) _ (s .pre) 0 (λ r. refl) tt (said-no (k .timeslot-is-legal .ensures) (c .before .if1 .taken)))
 
 returns-2 : tie.Need-returns-2
 unfolding ackCall
 returns-2 c st =
     let k = c .before .before in
     let s = k .before .before .before in
-    subst (Plans s st) (sym (c .refused2 .ensures)) (no-planned replyNumber (s .args .station) st Reply.Refused (questions s) _ 4 Refusal.Address refl (λ rs q. (yes1 (k .before) st rs q, said-no (k .address-is-legal .ensures) (c .before .if2 .taken), refl)))
+    subst (Plans s st) (sym (c .refused2 .ensures))
+    (no-planned replyNumber (s .args .station) st Reply.Refused (own s) _ (s .pre) 1 (λ r. refl) (yes1 (k .before)) (said-no (k .address-is-legal .ensures) (c .before .if2 .taken)))
 
-range : (c : tie.Else1) → let s = c .before .before in (1 ≤ s .args .timeslot) × (s .args .timeslot ≤ 4)
+range : (c : tie.Else1) → let s = c .before .before in (1 ≤ s .args .timeslot) × (s .args .timeslot ≤ timeslots)
 range c = timeslot-range _ (said-yes (c .before .timeslot-is-legal .ensures) (c .if1 .left))
 
 has-room-requires : tie.Need-has-room-requires
@@ -63,14 +63,15 @@ unfolding ackCall
 returns-3 c st =
     let k = c .before .before in
     let s = k .before .before .before .before .before .before in
-    subst (Plans s st) (sym (c .refused3 .ensures)) (no-planned replyNumber (s .args .station) st Reply.Refused (questions s) _ 5 Refusal.QueueFull refl (λ rs q. (yes2 (k .before .before) st rs q, said-no (k .has-room .ensures) (c .before .if3 .taken), refl)))
+    subst (Plans s st) (sym (c .refused3 .ensures))
+    (no-planned replyNumber (s .args .station) st Reply.Refused (own s) _ (s .pre) 2 (λ r. refl) (yes2 (k .before .before)) (said-no (k .has-room .ensures) (c .before .if3 .taken)))
 
 joined-requires : tie.Need-joined-requires
 joined-requires c κs =
     let k = c .before in
     let s = k .before .before .before .before .before .before .before in
     let r = range (k .before .before .before .before .before) in
-    (r .0, r .1, room-left (s .args .station .queued) (s .args .timeslot) (said-yes (k .before .has-room .ensures) (k .if3 .left)))
+    (r .0, r .1, room-left (queuedFor (s .args .station .queued) (s .args .timeslot)) (said-yes (k .before .has-room .ensures) (k .if3 .left)))
 
 returns-4 : tie.Need-returns-4
 unfolding ackCall
@@ -80,9 +81,11 @@ returns-4 c st =
     let a = s .args in
     let r = joined-requires (c .before) _ in
     subst (Plans s st) (sym (c .joined .ensures .0 ∙ ap (joinedPlan (a .station) (a .timeslot)) (c .before .ack-record .ensures)))
-    (yes-planned replyNumber (a .station) st Reply.Refused (questions s) _ _ _ _ _ _ (yes3 k st) (joined-planned replyNumber (a .station) st _ st Reply.Done _ _ _ refl (next-place-below (a .station .queued) (a .timeslot) (r .0) (r .1) (r .2)) (λ rs. refl)))
+    (yes-planned replyNumber (a .station) st Reply.Refused (own s) _ (s .pre) _ _ _ _ _ (yes3 k)
+    (joined-planned replyNumber (a .station) st _ st Reply.Done _ _ _ refl (next-place-below (a .station .queued) (a .timeslot) (r .0) (r .1) (r .2)) (λ rs. refl)))
 
 pub ack-plan-spec : {M : Type 1} → statement M
 ack-plan-spec =
     tie.close
-    (tie.spec (λ c κs. search needs) (λ c κs. search needs) returns (λ c κs. search needs) (λ c κs. search needs) returns-2 has-room-requires (λ c κs. search needs) returns-3 (λ c κs. search needs) joined-requires returns-4)
+    (tie.spec (λ c κs. search needs) (λ c κs. search needs) returns (λ c κs. search needs) (λ c κs. search needs) returns-2 has-room-requires
+    (λ c κs. search needs) returns-3 (λ c κs. search needs) joined-requires returns-4)

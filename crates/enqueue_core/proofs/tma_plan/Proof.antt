@@ -1,21 +1,23 @@
--- The questions in order, then the place behind those queued, and its cell. Assumes nothing.
+-- Its own questions in order, then the place behind those queued, and its cell. Assumes nothing.
 use mathlib.Core.Path.{_≡_, refl, sym, ap, _∙_, subst}
 use mathlib.Core.List.{List}
 use Prim.Native.Nat.{ℕ, _*_, _≤_}
 use native.Mathlib.Omega.{arith}
 use lib.Seq.{paste}
+use Rattle.sizes.specs.Sizes.{timeslots, cellOctets}
+use Rattle.questions.specs.Questions.{Question}
+use Rattle.questions.proofs.AskLaws.{said-no, said-yes, FirstYes}
 use Rattle.dl_record.specs.declared.Record.{Record}
 use Rattle.dl_record.specs.Record.{offeredRecord}
 use Rattle.sdu_store.specs.Cells.{cellOf}
-use Rattle.sched_core.specs.declared.Refusal.{Refusal}
+use Rattle.sched_core.specs.declared.Station.{Station}
 use Rattle.sched_core.specs.declared.Reply.{Reply}
-use Rattle.sched_core.specs.Questions.{Memory, memory, Question, tmaQuestions}
+use Rattle.sched_core.specs.Questions.{queuedFor, tmaQuestions}
 use Rattle.sched_core.specs.Calls.{replyNumber, tmaCall}
-use Rattle.sched_core.proofs.AskLaws.{said-no, said-yes, FirstYes}
 use Rattle.sched_core.proofs.QuestionLaws.{timeslot-range, sdu-range, room-left}
 use Rattle.enqueue_core.specs.declared.QueuePlan.{QueuePlan}
-use Rattle.enqueue_core.specs.Plan.{SoundQueue, joinedPlan, QueuePlanned}
-use Rattle.enqueue_core.proofs.PlanLaws.{next-place-below, first-yes, no-planned, yes-planned, joined-planned}
+use Rattle.enqueue_core.specs.Plan.{joinedPlan, QueuePlanned}
+use Rattle.enqueue_core.proofs.PlanLaws.{next-place-below, no-planned, yes-planned, joined-planned}
 use borrow.Author.Needs.{needs}
 use Rattle.enqueue_core.proofs.tma_plan.Statement.{statement}
 use Rattle.enqueue_core.proofs.tma_plan.Tie as tie
@@ -23,65 +25,67 @@ use Rattle.enqueue_core.proofs.tma_plan.Tie as tie
 abbrev offered : tie.Start → Record
 offered s = offeredRecord (s .args .kind) (s .args .number) (s .args .tag) (s .args .header) (s .args .bits)
 
-abbrev questions : tie.Start → Memory → List Question
-questions s m = tmaQuestions m (s .args .timeslot) (offered s) (s .args .sdu .now)
+abbrev own : tie.Start → Station → List Question
+own s x = tmaQuestions (queuedFor (x .queued) (s .args .timeslot)) (s .args .timeslot) (offered s) (s .args .sdu .now)
 
 abbrev Plans : tie.Start → List ℕ → QueuePlan → Type 0
 Plans s after p =
     QueuePlanned (λ m. tmaCall m (s .args .timeslot) (s .args .kind) (s .args .number) (s .args .tag) (s .args .header) (s .args .bits) (s .args .sdu .now)) (s .args .station) (s .args .store .now) after p
 
--- the first k questions are answered yes, whatever the queue
+-- the first k of its own questions are answered yes
 abbrev Yes : ℕ → tie.Start → Type 0
-Yes k s = (rs : List Record) → SoundQueue (s .args .station) rs (s .args .store .now) → FirstYes k (questions s (memory (s .args .station) rs (s .args .store .now)))
+Yes k s = FirstYes k (own s (s .args .station))
 
-yes0 : (s : tie.Start) → Yes 3 s
-yes0 s rs q = first-yes (s .args .station) rs (s .args .store .now) (s .pre .0) q
+yes1 : (c : tie.Else1) → Yes 1 (c .before .before .before .before)
+yes1 c = (tt, said-yes (c .before .timeslot-is-legal .ensures) (c .if1 .left))
 
-yes1 : (c : tie.Else1) → Yes 4 (c .before .before .before .before)
-yes1 c rs q = (yes0 (c .before .before .before .before) rs q, said-yes (c .before .timeslot-is-legal .ensures) (c .if1 .left))
+yes2 : (c : tie.Else2) → Yes 2 (c .before .before .before .before .before .before)
+yes2 c = (yes1 (c .before .before), said-yes (c .before .address-is-legal .ensures) (c .if2 .left))
 
-yes2 : (c : tie.Else2) → Yes 5 (c .before .before .before .before .before .before)
-yes2 c rs q = (yes1 (c .before .before) rs q, said-yes (c .before .address-is-legal .ensures) (c .if2 .left))
+yes3 : (c : tie.Else3) → Yes 3 (c .before .before .before .before .before .before .before .before .before)
+yes3 c =
+    (yes2 (c .before .before .before), said-yes (rw (c .before .before .offered-record .ensures) at (c .before .offered-header-is-legal .ensures)) (c .if3 .left))
 
-yes3 : (c : tie.Else3) → Yes 6 (c .before .before .before .before .before .before .before .before .before)
-yes3 c rs q = (yes2 (c .before .before .before) rs q, said-yes (rw (c .before .before .offered-record .ensures) at (c .before .offered-header-is-legal .ensures)) (c .if3 .left))
+yes4 : (c : tie.Else4) → Yes 4 (c .before .before .before .before .before .before .before .before .before .before .before)
+yes4 c = (yes3 (c .before .before), said-yes (c .before .sdu-is-present .ensures) (c .if4 .left))
 
-yes4 : (c : tie.Else4) → Yes 7 (c .before .before .before .before .before .before .before .before .before .before .before)
-yes4 c rs q = (yes3 (c .before .before) rs q, said-yes (c .before .sdu-is-present .ensures) (c .if4 .left))
-
-yes5 : (c : tie.Else5) → Yes 8 (c .before .before .before .before .before .before .before .before .before .before .before .before .before .before)
-yes5 c rs q = (yes4 (c .before .before .before) rs q, said-yes (c .before .has-room .ensures) (c .if5 .left))
+yes5 : (c : tie.Else5) → Yes 5 (c .before .before .before .before .before .before .before .before .before .before .before .before .before .before)
+yes5 c = (yes4 (c .before .before .before), said-yes (c .before .has-room .ensures) (c .if5 .left))
 
 returns : tie.Need-returns
 unfolding tmaCall
 returns c =
     let k = c .before .before in
     let s = k .before .before .before in
-    subst (Plans s _) (sym (c .refused .ensures)) (no-planned replyNumber (s .args .station) (s .args .store .now) Reply.Refused (questions s) _ 3 Refusal.Timeslot refl (λ rs q. (yes0 s rs q, said-no (k .timeslot-is-legal .ensures) (c .before .if1 .taken), refl)))
+    subst (Plans s _) (sym (c .refused .ensures))
+    (no-planned replyNumber (s .args .station) (s .args .store .now) Reply.Refused (own s) _ (s .pre .0) 0 (λ r. refl) tt (said-no (k .timeslot-is-legal .ensures) (c .before .if1 .taken)))
 
 returns-2 : tie.Need-returns-2
 unfolding tmaCall
 returns-2 c =
     let k = c .before .before in
     let s = k .before .before .before .before .before in
-    subst (Plans s _) (sym (c .refused2 .ensures)) (no-planned replyNumber (s .args .station) (s .args .store .now) Reply.Refused (questions s) _ 4 Refusal.Address refl (λ rs q. (yes1 (k .before) rs q, said-no (k .address-is-legal .ensures) (c .before .if2 .taken), refl)))
+    subst (Plans s _) (sym (c .refused2 .ensures))
+    (no-planned replyNumber (s .args .station) (s .args .store .now) Reply.Refused (own s) _ (s .pre .0) 1 (λ r. refl) (yes1 (k .before)) (said-no (k .address-is-legal .ensures) (c .before .if2 .taken)))
 
 returns-3 : tie.Need-returns-3
 unfolding tmaCall
 returns-3 c =
     let k = c .before .before in
     let s = k .before .before .before .before .before .before .before .before in
-    let no = said-no (rw (k .before .offered-record .ensures) at (k .offered-header-is-legal .ensures)) (c .before .if3 .taken) in
-    subst (Plans s _) (sym (c .refused3 .ensures)) (no-planned replyNumber (s .args .station) (s .args .store .now) Reply.Refused (questions s) _ 5 Refusal.Header refl (λ rs q. (yes2 (k .before .before) rs q, no, refl)))
+    let illegal = said-no (rw (k .before .offered-record .ensures) at (k .offered-header-is-legal .ensures)) (c .before .if3 .taken) in
+    subst (Plans s _) (sym (c .refused3 .ensures))
+    (no-planned replyNumber (s .args .station) (s .args .store .now) Reply.Refused (own s) _ (s .pre .0) 2 (λ r. refl) (yes2 (k .before .before)) illegal)
 
 returns-4 : tie.Need-returns-4
 unfolding tmaCall
 returns-4 c =
     let k = c .before .before in
     let s = k .before .before .before .before .before .before .before .before .before .before in
-    subst (Plans s _) (sym (c .refused4 .ensures)) (no-planned replyNumber (s .args .station) (s .args .store .now) Reply.Refused (questions s) _ 6 Refusal.Sdu refl (λ rs q. (yes3 (k .before) rs q, said-no (k .sdu-is-present .ensures) (c .before .if4 .taken), refl)))
+    subst (Plans s _) (sym (c .refused4 .ensures))
+    (no-planned replyNumber (s .args .station) (s .args .store .now) Reply.Refused (own s) _ (s .pre .0) 3 (λ r. refl) (yes3 (k .before)) (said-no (k .sdu-is-present .ensures) (c .before .if4 .taken)))
 
-range : (c : tie.Else1) → let s = c .before .before .before .before in (1 ≤ s .args .timeslot) × (s .args .timeslot ≤ 4)
+range : (c : tie.Else1) → let s = c .before .before .before .before in (1 ≤ s .args .timeslot) × (s .args .timeslot ≤ timeslots)
 range c = timeslot-range _ (said-yes (c .before .timeslot-is-legal .ensures) (c .if1 .left))
 
 has-room-requires : tie.Need-has-room-requires
@@ -92,13 +96,14 @@ unfolding tmaCall
 returns-5 c =
     let k = c .before .before in
     let s = k .before .before .before .before .before .before .before .before .before .before .before .before .before in
-    subst (Plans s _) (sym (c .refused5 .ensures)) (no-planned replyNumber (s .args .station) (s .args .store .now) Reply.Refused (questions s) _ 7 Refusal.QueueFull refl (λ rs q. (yes4 (k .before .before) rs q, said-no (k .has-room .ensures) (c .before .if5 .taken), refl)))
+    subst (Plans s _) (sym (c .refused5 .ensures))
+    (no-planned replyNumber (s .args .station) (s .args .store .now) Reply.Refused (own s) _ (s .pre .0) 4 (λ r. refl) (yes4 (k .before .before)) (said-no (k .has-room .ensures) (c .before .if5 .taken)))
 
 joined-requires : tie.Need-joined-requires
 joined-requires c κs =
     let s = c .before .before .before .before .before .before .before .before .before .before .before .before .before .before in
     let r = range (c .before .before .before .before .before .before .before .before .before .before) in
-    (r .0, r .1, room-left (s .args .station .queued) (s .args .timeslot) (said-yes (c .before .has-room .ensures) (c .if5 .left)))
+    (r .0, r .1, room-left (queuedFor (s .args .station .queued) (s .args .timeslot)) (said-yes (c .before .has-room .ensures) (c .if5 .left)))
 
 write-cell-requires : tie.Need-write-cell-requires
 write-cell-requires c κs =
@@ -117,12 +122,15 @@ returns-6 c =
     let a = s .args in
     let r = joined-requires e _ in
     let is : j .joined .result ≡ joinedPlan (a .station) (a .timeslot) (offered s) = j .joined .ensures .0 ∙ ap (joinedPlan (a .station) (a .timeslot)) (e .before .before .before .before .before .before .before .offered-record .ensures) in
-    let cell = w .write-cell .ensures ∙ ap (λ (p : QueuePlan). paste (a .store .now) (256 * p .place) (cellOf (a .bits) (a .sdu .now)) 256) is in
+    let cell = w .write-cell .ensures ∙ ap (λ (p : QueuePlan). paste (a .store .now) (cellOctets * p .place) (cellOf (a .bits) (a .sdu .now)) cellOctets) is in
     subst (Plans s _) (sym is)
     (subst (λ (st : List ℕ). Plans s st (joinedPlan (a .station) (a .timeslot) (offered s))) (sym cell)
-    (yes-planned replyNumber (a .station) (a .store .now) Reply.Refused (questions s) _ _ _ _ _ _ (yes5 e) (joined-planned replyNumber (a .station) (a .store .now) _ _ Reply.Done _ _ _ refl (next-place-below (a .station .queued) (a .timeslot) (r .0) (r .1) (r .2)) (λ rs. refl))))
+    (yes-planned replyNumber (a .station) (a .store .now) Reply.Refused (own s) _ (s .pre .0) _ _ _ _ _ (yes5 e)
+    (joined-planned replyNumber (a .station) (a .store .now) _ _ Reply.Done _ _ _ refl (next-place-below (a .station .queued) (a .timeslot) (r .0) (r .1) (r .2)) (λ rs. refl))))
 
 pub tma-plan-spec : {M : Type 1} → statement M
 tma-plan-spec =
     tie.close
-    (tie.spec (λ c κs. search needs) (λ c κs. search needs) returns (λ c κs. search needs) (λ c κs. search needs) returns-2 (λ c κs. search needs) (λ c κs. search needs) (λ c κs. search needs) returns-3 (λ c κs. search needs) (λ c κs. search needs) returns-4 has-room-requires (λ c κs. search needs) returns-5 joined-requires (λ c. search needs) write-cell-requires (λ c. search needs) returns-6)
+    (tie.spec (λ c κs. search needs) (λ c κs. search needs) returns (λ c κs. search needs) (λ c κs. search needs) returns-2 (λ c κs. search needs)
+    (λ c κs. search needs) (λ c κs. search needs) returns-3 (λ c κs. search needs) (λ c κs. search needs) returns-4 has-room-requires
+    (λ c κs. search needs) returns-5 joined-requires (λ c. search needs) write-cell-requires (λ c. search needs) returns-6)

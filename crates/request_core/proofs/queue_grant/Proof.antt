@@ -10,7 +10,7 @@ unfolding grantQueued
 returns c =
     let k = c .before .before .before .before .before .before in
     let n = k .before in
-    record { whole = λ rs. let counts = k .one-more .ensures in let place = n .next-place .ensures .0 in let grant = n .before .before .grant-record .ensures in cc; granted = refl; joins = n .next-place .ensures .1 }
+    record { whole = λ rs st. rw (k .one-more .ensures, n .next-place .ensures .0, n .before .before .grant-record .ensures); granted = refl; joins = n .next-place .ensures .1 }
 
 pub queue-grant-spec : {M : Type 1} → statement M
 queue-grant-spec = tie.close (tie.spec (λ c. search needs) (λ c. search needs) (λ c κs. search needs) (λ c κs. search needs) (λ c κs. search needs) returns)

@@ -1,16 +1,15 @@
 -- No run, a run too late, or a grant that is queued. Assumes nothing.
 use mathlib.Core.Path.{_≡_, refl, sym, ap, _∙_, subst}
-use mathlib.Core.List.{[]}
+use Rattle.questions.specs.declared.Refusal.{Refusal}
 use Rattle.uplink.specs.Request.{answer}
-use Rattle.sched_core.specs.declared.Refusal.{Refusal}
 use Rattle.sched_core.specs.declared.RequestReply.{RequestReply}
 use Rattle.sched_core.specs.Station.{tableOf}
-use Rattle.sched_core.specs.Questions.{Memory}
-use Rattle.sched_core.specs.Calls.{Outcome, requestNumber, requestOutcome}
+use Rattle.sched_core.specs.Questions.{Memory, memory}
+use Rattle.sched_core.specs.Calls.{Outcome, requestNumber, requestAnswered}
 use Rattle.sched_core.proofs.GrantLaws.{answered-no-run, answered-too-late, answered-grant, grant-fits}
 use Rattle.enqueue_core.proofs.PlanLaws.{refused-planned, joined-planned}
 use Rattle.request_core.specs.declared.RequestPlan.{RequestPlan}
-use Rattle.request_core.specs.RequestPlan.{requestLeaves, RequestPlanned}
+use Rattle.request_core.specs.RequestPlan.{RequestPlanned}
 use borrow.Author.Needs.{needs}
 use Rattle.request_core.proofs.request_answered.Statement.{statement}
 use Rattle.request_core.proofs.request_answered.Tie as tie
@@ -21,7 +20,7 @@ searched : (c : tie.After-ul-process-cap-req) → let a = c .before .before .bef
 searched c = rw (c .before .table-of .ensures) at (c .ul-process-cap-req .ensures)
 
 abbrev leaves : tie.Start → Memory → Outcome RequestReply
-leaves s = requestLeaves (s .args .timeslot) (s .args .code) (s .args .kind) (s .args .number)
+leaves s m = requestAnswered m (s .args .timeslot) (s .args .code) (s .args .kind) (s .args .number)
 
 abbrev Plans : tie.Start → RequestPlan → Type 0
 Plans s p = RequestPlanned (leaves s) (s .args .station) p
@@ -31,7 +30,7 @@ queue-grant-requires c κs =
     let k = c .before .before .before in
     let s = k .before .before .before .before in
     let a = s .args in
-    (s .pre .1, grant-fits (a .station) [] (a .timeslot) (a .code) (a .kind) (a .number) _ (searched k) _ _ _ (c .before .reply .given .1))
+    (s .pre .1, grant-fits (a .station) (a .timeslot) (a .code) (a .number) _ (searched k) _ _ _ (c .before .reply .given .1))
 
 returns : tie.Need-returns
 returns c =
@@ -39,7 +38,8 @@ returns c =
     let s = k .before .before .before .before in
     let a = s .args in
     subst (Plans s) (sym (c .request-refused .ensures))
-    (λ st. refused-planned requestNumber (a .station) st (leaves s) RequestReply.Refused Refusal.NoRun refl (λ rs q. ap (λ x. requestOutcome x st) (answered-no-run (a .station) rs (a .timeslot) (a .code) (a .kind) (a .number) _ (searched k) (c .before .enum-told .given .1))))
+    (λ st. refused-planned requestNumber (a .station) st (leaves s) RequestReply.Refused Refusal.NoRun refl
+    (λ rs q. answered-no-run (memory (a .station) rs st) (a .timeslot) (a .code) (a .kind) (a .number) _ (searched k) (c .before .enum-told .given .1)))
 
 returns-2 : tie.Need-returns-2
 returns-2 c =
@@ -47,7 +47,8 @@ returns-2 c =
     let s = k .before .before .before .before in
     let a = s .args in
     subst (Plans s) (sym (c .request-refused2 .ensures))
-    (λ st. refused-planned requestNumber (a .station) st (leaves s) RequestReply.Refused Refusal.TooLate refl (λ rs q. ap (λ x. requestOutcome x st) (answered-too-late (a .station) rs (a .timeslot) (a .code) (a .kind) (a .number) _ (searched k) (c .before .enum-told2 .given .1))))
+    (λ st. refused-planned requestNumber (a .station) st (leaves s) RequestReply.Refused Refusal.TooLate refl
+    (λ rs q. answered-too-late (memory (a .station) rs st) (a .timeslot) (a .code) (a .kind) (a .number) _ (searched k) (c .before .enum-told2 .given .1)))
 
 returns-3 : tie.Need-returns-3
 returns-3 c =
@@ -56,9 +57,10 @@ returns-3 c =
     let a = s .args in
     let g = c .queue-grant .ensures in
     λ st. joined-planned requestNumber (a .station) st (leaves s) st _ _ _ _ (g .granted) (g .joins)
-    (λ rs. ap (λ x. requestOutcome x st) (g .whole rs ∙ answered-grant (a .station) rs (a .timeslot) (a .code) (a .kind) (a .number) _ (searched k) _ _ _ (c .before .before .reply .given .1)))
+    (λ rs. g .whole rs st ∙ answered-grant (memory (a .station) rs st) (a .timeslot) (a .code) (a .kind) (a .number) _ (searched k) _ _ _ (c .before .before .reply .given .1))
 
 pub request-answered-spec : {M : Type 1} → statement M
 request-answered-spec =
     tie.close
-    (tie.spec (λ c κs. search needs) (λ c κs. search needs) (λ c. search needs) (λ c κs. search needs) (λ c. search needs) (λ c κs. search needs) (λ c. search needs) queue-grant-requires returns returns-2 returns-3)
+    (tie.spec (λ c κs. search needs) (λ c κs. search needs) (λ c. search needs) (λ c κs. search needs) (λ c. search needs) (λ c κs. search needs)
+    (λ c. search needs) queue-grant-requires returns returns-2 returns-3)

@@ -3,7 +3,7 @@ use mathlib.Core.Path.{ap, _∙_}
 use borrow.Author.Needs.{needs}
 use Rattle.sched_core.specs.Calls.{answerOf, advanceCall}
 use Rattle.sched_core.specs.declared.Reply.{Reply}
-use Rattle.sched_core.proofs.AskLaws.{said-no, said-yes, first-no, every-yes}
+use Rattle.questions.proofs.AskLaws.{said-no, said-yes, first-no, every-yes}
 use Rattle.sched_core.proofs.StationLaws.{sound-parts}
 use Rattle.sched_core.proofs.advance.Statement.{statement}
 use Rattle.sched_core.proofs.advance.Tie as tie

@@ -26,4 +26,4 @@ returns : tie.Need-returns Inv-loop μ-loop
 returns c = sym (all-done soundCount (c .before .before .args .t1) (c .before .loop .i) (c .before .loop .sound) (omega arith)) ∙ c .before .loop .inv .2
 
 pub counts-are-sound-spec : {M : Type 1} → statement M
-counts-are-sound-spec = tie.close (tie.spec Inv-loop μ-loop (λ c. search needs) (λ c. search needs) (λ c. search needs) (λ c. search needs) loop-again returns)
+counts-are-sound-spec = tie.close (tie.spec Inv-loop μ-loop (λ c. search needs) (λ c. search needs) (λ c. search needs) (λ c. search needs) (λ c. search needs) loop-again returns)

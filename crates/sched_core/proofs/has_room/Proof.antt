@@ -7,4 +7,4 @@ returns : tie.Need-returns
 returns c = search needs
 
 pub has-room-spec : {M : Type 1} → statement M
-has-room-spec = tie.close (tie.spec (λ c. search needs) (λ c. search needs) (λ c. search needs) returns)
+has-room-spec = tie.close (tie.spec (λ c. search needs) (λ c. search needs) (λ c. search needs) (λ c. search needs) returns)

@@ -5,8 +5,8 @@ use Rattle.bs_sched.proofs.Mirs as mirs
 use Rattle.bs_sched.proofs.Rows_Record as in-Record
 use Rattle.bs_sched.proofs.Verdict
 use Rattle.bs_sched.proofs.Verdict.Laws as Laws''
-use Rattle.sched_core.proofs.Refusal
-use Rattle.sched_core.proofs.Refusal.Laws
+use Rattle.questions.proofs.Refusal
+use Rattle.questions.proofs.Refusal.Laws
 use Rattle.sched_core.proofs.Station
 use Rattle.sched_core.proofs.Station.Laws as Laws'
 use borrow.Author.Called
@@ -322,28 +322,28 @@ abbrev ε65 : Row.Entry
 ε65 = (42, Rows'.any-gone mirs.dl_record-Record)
 
 abbrev ε66 : Row.Entry
-ε66 = (1, Rows'.any-gone mirs.sched_core-Station)
+ε66 = (20, Rows'.any-gone mirs.questions-Refusal)
 
 abbrev ε67 : Row.Entry
-ε67 = (20, Rows'.any-gone mirs.sched_core-Refusal)
+ε67 = (22, Rows'.any-gone mirs.questions-Refusal)
 
 abbrev ε68 : Row.Entry
-ε68 = (22, Rows'.any-gone mirs.sched_core-Refusal)
+ε68 = (23, Rows'.any-gone mirs.questions-Refusal)
 
 abbrev ε69 : Row.Entry
-ε69 = (23, Rows'.any-gone mirs.sched_core-Refusal)
+ε69 = (24, Rows'.any-gone mirs.questions-Refusal)
 
 abbrev ε70 : Row.Entry
-ε70 = (24, Rows'.any-gone mirs.sched_core-Refusal)
+ε70 = (29, Rows'.any-gone mirs.questions-Refusal)
 
 abbrev ε71 : Row.Entry
-ε71 = (29, Rows'.any-gone mirs.sched_core-Refusal)
+ε71 = (38, Rows'.any-gone mirs.questions-Refusal)
 
 abbrev ε72 : Row.Entry
-ε72 = (38, Rows'.any-gone mirs.sched_core-Refusal)
+ε72 = (47, Rows'.any-gone mirs.questions-Refusal)
 
 abbrev ε73 : Row.Entry
-ε73 = (47, Rows'.any-gone mirs.sched_core-Refusal)
+ε73 = (1, Rows'.any-gone mirs.sched_core-Station)
 
 abbrev ε74 : Row.Entry
 ε74 = (0, Rows'.whole (Declared.row Verdict.the-type))
@@ -413,10 +413,10 @@ r = Value.rVal record {
 
 abbrev pub xs : List.List Syntax.Ty
 xs = τ2 ∷ τ1 ∷ τ1 ∷ τ1 ∷ τ1 ∷ mirs.dl_record-Record ∷ τ1 ∷ τ1 ∷ τ1 ∷ τ1 ∷ mirs.dl_record-Record ∷ τ1 ∷ τ1 ∷ Syntax.tyBool ∷ Syntax.tyBool ∷
-    mirs.sched_core-Refusal ∷ τ1 ∷ mirs.sched_core-Refusal ∷ mirs.sched_core-Refusal ∷ mirs.sched_core-Refusal ∷ Syntax.tyBool ∷ Syntax.tyPtr ∷
-    Syntax.tyPtr ∷ τ0 ∷ mirs.sched_core-Refusal ∷ Syntax.tyBool ∷ τ1 ∷ Syntax.tyPtr ∷ mirs.dl_record-Record ∷ Syntax.tyPtr ∷ τ4 ∷ τ6 ∷ Syntax.tyBool ∷
-    mirs.sched_core-Refusal ∷ Syntax.tyBool ∷ τ1 ∷ Syntax.tyPtr ∷ mirs.dl_record-Record ∷ Syntax.tyPtr ∷ τ4 ∷ τ6 ∷ Syntax.tyBool ∷
-    mirs.sched_core-Refusal ∷ []
+    mirs.questions-Refusal ∷ τ1 ∷ mirs.questions-Refusal ∷ mirs.questions-Refusal ∷ mirs.questions-Refusal ∷ Syntax.tyBool ∷ Syntax.tyPtr ∷
+    Syntax.tyPtr ∷ τ0 ∷ mirs.questions-Refusal ∷ Syntax.tyBool ∷ τ1 ∷ Syntax.tyPtr ∷ mirs.dl_record-Record ∷ Syntax.tyPtr ∷ τ4 ∷ τ6 ∷ Syntax.tyBool ∷
+    mirs.questions-Refusal ∷ Syntax.tyBool ∷ τ1 ∷ Syntax.tyPtr ∷ mirs.dl_record-Record ∷ Syntax.tyPtr ∷ τ4 ∷ τ6 ∷ Syntax.tyBool ∷
+    mirs.questions-Refusal ∷ []
 
 abbrev pub m : Nat.ℕ
 m = 0
@@ -1015,266 +1015,266 @@ abbrev pub t0 : List.List Row.Entry
 t0 = ε33 ∷ ε75 ∷ ε48 ∷ ε77 ∷ ε22 ∷ ε3 ∷ ε4 ∷ ε5 ∷ ε6 ∷ ε7 ∷ ε62 ∷ ε8 ∷ ε9 ∷ ε10 ∷ ε11 ∷ ε63 ∷ []
 
 abbrev pub t1 : List.List Row.Entry
-t1 = ε12 ∷ ε13 ∷ ε41 ∷ ε42 ∷ ε67 ∷ ε14 ∷ ε68 ∷ ε69 ∷ ε70 ∷ ε43 ∷ ε34 ∷ ε35 ∷ ε15 ∷ ε71 ∷ ε44 ∷ ε16 ∷ []
+t1 = ε12 ∷ ε13 ∷ ε41 ∷ ε42 ∷ ε66 ∷ ε14 ∷ ε67 ∷ ε68 ∷ ε69 ∷ ε43 ∷ ε34 ∷ ε35 ∷ ε15 ∷ ε70 ∷ ε44 ∷ ε16 ∷ []
 
 abbrev pub t2 : List.List Row.Entry
-t2 = ε36 ∷ ε64 ∷ ε37 ∷ ε17 ∷ ε18 ∷ ε45 ∷ ε72 ∷ ε46 ∷ ε19 ∷ ε38 ∷ ε65 ∷ ε39 ∷ ε20 ∷ ε21 ∷ ε47 ∷ ε73 ∷ []
+t2 = ε36 ∷ ε64 ∷ ε37 ∷ ε17 ∷ ε18 ∷ ε45 ∷ ε71 ∷ ε46 ∷ ε19 ∷ ε38 ∷ ε65 ∷ ε39 ∷ ε20 ∷ ε21 ∷ ε47 ∷ ε72 ∷ []
 
 abbrev pub t3 : List.List Row.Entry
-t3 = ε74 ∷ ε66 ∷ ε48 ∷ ε77 ∷ ε40 ∷ ε3 ∷ ε4 ∷ ε5 ∷ ε6 ∷ ε7 ∷ ε62 ∷ ε8 ∷ ε9 ∷ ε10 ∷ ε11 ∷ ε63 ∷ []
+t3 = ε74 ∷ ε73 ∷ ε48 ∷ ε77 ∷ ε40 ∷ ε3 ∷ ε4 ∷ ε5 ∷ ε6 ∷ ε7 ∷ ε62 ∷ ε8 ∷ ε9 ∷ ε10 ∷ ε11 ∷ ε63 ∷ []
 
 abbrev pub t4 : List.List Row.Entry
-t4 = ε12 ∷ ε13 ∷ ε29 ∷ ε42 ∷ ε67 ∷ ε14 ∷ ε68 ∷ ε69 ∷ ε70 ∷ ε43 ∷ ε34 ∷ ε35 ∷ ε15 ∷ ε71 ∷ ε44 ∷ ε16 ∷ []
+t4 = ε12 ∷ ε13 ∷ ε29 ∷ ε42 ∷ ε66 ∷ ε14 ∷ ε67 ∷ ε68 ∷ ε69 ∷ ε43 ∷ ε34 ∷ ε35 ∷ ε15 ∷ ε70 ∷ ε44 ∷ ε16 ∷ []
 
 abbrev pub t5 : List.List Row.Entry
-t5 = ε12 ∷ ε13 ∷ ε29 ∷ ε30 ∷ ε67 ∷ ε14 ∷ ε68 ∷ ε69 ∷ ε70 ∷ ε43 ∷ ε34 ∷ ε35 ∷ ε15 ∷ ε71 ∷ ε44 ∷ ε16 ∷ []
+t5 = ε12 ∷ ε13 ∷ ε29 ∷ ε30 ∷ ε66 ∷ ε14 ∷ ε67 ∷ ε68 ∷ ε69 ∷ ε43 ∷ ε34 ∷ ε35 ∷ ε15 ∷ ε70 ∷ ε44 ∷ ε16 ∷ []
 
 abbrev pub t6 : List.List Row.Entry
-t6 = ε12 ∷ ε13 ∷ ε41 ∷ ε30 ∷ ε67 ∷ ε14 ∷ ε68 ∷ ε69 ∷ ε70 ∷ ε43 ∷ ε34 ∷ ε35 ∷ ε15 ∷ ε71 ∷ ε44 ∷ ε16 ∷ []
+t6 = ε12 ∷ ε13 ∷ ε41 ∷ ε30 ∷ ε66 ∷ ε14 ∷ ε67 ∷ ε68 ∷ ε69 ∷ ε43 ∷ ε34 ∷ ε35 ∷ ε15 ∷ ε70 ∷ ε44 ∷ ε16 ∷ []
 
 abbrev pub t7 : List.List Row.Entry
-t7 = ε33 ∷ ε66 ∷ ε48 ∷ ε77 ∷ ε22 ∷ ε3 ∷ ε4 ∷ ε5 ∷ ε6 ∷ ε7 ∷ ε62 ∷ ε8 ∷ ε9 ∷ ε10 ∷ ε11 ∷ ε63 ∷ []
+t7 = ε33 ∷ ε73 ∷ ε48 ∷ ε77 ∷ ε22 ∷ ε3 ∷ ε4 ∷ ε5 ∷ ε6 ∷ ε7 ∷ ε62 ∷ ε8 ∷ ε9 ∷ ε10 ∷ ε11 ∷ ε63 ∷ []
 
 abbrev pub t8 : List.List Row.Entry
-t8 = ε12 ∷ ε13 ∷ ε41 ∷ ε42 ∷ (20, Rows'.whole (Declared.row Refusal.the-type)) ∷ ε14 ∷ ε68 ∷ ε69 ∷ ε70 ∷ ε43 ∷ ε34 ∷ ε35 ∷ ε15 ∷ ε71 ∷ ε44 ∷ ε16 ∷ []
+t8 = ε12 ∷ ε13 ∷ ε41 ∷ ε42 ∷ (20, Rows'.whole (Declared.row Refusal.the-type)) ∷ ε14 ∷ ε67 ∷ ε68 ∷ ε69 ∷ ε43 ∷ ε34 ∷ ε35 ∷ ε15 ∷ ε70 ∷ ε44 ∷ ε16 ∷ []
 
 abbrev pub t9 : List.List Row.Entry
-t9 = ε74 ∷ ε66 ∷ ε48 ∷ ε77 ∷ ε22 ∷ ε3 ∷ ε4 ∷ ε5 ∷ ε6 ∷ ε7 ∷ ε62 ∷ ε8 ∷ ε9 ∷ ε10 ∷ ε11 ∷ ε63 ∷ []
+t9 = ε74 ∷ ε73 ∷ ε48 ∷ ε77 ∷ ε22 ∷ ε3 ∷ ε4 ∷ ε5 ∷ ε6 ∷ ε7 ∷ ε62 ∷ ε8 ∷ ε9 ∷ ε10 ∷ ε11 ∷ ε63 ∷ []
 
 abbrev pub t10 : List.List Row.Entry
-t10 = ε12 ∷ ε13 ∷ ε41 ∷ ε42 ∷ ε67 ∷ ε54 ∷ ε68 ∷ ε69 ∷ ε70 ∷ ε43 ∷ ε34 ∷ ε35 ∷ ε15 ∷ ε71 ∷ ε44 ∷ ε16 ∷ []
+t10 = ε12 ∷ ε13 ∷ ε41 ∷ ε42 ∷ ε66 ∷ ε54 ∷ ε67 ∷ ε68 ∷ ε69 ∷ ε43 ∷ ε34 ∷ ε35 ∷ ε15 ∷ ε70 ∷ ε44 ∷ ε16 ∷ []
 
 abbrev pub t11 : List.List Row.Entry
-t11 = ε12 ∷ ε13 ∷ ε29 ∷ ε42 ∷ ε67 ∷ ε54 ∷ ε68 ∷ ε69 ∷ ε70 ∷ ε43 ∷ ε34 ∷ ε35 ∷ ε15 ∷ ε71 ∷ ε44 ∷ ε16 ∷ []
+t11 = ε12 ∷ ε13 ∷ ε29 ∷ ε42 ∷ ε66 ∷ ε54 ∷ ε67 ∷ ε68 ∷ ε69 ∷ ε43 ∷ ε34 ∷ ε35 ∷ ε15 ∷ ε70 ∷ ε44 ∷ ε16 ∷ []
 
 abbrev pub t12 : List.List Row.Entry
-t12 = ε12 ∷ ε13 ∷ ε41 ∷ ε42 ∷ ε67 ∷ ε14 ∷ (22, Rows'.whole (Declared.row Refusal.the-type)) ∷ ε69 ∷ ε70 ∷ ε43 ∷ ε34 ∷ ε35 ∷ ε15 ∷ ε71 ∷ ε44 ∷ ε16 ∷ []
+t12 = ε12 ∷ ε13 ∷ ε41 ∷ ε42 ∷ ε66 ∷ ε14 ∷ (22, Rows'.whole (Declared.row Refusal.the-type)) ∷ ε68 ∷ ε69 ∷ ε43 ∷ ε34 ∷ ε35 ∷ ε15 ∷ ε70 ∷ ε44 ∷ ε16 ∷ []
 
 abbrev pub t13 : List.List Row.Entry
-t13 = ε12 ∷ ε13 ∷ ε41 ∷ ε30 ∷ ε67 ∷ ε54 ∷ ε68 ∷ ε69 ∷ ε70 ∷ ε43 ∷ ε34 ∷ ε35 ∷ ε15 ∷ ε71 ∷ ε44 ∷ ε16 ∷ []
+t13 = ε12 ∷ ε13 ∷ ε41 ∷ ε30 ∷ ε66 ∷ ε54 ∷ ε67 ∷ ε68 ∷ ε69 ∷ ε43 ∷ ε34 ∷ ε35 ∷ ε15 ∷ ε70 ∷ ε44 ∷ ε16 ∷ []
 
 abbrev pub t14 : List.List Row.Entry
-t14 = ε12 ∷ ε13 ∷ ε41 ∷ ε42 ∷ ε67 ∷ ε14 ∷ ε68 ∷ (23, Rows'.whole (Declared.row Refusal.the-type)) ∷ ε70 ∷ ε43 ∷ ε34 ∷ ε35 ∷ ε15 ∷ ε71 ∷ ε44 ∷ ε16 ∷ []
+t14 = ε12 ∷ ε13 ∷ ε41 ∷ ε42 ∷ ε66 ∷ ε14 ∷ ε67 ∷ (23, Rows'.whole (Declared.row Refusal.the-type)) ∷ ε69 ∷ ε43 ∷ ε34 ∷ ε35 ∷ ε15 ∷ ε70 ∷ ε44 ∷ ε16 ∷ []
 
 abbrev pub t15 : List.List Row.Entry
-t15 = ε12 ∷ ε13 ∷ ε41 ∷ ε42 ∷ ε67 ∷ ε14 ∷ ε68 ∷ ε69 ∷ (24, Rows'.whole (Declared.row Refusal.the-type)) ∷ ε43 ∷ ε34 ∷ ε35 ∷ ε15 ∷ ε71 ∷ ε44 ∷ ε16 ∷ []
+t15 = ε12 ∷ ε13 ∷ ε41 ∷ ε42 ∷ ε66 ∷ ε14 ∷ ε67 ∷ ε68 ∷ (24, Rows'.whole (Declared.row Refusal.the-type)) ∷ ε43 ∷ ε34 ∷ ε35 ∷ ε15 ∷ ε70 ∷ ε44 ∷ ε16 ∷ []
 
 abbrev pub t16 : List.List Row.Entry
 t16 = ε33 ∷ ε75 ∷ ε48 ∷ ε77 ∷ ε22 ∷ ε76 ∷ ε4 ∷ ε5 ∷ ε6 ∷ ε7 ∷ ε62 ∷ ε8 ∷ ε9 ∷ ε10 ∷ ε11 ∷ ε63 ∷ []
 
 abbrev pub t17 : List.List Row.Entry
-t17 = ε33 ∷ ε66 ∷ ε48 ∷ ε77 ∷ ε22 ∷ ε76 ∷ ε4 ∷ ε5 ∷ ε6 ∷ ε7 ∷ ε62 ∷ ε8 ∷ ε9 ∷ ε10 ∷ ε11 ∷ ε63 ∷ []
+t17 = ε33 ∷ ε73 ∷ ε48 ∷ ε77 ∷ ε22 ∷ ε76 ∷ ε4 ∷ ε5 ∷ ε6 ∷ ε7 ∷ ε62 ∷ ε8 ∷ ε9 ∷ ε10 ∷ ε11 ∷ ε63 ∷ []
 
 abbrev pub t18 : List.List Row.Entry
-t18 = ε33 ∷ ε66 ∷ ε48 ∷ ε77 ∷ ε22 ∷ ε76 ∷ ε49 ∷ ε5 ∷ ε6 ∷ ε7 ∷ ε62 ∷ ε8 ∷ ε9 ∷ ε10 ∷ ε11 ∷ ε63 ∷ []
+t18 = ε33 ∷ ε73 ∷ ε48 ∷ ε77 ∷ ε22 ∷ ε76 ∷ ε49 ∷ ε5 ∷ ε6 ∷ ε7 ∷ ε62 ∷ ε8 ∷ ε9 ∷ ε10 ∷ ε11 ∷ ε63 ∷ []
 
 abbrev pub t19 : List.List Row.Entry
-t19 = ε12 ∷ ε13 ∷ ε41 ∷ ε42 ∷ ε67 ∷ ε14 ∷ ε68 ∷ ε69 ∷ ε70 ∷ (25, Rows'.sc-here Row.sBool) ∷ ε34 ∷ ε35 ∷ ε15 ∷ ε71 ∷ ε44 ∷ ε16 ∷ []
+t19 = ε12 ∷ ε13 ∷ ε41 ∷ ε42 ∷ ε66 ∷ ε14 ∷ ε67 ∷ ε68 ∷ ε69 ∷ (25, Rows'.sc-here Row.sBool) ∷ ε34 ∷ ε35 ∷ ε15 ∷ ε70 ∷ ε44 ∷ ε16 ∷ []
 
 abbrev pub t20 : List.List Row.Entry
-t20 = ε33 ∷ ε66 ∷ ε48 ∷ ε77 ∷ ε22 ∷ ε3 ∷ ε49 ∷ ε5 ∷ ε6 ∷ ε7 ∷ ε62 ∷ ε8 ∷ ε9 ∷ ε10 ∷ ε11 ∷ ε63 ∷ []
+t20 = ε33 ∷ ε73 ∷ ε48 ∷ ε77 ∷ ε22 ∷ ε3 ∷ ε49 ∷ ε5 ∷ ε6 ∷ ε7 ∷ ε62 ∷ ε8 ∷ ε9 ∷ ε10 ∷ ε11 ∷ ε63 ∷ []
 
 abbrev pub t21 : List.List Row.Entry
-t21 = ε12 ∷ ε13 ∷ ε41 ∷ ε42 ∷ ε67 ∷ ε14 ∷ ε68 ∷ ε69 ∷ ε70 ∷ ε43 ∷ ε23 ∷ ε35 ∷ ε15 ∷ ε71 ∷ ε44 ∷ ε16 ∷ []
+t21 = ε12 ∷ ε13 ∷ ε41 ∷ ε42 ∷ ε66 ∷ ε14 ∷ ε67 ∷ ε68 ∷ ε69 ∷ ε43 ∷ ε23 ∷ ε35 ∷ ε15 ∷ ε70 ∷ ε44 ∷ ε16 ∷ []
 
 abbrev pub t22 : List.List Row.Entry
-t22 = ε12 ∷ ε13 ∷ ε41 ∷ ε42 ∷ ε67 ∷ ε14 ∷ ε68 ∷ ε69 ∷ ε70 ∷ ε43 ∷ ε23 ∷ ε24 ∷ ε15 ∷ ε71 ∷ ε44 ∷ ε16 ∷ []
+t22 = ε12 ∷ ε13 ∷ ε41 ∷ ε42 ∷ ε66 ∷ ε14 ∷ ε67 ∷ ε68 ∷ ε69 ∷ ε43 ∷ ε23 ∷ ε24 ∷ ε15 ∷ ε70 ∷ ε44 ∷ ε16 ∷ []
 
 abbrev pub t23 : List.List Row.Entry
-t23 = ε12 ∷ ε13 ∷ ε41 ∷ ε42 ∷ ε67 ∷ ε14 ∷ ε68 ∷ ε69 ∷ ε70 ∷ ε43 ∷ ε34 ∷ ε24 ∷ ε15 ∷ ε71 ∷ ε44 ∷ ε16 ∷ []
+t23 = ε12 ∷ ε13 ∷ ε41 ∷ ε42 ∷ ε66 ∷ ε14 ∷ ε67 ∷ ε68 ∷ ε69 ∷ ε43 ∷ ε34 ∷ ε24 ∷ ε15 ∷ ε70 ∷ ε44 ∷ ε16 ∷ []
 
 abbrev pub t24 : List.List Row.Entry
-t24 = ε12 ∷ ε13 ∷ ε41 ∷ ε42 ∷ ε67 ∷ ε14 ∷ ε68 ∷ ε69 ∷ ε70 ∷ ε43 ∷ ε34 ∷ ε24 ∷ ε50 ∷ ε71 ∷ ε44 ∷ ε16 ∷ []
+t24 = ε12 ∷ ε13 ∷ ε41 ∷ ε42 ∷ ε66 ∷ ε14 ∷ ε67 ∷ ε68 ∷ ε69 ∷ ε43 ∷ ε34 ∷ ε24 ∷ ε50 ∷ ε70 ∷ ε44 ∷ ε16 ∷ []
 
 abbrev pub t25 : List.List Row.Entry
-t25 = ε12 ∷ ε13 ∷ ε41 ∷ ε42 ∷ ε67 ∷ ε14 ∷ ε68 ∷ ε69 ∷ ε70 ∷ ε43 ∷ ε34 ∷ ε35 ∷ ε50 ∷ ε71 ∷ ε44 ∷ ε16 ∷ []
+t25 = ε12 ∷ ε13 ∷ ε41 ∷ ε42 ∷ ε66 ∷ ε14 ∷ ε67 ∷ ε68 ∷ ε69 ∷ ε43 ∷ ε34 ∷ ε35 ∷ ε50 ∷ ε70 ∷ ε44 ∷ ε16 ∷ []
 
 abbrev pub t26 : List.List Row.Entry
-t26 = ε33 ∷ ε66 ∷ ε48 ∷ ε77 ∷ ε22 ∷ ε76 ∷ ε49 ∷ ε51 ∷ ε6 ∷ ε7 ∷ ε62 ∷ ε8 ∷ ε9 ∷ ε10 ∷ ε11 ∷ ε63 ∷ []
+t26 = ε33 ∷ ε73 ∷ ε48 ∷ ε77 ∷ ε22 ∷ ε76 ∷ ε49 ∷ ε51 ∷ ε6 ∷ ε7 ∷ ε62 ∷ ε8 ∷ ε9 ∷ ε10 ∷ ε11 ∷ ε63 ∷ []
 
 abbrev pub t27 : List.List Row.Entry
-t27 = ε33 ∷ ε66 ∷ ε48 ∷ ε77 ∷ ε22 ∷ ε3 ∷ ε49 ∷ ε51 ∷ ε6 ∷ ε7 ∷ ε62 ∷ ε8 ∷ ε9 ∷ ε10 ∷ ε11 ∷ ε63 ∷ []
+t27 = ε33 ∷ ε73 ∷ ε48 ∷ ε77 ∷ ε22 ∷ ε3 ∷ ε49 ∷ ε51 ∷ ε6 ∷ ε7 ∷ ε62 ∷ ε8 ∷ ε9 ∷ ε10 ∷ ε11 ∷ ε63 ∷ []
 
 abbrev pub t28 : List.List Row.Entry
-t28 = ε12 ∷ ε13 ∷ ε41 ∷ ε42 ∷ ε67 ∷ ε14 ∷ ε68 ∷ ε69 ∷ ε70 ∷ ε43 ∷ ε34 ∷ ε35 ∷ ε15 ∷ (29, Rows'.whole (Declared.row Refusal.the-type)) ∷ ε44 ∷ ε16 ∷ []
+t28 = ε12 ∷ ε13 ∷ ε41 ∷ ε42 ∷ ε66 ∷ ε14 ∷ ε67 ∷ ε68 ∷ ε69 ∷ ε43 ∷ ε34 ∷ ε35 ∷ ε15 ∷ (29, Rows'.whole (Declared.row Refusal.the-type)) ∷ ε44 ∷ ε16 ∷ []
 
 abbrev pub t29 : List.List Row.Entry
-t29 = ε74 ∷ ε66 ∷ ε48 ∷ ε77 ∷ ε22 ∷ ε3 ∷ ε49 ∷ ε51 ∷ ε6 ∷ ε7 ∷ ε62 ∷ ε8 ∷ ε9 ∷ ε10 ∷ ε11 ∷ ε63 ∷ []
+t29 = ε74 ∷ ε73 ∷ ε48 ∷ ε77 ∷ ε22 ∷ ε3 ∷ ε49 ∷ ε51 ∷ ε6 ∷ ε7 ∷ ε62 ∷ ε8 ∷ ε9 ∷ ε10 ∷ ε11 ∷ ε63 ∷ []
 
 abbrev pub t30 : List.List Row.Entry
-t30 = ε74 ∷ ε66 ∷ ε48 ∷ ε77 ∷ ε40 ∷ ε3 ∷ ε49 ∷ ε51 ∷ ε6 ∷ ε7 ∷ ε62 ∷ ε8 ∷ ε9 ∷ ε10 ∷ ε11 ∷ ε63 ∷ []
+t30 = ε74 ∷ ε73 ∷ ε48 ∷ ε77 ∷ ε40 ∷ ε3 ∷ ε49 ∷ ε51 ∷ ε6 ∷ ε7 ∷ ε62 ∷ ε8 ∷ ε9 ∷ ε10 ∷ ε11 ∷ ε63 ∷ []
 
 abbrev pub t31 : List.List Row.Entry
-t31 = ε74 ∷ ε66 ∷ ε48 ∷ ε77 ∷ ε40 ∷ ε3 ∷ ε4 ∷ ε51 ∷ ε6 ∷ ε7 ∷ ε62 ∷ ε8 ∷ ε9 ∷ ε10 ∷ ε11 ∷ ε63 ∷ []
+t31 = ε74 ∷ ε73 ∷ ε48 ∷ ε77 ∷ ε40 ∷ ε3 ∷ ε4 ∷ ε51 ∷ ε6 ∷ ε7 ∷ ε62 ∷ ε8 ∷ ε9 ∷ ε10 ∷ ε11 ∷ ε63 ∷ []
 
 abbrev pub t32 : List.List Row.Entry
-t32 = ε33 ∷ ε66 ∷ ε48 ∷ ε77 ∷ ε22 ∷ ε76 ∷ ε49 ∷ ε51 ∷ ε52 ∷ ε7 ∷ ε62 ∷ ε8 ∷ ε9 ∷ ε10 ∷ ε11 ∷ ε63 ∷ []
+t32 = ε33 ∷ ε73 ∷ ε48 ∷ ε77 ∷ ε22 ∷ ε76 ∷ ε49 ∷ ε51 ∷ ε52 ∷ ε7 ∷ ε62 ∷ ε8 ∷ ε9 ∷ ε10 ∷ ε11 ∷ ε63 ∷ []
 
 abbrev pub t33 : List.List Row.Entry
-t33 = ε12 ∷ ε13 ∷ ε41 ∷ ε42 ∷ ε67 ∷ ε14 ∷ ε68 ∷ ε69 ∷ ε70 ∷ ε43 ∷ ε34 ∷ ε35 ∷ ε15 ∷ ε71 ∷ (30, Rows'.sc-here Row.sBool) ∷ ε16 ∷ []
+t33 = ε12 ∷ ε13 ∷ ε41 ∷ ε42 ∷ ε66 ∷ ε14 ∷ ε67 ∷ ε68 ∷ ε69 ∷ ε43 ∷ ε34 ∷ ε35 ∷ ε15 ∷ ε70 ∷ (30, Rows'.sc-here Row.sBool) ∷ ε16 ∷ []
 
 abbrev pub t34 : List.List Row.Entry
-t34 = ε12 ∷ ε13 ∷ ε41 ∷ ε42 ∷ ε67 ∷ ε14 ∷ ε68 ∷ ε69 ∷ ε70 ∷ ε43 ∷ ε34 ∷ ε35 ∷ ε15 ∷ ε71 ∷ ε44 ∷ (31, Rows'.sc-here (Row.sInt Syntax.w64)) ∷ []
+t34 = ε12 ∷ ε13 ∷ ε41 ∷ ε42 ∷ ε66 ∷ ε14 ∷ ε67 ∷ ε68 ∷ ε69 ∷ ε43 ∷ ε34 ∷ ε35 ∷ ε15 ∷ ε70 ∷ ε44 ∷ (31, Rows'.sc-here (Row.sInt Syntax.w64)) ∷ []
 
 abbrev pub t35 : List.List Row.Entry
-t35 = ε33 ∷ ε66 ∷ ε48 ∷ ε77 ∷ ε22 ∷ ε76 ∷ ε49 ∷ ε51 ∷ ε52 ∷ ε53 ∷ ε62 ∷ ε8 ∷ ε9 ∷ ε10 ∷ ε11 ∷ ε63 ∷ []
+t35 = ε33 ∷ ε73 ∷ ε48 ∷ ε77 ∷ ε22 ∷ ε76 ∷ ε49 ∷ ε51 ∷ ε52 ∷ ε53 ∷ ε62 ∷ ε8 ∷ ε9 ∷ ε10 ∷ ε11 ∷ ε63 ∷ []
 
 abbrev pub t36 : List.List Row.Entry
-t36 = ε25 ∷ ε64 ∷ ε37 ∷ ε17 ∷ ε18 ∷ ε45 ∷ ε72 ∷ ε46 ∷ ε19 ∷ ε38 ∷ ε65 ∷ ε39 ∷ ε20 ∷ ε21 ∷ ε47 ∷ ε73 ∷ []
+t36 = ε25 ∷ ε64 ∷ ε37 ∷ ε17 ∷ ε18 ∷ ε45 ∷ ε71 ∷ ε46 ∷ ε19 ∷ ε38 ∷ ε65 ∷ ε39 ∷ ε20 ∷ ε21 ∷ ε47 ∷ ε72 ∷ []
 
 abbrev pub t37 : List.List Row.Entry
-t37 = ε25 ∷ ε0 ∷ ε37 ∷ ε17 ∷ ε18 ∷ ε45 ∷ ε72 ∷ ε46 ∷ ε19 ∷ ε38 ∷ ε65 ∷ ε39 ∷ ε20 ∷ ε21 ∷ ε47 ∷ ε73 ∷ []
+t37 = ε25 ∷ ε0 ∷ ε37 ∷ ε17 ∷ ε18 ∷ ε45 ∷ ε71 ∷ ε46 ∷ ε19 ∷ ε38 ∷ ε65 ∷ ε39 ∷ ε20 ∷ ε21 ∷ ε47 ∷ ε72 ∷ []
 
 abbrev pub t38 : List.List Row.Entry
-t38 = ε36 ∷ ε0 ∷ ε37 ∷ ε17 ∷ ε18 ∷ ε45 ∷ ε72 ∷ ε46 ∷ ε19 ∷ ε38 ∷ ε65 ∷ ε39 ∷ ε20 ∷ ε21 ∷ ε47 ∷ ε73 ∷ []
+t38 = ε36 ∷ ε0 ∷ ε37 ∷ ε17 ∷ ε18 ∷ ε45 ∷ ε71 ∷ ε46 ∷ ε19 ∷ ε38 ∷ ε65 ∷ ε39 ∷ ε20 ∷ ε21 ∷ ε47 ∷ ε72 ∷ []
 
 abbrev pub t39 : List.List Row.Entry
-t39 = ε33 ∷ ε66 ∷ ε48 ∷ ε77 ∷ ε22 ∷ ε76 ∷ ε49 ∷ ε51 ∷ ε52 ∷ ε53 ∷ ε1 ∷ ε8 ∷ ε9 ∷ ε10 ∷ ε11 ∷ ε63 ∷ []
+t39 = ε33 ∷ ε73 ∷ ε48 ∷ ε77 ∷ ε22 ∷ ε76 ∷ ε49 ∷ ε51 ∷ ε52 ∷ ε53 ∷ ε1 ∷ ε8 ∷ ε9 ∷ ε10 ∷ ε11 ∷ ε63 ∷ []
 
 abbrev pub t40 : List.List Row.Entry
-t40 = ε33 ∷ ε66 ∷ ε48 ∷ ε77 ∷ ε22 ∷ ε76 ∷ ε49 ∷ ε51 ∷ ε52 ∷ ε53 ∷ ε1 ∷ ε55 ∷ ε9 ∷ ε10 ∷ ε11 ∷ ε63 ∷ []
+t40 = ε33 ∷ ε73 ∷ ε48 ∷ ε77 ∷ ε22 ∷ ε76 ∷ ε49 ∷ ε51 ∷ ε52 ∷ ε53 ∷ ε1 ∷ ε55 ∷ ε9 ∷ ε10 ∷ ε11 ∷ ε63 ∷ []
 
 abbrev pub t41 : List.List Row.Entry
-t41 = ε33 ∷ ε66 ∷ ε48 ∷ ε77 ∷ ε22 ∷ ε76 ∷ ε49 ∷ ε51 ∷ ε52 ∷ ε53 ∷ ε1 ∷ ε55 ∷ ε56 ∷ ε10 ∷ ε11 ∷ ε63 ∷ []
+t41 = ε33 ∷ ε73 ∷ ε48 ∷ ε77 ∷ ε22 ∷ ε76 ∷ ε49 ∷ ε51 ∷ ε52 ∷ ε53 ∷ ε1 ∷ ε55 ∷ ε56 ∷ ε10 ∷ ε11 ∷ ε63 ∷ []
 
 abbrev pub t42 : List.List Row.Entry
-t42 = ε36 ∷ ε64 ∷ ε26 ∷ ε17 ∷ ε18 ∷ ε45 ∷ ε72 ∷ ε46 ∷ ε19 ∷ ε38 ∷ ε65 ∷ ε39 ∷ ε20 ∷ ε21 ∷ ε47 ∷ ε73 ∷ []
+t42 = ε36 ∷ ε64 ∷ ε26 ∷ ε17 ∷ ε18 ∷ ε45 ∷ ε71 ∷ ε46 ∷ ε19 ∷ ε38 ∷ ε65 ∷ ε39 ∷ ε20 ∷ ε21 ∷ ε47 ∷ ε72 ∷ []
 
 abbrev pub t43 : List.List Row.Entry
-t43 = ε36 ∷ ε64 ∷ ε26 ∷ ε78 ∷ ε18 ∷ ε45 ∷ ε72 ∷ ε46 ∷ ε19 ∷ ε38 ∷ ε65 ∷ ε39 ∷ ε20 ∷ ε21 ∷ ε47 ∷ ε73 ∷ []
+t43 = ε36 ∷ ε64 ∷ ε26 ∷ ε78 ∷ ε18 ∷ ε45 ∷ ε71 ∷ ε46 ∷ ε19 ∷ ε38 ∷ ε65 ∷ ε39 ∷ ε20 ∷ ε21 ∷ ε47 ∷ ε72 ∷ []
 
 abbrev pub t44 : List.List Row.Entry
-t44 = ε36 ∷ ε64 ∷ ε37 ∷ ε78 ∷ ε18 ∷ ε45 ∷ ε72 ∷ ε46 ∷ ε19 ∷ ε38 ∷ ε65 ∷ ε39 ∷ ε20 ∷ ε21 ∷ ε47 ∷ ε73 ∷ []
+t44 = ε36 ∷ ε64 ∷ ε37 ∷ ε78 ∷ ε18 ∷ ε45 ∷ ε71 ∷ ε46 ∷ ε19 ∷ ε38 ∷ ε65 ∷ ε39 ∷ ε20 ∷ ε21 ∷ ε47 ∷ ε72 ∷ []
 
 abbrev pub t45 : List.List Row.Entry
-t45 = ε36 ∷ ε64 ∷ ε37 ∷ ε17 ∷ (36, Rows'.sslice (Referent.rtF (Referent.fInt Syntax.w8)) τ4 1) ∷ ε45 ∷ ε72 ∷ ε46 ∷ ε19 ∷ ε38 ∷ ε65 ∷ ε39 ∷ ε20 ∷ ε21 ∷
-    ε47 ∷ ε73 ∷ []
+t45 = ε36 ∷ ε64 ∷ ε37 ∷ ε17 ∷ (36, Rows'.sslice (Referent.rtF (Referent.fInt Syntax.w8)) τ4 1) ∷ ε45 ∷ ε71 ∷ ε46 ∷ ε19 ∷ ε38 ∷ ε65 ∷ ε39 ∷ ε20 ∷ ε21 ∷
+    ε47 ∷ ε72 ∷ []
 
 abbrev pub t46 : List.List Row.Entry
-t46 = ε33 ∷ ε66 ∷ ε48 ∷ ε77 ∷ ε22 ∷ ε76 ∷ ε49 ∷ ε51 ∷ ε52 ∷ ε53 ∷ ε62 ∷ ε55 ∷ ε56 ∷ ε10 ∷ ε11 ∷ ε63 ∷ []
+t46 = ε33 ∷ ε73 ∷ ε48 ∷ ε77 ∷ ε22 ∷ ε76 ∷ ε49 ∷ ε51 ∷ ε52 ∷ ε53 ∷ ε62 ∷ ε55 ∷ ε56 ∷ ε10 ∷ ε11 ∷ ε63 ∷ []
 
 abbrev pub t47 : List.List Row.Entry
-t47 = ε36 ∷ ε64 ∷ ε37 ∷ ε17 ∷ ε18 ∷ (37, Rows'.sc-here Row.sBool) ∷ ε72 ∷ ε46 ∷ ε19 ∷ ε38 ∷ ε65 ∷ ε39 ∷ ε20 ∷ ε21 ∷ ε47 ∷ ε73 ∷ []
+t47 = ε36 ∷ ε64 ∷ ε37 ∷ ε17 ∷ ε18 ∷ (37, Rows'.sc-here Row.sBool) ∷ ε71 ∷ ε46 ∷ ε19 ∷ ε38 ∷ ε65 ∷ ε39 ∷ ε20 ∷ ε21 ∷ ε47 ∷ ε72 ∷ []
 
 abbrev pub t48 : List.List Row.Entry
-t48 = ε33 ∷ ε66 ∷ ε48 ∷ ε77 ∷ ε22 ∷ ε3 ∷ ε49 ∷ ε51 ∷ ε52 ∷ ε53 ∷ ε62 ∷ ε55 ∷ ε56 ∷ ε10 ∷ ε11 ∷ ε63 ∷ []
+t48 = ε33 ∷ ε73 ∷ ε48 ∷ ε77 ∷ ε22 ∷ ε3 ∷ ε49 ∷ ε51 ∷ ε52 ∷ ε53 ∷ ε62 ∷ ε55 ∷ ε56 ∷ ε10 ∷ ε11 ∷ ε63 ∷ []
 
 abbrev pub t49 : List.List Row.Entry
-t49 = ε36 ∷ ε64 ∷ ε37 ∷ ε17 ∷ ε18 ∷ ε45 ∷ (38, Rows'.whole (Declared.row Refusal.the-type)) ∷ ε46 ∷ ε19 ∷ ε38 ∷ ε65 ∷ ε39 ∷ ε20 ∷ ε21 ∷ ε47 ∷ ε73 ∷ []
+t49 = ε36 ∷ ε64 ∷ ε37 ∷ ε17 ∷ ε18 ∷ ε45 ∷ (38, Rows'.whole (Declared.row Refusal.the-type)) ∷ ε46 ∷ ε19 ∷ ε38 ∷ ε65 ∷ ε39 ∷ ε20 ∷ ε21 ∷ ε47 ∷ ε72 ∷ []
 
 abbrev pub t50 : List.List Row.Entry
-t50 = ε74 ∷ ε66 ∷ ε48 ∷ ε77 ∷ ε22 ∷ ε3 ∷ ε49 ∷ ε51 ∷ ε52 ∷ ε53 ∷ ε62 ∷ ε55 ∷ ε56 ∷ ε10 ∷ ε11 ∷ ε63 ∷ []
+t50 = ε74 ∷ ε73 ∷ ε48 ∷ ε77 ∷ ε22 ∷ ε3 ∷ ε49 ∷ ε51 ∷ ε52 ∷ ε53 ∷ ε62 ∷ ε55 ∷ ε56 ∷ ε10 ∷ ε11 ∷ ε63 ∷ []
 
 abbrev pub t51 : List.List Row.Entry
-t51 = ε74 ∷ ε66 ∷ ε48 ∷ ε77 ∷ ε40 ∷ ε3 ∷ ε49 ∷ ε51 ∷ ε52 ∷ ε53 ∷ ε62 ∷ ε55 ∷ ε56 ∷ ε10 ∷ ε11 ∷ ε63 ∷ []
+t51 = ε74 ∷ ε73 ∷ ε48 ∷ ε77 ∷ ε40 ∷ ε3 ∷ ε49 ∷ ε51 ∷ ε52 ∷ ε53 ∷ ε62 ∷ ε55 ∷ ε56 ∷ ε10 ∷ ε11 ∷ ε63 ∷ []
 
 abbrev pub t52 : List.List Row.Entry
-t52 = ε74 ∷ ε66 ∷ ε48 ∷ ε77 ∷ ε40 ∷ ε3 ∷ ε4 ∷ ε51 ∷ ε52 ∷ ε53 ∷ ε62 ∷ ε55 ∷ ε56 ∷ ε10 ∷ ε11 ∷ ε63 ∷ []
+t52 = ε74 ∷ ε73 ∷ ε48 ∷ ε77 ∷ ε40 ∷ ε3 ∷ ε4 ∷ ε51 ∷ ε52 ∷ ε53 ∷ ε62 ∷ ε55 ∷ ε56 ∷ ε10 ∷ ε11 ∷ ε63 ∷ []
 
 abbrev pub t53 : List.List Row.Entry
-t53 = ε74 ∷ ε66 ∷ ε48 ∷ ε77 ∷ ε40 ∷ ε3 ∷ ε4 ∷ ε5 ∷ ε52 ∷ ε53 ∷ ε62 ∷ ε55 ∷ ε56 ∷ ε10 ∷ ε11 ∷ ε63 ∷ []
+t53 = ε74 ∷ ε73 ∷ ε48 ∷ ε77 ∷ ε40 ∷ ε3 ∷ ε4 ∷ ε5 ∷ ε52 ∷ ε53 ∷ ε62 ∷ ε55 ∷ ε56 ∷ ε10 ∷ ε11 ∷ ε63 ∷ []
 
 abbrev pub t54 : List.List Row.Entry
-t54 = ε74 ∷ ε66 ∷ ε48 ∷ ε77 ∷ ε40 ∷ ε3 ∷ ε4 ∷ ε5 ∷ ε6 ∷ ε53 ∷ ε62 ∷ ε55 ∷ ε56 ∷ ε10 ∷ ε11 ∷ ε63 ∷ []
+t54 = ε74 ∷ ε73 ∷ ε48 ∷ ε77 ∷ ε40 ∷ ε3 ∷ ε4 ∷ ε5 ∷ ε6 ∷ ε53 ∷ ε62 ∷ ε55 ∷ ε56 ∷ ε10 ∷ ε11 ∷ ε63 ∷ []
 
 abbrev pub t55 : List.List Row.Entry
-t55 = ε74 ∷ ε66 ∷ ε48 ∷ ε77 ∷ ε40 ∷ ε3 ∷ ε4 ∷ ε5 ∷ ε6 ∷ ε7 ∷ ε62 ∷ ε55 ∷ ε56 ∷ ε10 ∷ ε11 ∷ ε63 ∷ []
+t55 = ε74 ∷ ε73 ∷ ε48 ∷ ε77 ∷ ε40 ∷ ε3 ∷ ε4 ∷ ε5 ∷ ε6 ∷ ε7 ∷ ε62 ∷ ε55 ∷ ε56 ∷ ε10 ∷ ε11 ∷ ε63 ∷ []
 
 abbrev pub t56 : List.List Row.Entry
-t56 = ε74 ∷ ε66 ∷ ε48 ∷ ε77 ∷ ε40 ∷ ε3 ∷ ε4 ∷ ε5 ∷ ε6 ∷ ε7 ∷ ε62 ∷ ε8 ∷ ε56 ∷ ε10 ∷ ε11 ∷ ε63 ∷ []
+t56 = ε74 ∷ ε73 ∷ ε48 ∷ ε77 ∷ ε40 ∷ ε3 ∷ ε4 ∷ ε5 ∷ ε6 ∷ ε7 ∷ ε62 ∷ ε8 ∷ ε56 ∷ ε10 ∷ ε11 ∷ ε63 ∷ []
 
 abbrev pub t57 : List.List Row.Entry
-t57 = ε33 ∷ ε66 ∷ ε48 ∷ ε77 ∷ ε22 ∷ ε76 ∷ ε49 ∷ ε51 ∷ ε52 ∷ ε7 ∷ ε62 ∷ ε55 ∷ ε56 ∷ ε10 ∷ ε11 ∷ ε63 ∷ []
+t57 = ε33 ∷ ε73 ∷ ε48 ∷ ε77 ∷ ε22 ∷ ε76 ∷ ε49 ∷ ε51 ∷ ε52 ∷ ε7 ∷ ε62 ∷ ε55 ∷ ε56 ∷ ε10 ∷ ε11 ∷ ε63 ∷ []
 
 abbrev pub t58 : List.List Row.Entry
-t58 = ε33 ∷ ε66 ∷ ε48 ∷ ε77 ∷ ε22 ∷ ε76 ∷ ε49 ∷ ε51 ∷ ε52 ∷ ε7 ∷ ε62 ∷ ε8 ∷ ε56 ∷ ε10 ∷ ε11 ∷ ε63 ∷ []
+t58 = ε33 ∷ ε73 ∷ ε48 ∷ ε77 ∷ ε22 ∷ ε76 ∷ ε49 ∷ ε51 ∷ ε52 ∷ ε7 ∷ ε62 ∷ ε8 ∷ ε56 ∷ ε10 ∷ ε11 ∷ ε63 ∷ []
 
 abbrev pub t59 : List.List Row.Entry
-t59 = ε33 ∷ ε66 ∷ ε48 ∷ ε77 ∷ ε22 ∷ ε76 ∷ ε49 ∷ ε51 ∷ ε6 ∷ ε7 ∷ ε62 ∷ ε8 ∷ ε9 ∷ ε57 ∷ ε11 ∷ ε63 ∷ []
+t59 = ε33 ∷ ε73 ∷ ε48 ∷ ε77 ∷ ε22 ∷ ε76 ∷ ε49 ∷ ε51 ∷ ε6 ∷ ε7 ∷ ε62 ∷ ε8 ∷ ε9 ∷ ε57 ∷ ε11 ∷ ε63 ∷ []
 
 abbrev pub t60 : List.List Row.Entry
-t60 = ε36 ∷ ε64 ∷ ε37 ∷ ε17 ∷ ε18 ∷ ε45 ∷ ε72 ∷ ε31 ∷ ε19 ∷ ε38 ∷ ε65 ∷ ε39 ∷ ε20 ∷ ε21 ∷ ε47 ∷ ε73 ∷ []
+t60 = ε36 ∷ ε64 ∷ ε37 ∷ ε17 ∷ ε18 ∷ ε45 ∷ ε71 ∷ ε31 ∷ ε19 ∷ ε38 ∷ ε65 ∷ ε39 ∷ ε20 ∷ ε21 ∷ ε47 ∷ ε72 ∷ []
 
 abbrev pub t61 : List.List Row.Entry
-t61 = ε33 ∷ ε66 ∷ ε48 ∷ ε77 ∷ ε22 ∷ ε76 ∷ ε49 ∷ ε5 ∷ ε6 ∷ ε7 ∷ ε62 ∷ ε8 ∷ ε9 ∷ ε57 ∷ ε11 ∷ ε63 ∷ []
+t61 = ε33 ∷ ε73 ∷ ε48 ∷ ε77 ∷ ε22 ∷ ε76 ∷ ε49 ∷ ε5 ∷ ε6 ∷ ε7 ∷ ε62 ∷ ε8 ∷ ε9 ∷ ε57 ∷ ε11 ∷ ε63 ∷ []
 
 abbrev pub t62 : List.List Row.Entry
-t62 = ε36 ∷ ε64 ∷ ε37 ∷ ε17 ∷ ε18 ∷ ε45 ∷ ε72 ∷ ε46 ∷ ε58 ∷ ε38 ∷ ε65 ∷ ε39 ∷ ε20 ∷ ε21 ∷ ε47 ∷ ε73 ∷ []
+t62 = ε36 ∷ ε64 ∷ ε37 ∷ ε17 ∷ ε18 ∷ ε45 ∷ ε71 ∷ ε46 ∷ ε58 ∷ ε38 ∷ ε65 ∷ ε39 ∷ ε20 ∷ ε21 ∷ ε47 ∷ ε72 ∷ []
 
 abbrev pub t63 : List.List Row.Entry
-t63 = ε33 ∷ ε66 ∷ ε48 ∷ ε77 ∷ ε22 ∷ ε76 ∷ ε49 ∷ ε51 ∷ ε6 ∷ ε7 ∷ ε62 ∷ ε8 ∷ ε9 ∷ ε57 ∷ ε59 ∷ ε63 ∷ []
+t63 = ε33 ∷ ε73 ∷ ε48 ∷ ε77 ∷ ε22 ∷ ε76 ∷ ε49 ∷ ε51 ∷ ε6 ∷ ε7 ∷ ε62 ∷ ε8 ∷ ε9 ∷ ε57 ∷ ε59 ∷ ε63 ∷ []
 
 abbrev pub t64 : List.List Row.Entry
-t64 = ε36 ∷ ε64 ∷ ε37 ∷ ε17 ∷ ε18 ∷ ε45 ∷ ε72 ∷ ε46 ∷ ε58 ∷ ε27 ∷ ε65 ∷ ε39 ∷ ε20 ∷ ε21 ∷ ε47 ∷ ε73 ∷ []
+t64 = ε36 ∷ ε64 ∷ ε37 ∷ ε17 ∷ ε18 ∷ ε45 ∷ ε71 ∷ ε46 ∷ ε58 ∷ ε27 ∷ ε65 ∷ ε39 ∷ ε20 ∷ ε21 ∷ ε47 ∷ ε72 ∷ []
 
 abbrev pub t65 : List.List Row.Entry
-t65 = ε36 ∷ ε64 ∷ ε37 ∷ ε17 ∷ ε18 ∷ ε45 ∷ ε72 ∷ ε46 ∷ ε58 ∷ ε27 ∷ ε2 ∷ ε39 ∷ ε20 ∷ ε21 ∷ ε47 ∷ ε73 ∷ []
+t65 = ε36 ∷ ε64 ∷ ε37 ∷ ε17 ∷ ε18 ∷ ε45 ∷ ε71 ∷ ε46 ∷ ε58 ∷ ε27 ∷ ε2 ∷ ε39 ∷ ε20 ∷ ε21 ∷ ε47 ∷ ε72 ∷ []
 
 abbrev pub t66 : List.List Row.Entry
-t66 = ε36 ∷ ε64 ∷ ε37 ∷ ε17 ∷ ε18 ∷ ε45 ∷ ε72 ∷ ε46 ∷ ε19 ∷ ε27 ∷ ε2 ∷ ε39 ∷ ε20 ∷ ε21 ∷ ε47 ∷ ε73 ∷ []
+t66 = ε36 ∷ ε64 ∷ ε37 ∷ ε17 ∷ ε18 ∷ ε45 ∷ ε71 ∷ ε46 ∷ ε19 ∷ ε27 ∷ ε2 ∷ ε39 ∷ ε20 ∷ ε21 ∷ ε47 ∷ ε72 ∷ []
 
 abbrev pub t67 : List.List Row.Entry
-t67 = ε36 ∷ ε64 ∷ ε37 ∷ ε17 ∷ ε18 ∷ ε45 ∷ ε72 ∷ ε46 ∷ ε19 ∷ ε38 ∷ ε2 ∷ ε39 ∷ ε20 ∷ ε21 ∷ ε47 ∷ ε73 ∷ []
+t67 = ε36 ∷ ε64 ∷ ε37 ∷ ε17 ∷ ε18 ∷ ε45 ∷ ε71 ∷ ε46 ∷ ε19 ∷ ε38 ∷ ε2 ∷ ε39 ∷ ε20 ∷ ε21 ∷ ε47 ∷ ε72 ∷ []
 
 abbrev pub t68 : List.List Row.Entry
-t68 = ε33 ∷ ε66 ∷ ε48 ∷ ε77 ∷ ε22 ∷ ε76 ∷ ε49 ∷ ε51 ∷ ε6 ∷ ε7 ∷ ε62 ∷ ε8 ∷ ε9 ∷ ε57 ∷ ε59 ∷ (15, in-Record.here) ∷ []
+t68 = ε33 ∷ ε73 ∷ ε48 ∷ ε77 ∷ ε22 ∷ ε76 ∷ ε49 ∷ ε51 ∷ ε6 ∷ ε7 ∷ ε62 ∷ ε8 ∷ ε9 ∷ ε57 ∷ ε59 ∷ (15, in-Record.here) ∷ []
 
 abbrev pub t69 : List.List Row.Entry
-t69 = ε60 ∷ ε13 ∷ ε41 ∷ ε42 ∷ ε67 ∷ ε14 ∷ ε68 ∷ ε69 ∷ ε70 ∷ ε43 ∷ ε34 ∷ ε35 ∷ ε15 ∷ ε71 ∷ ε44 ∷ ε16 ∷ []
+t69 = ε60 ∷ ε13 ∷ ε41 ∷ ε42 ∷ ε66 ∷ ε14 ∷ ε67 ∷ ε68 ∷ ε69 ∷ ε43 ∷ ε34 ∷ ε35 ∷ ε15 ∷ ε70 ∷ ε44 ∷ ε16 ∷ []
 
 abbrev pub t70 : List.List Row.Entry
-t70 = ε60 ∷ ε61 ∷ ε41 ∷ ε42 ∷ ε67 ∷ ε14 ∷ ε68 ∷ ε69 ∷ ε70 ∷ ε43 ∷ ε34 ∷ ε35 ∷ ε15 ∷ ε71 ∷ ε44 ∷ ε16 ∷ []
+t70 = ε60 ∷ ε61 ∷ ε41 ∷ ε42 ∷ ε66 ∷ ε14 ∷ ε67 ∷ ε68 ∷ ε69 ∷ ε43 ∷ ε34 ∷ ε35 ∷ ε15 ∷ ε70 ∷ ε44 ∷ ε16 ∷ []
 
 abbrev pub t71 : List.List Row.Entry
-t71 = ε36 ∷ ε64 ∷ ε37 ∷ ε17 ∷ ε18 ∷ ε45 ∷ ε72 ∷ ε46 ∷ ε19 ∷ ε38 ∷ ε65 ∷ ε28 ∷ ε20 ∷ ε21 ∷ ε47 ∷ ε73 ∷ []
+t71 = ε36 ∷ ε64 ∷ ε37 ∷ ε17 ∷ ε18 ∷ ε45 ∷ ε71 ∷ ε46 ∷ ε19 ∷ ε38 ∷ ε65 ∷ ε28 ∷ ε20 ∷ ε21 ∷ ε47 ∷ ε72 ∷ []
 
 abbrev pub t72 : List.List Row.Entry
-t72 = ε36 ∷ ε64 ∷ ε37 ∷ ε17 ∷ ε18 ∷ ε45 ∷ ε72 ∷ ε46 ∷ ε58 ∷ ε38 ∷ ε65 ∷ ε28 ∷ ε20 ∷ ε21 ∷ ε47 ∷ ε73 ∷ []
+t72 = ε36 ∷ ε64 ∷ ε37 ∷ ε17 ∷ ε18 ∷ ε45 ∷ ε71 ∷ ε46 ∷ ε58 ∷ ε38 ∷ ε65 ∷ ε28 ∷ ε20 ∷ ε21 ∷ ε47 ∷ ε72 ∷ []
 
 abbrev pub t73 : List.List Row.Entry
-t73 = ε36 ∷ ε64 ∷ ε37 ∷ ε17 ∷ ε18 ∷ ε45 ∷ ε72 ∷ ε46 ∷ ε58 ∷ ε38 ∷ ε65 ∷ ε28 ∷ ε79 ∷ ε21 ∷ ε47 ∷ ε73 ∷ []
+t73 = ε36 ∷ ε64 ∷ ε37 ∷ ε17 ∷ ε18 ∷ ε45 ∷ ε71 ∷ ε46 ∷ ε58 ∷ ε38 ∷ ε65 ∷ ε28 ∷ ε79 ∷ ε21 ∷ ε47 ∷ ε72 ∷ []
 
 abbrev pub t74 : List.List Row.Entry
-t74 = ε36 ∷ ε64 ∷ ε37 ∷ ε17 ∷ ε18 ∷ ε45 ∷ ε72 ∷ ε46 ∷ ε58 ∷ ε38 ∷ ε65 ∷ ε39 ∷ ε79 ∷ ε21 ∷ ε47 ∷ ε73 ∷ []
+t74 = ε36 ∷ ε64 ∷ ε37 ∷ ε17 ∷ ε18 ∷ ε45 ∷ ε71 ∷ ε46 ∷ ε58 ∷ ε38 ∷ ε65 ∷ ε39 ∷ ε79 ∷ ε21 ∷ ε47 ∷ ε72 ∷ []
 
 abbrev pub t75 : List.List Row.Entry
-t75 = ε36 ∷ ε64 ∷ ε37 ∷ ε17 ∷ ε18 ∷ ε45 ∷ ε72 ∷ ε46 ∷ ε58 ∷ ε38 ∷ ε65 ∷ ε39 ∷ ε20 ∷ ε80 ∷ ε47 ∷ ε73 ∷ []
+t75 = ε36 ∷ ε64 ∷ ε37 ∷ ε17 ∷ ε18 ∷ ε45 ∷ ε71 ∷ ε46 ∷ ε58 ∷ ε38 ∷ ε65 ∷ ε39 ∷ ε20 ∷ ε80 ∷ ε47 ∷ ε72 ∷ []
 
 abbrev pub t76 : List.List Row.Entry
-t76 = ε36 ∷ ε64 ∷ ε37 ∷ ε17 ∷ ε18 ∷ ε45 ∷ ε72 ∷ ε46 ∷ ε19 ∷ ε38 ∷ ε65 ∷ ε39 ∷ ε20 ∷ ε80 ∷ ε47 ∷ ε73 ∷ []
+t76 = ε36 ∷ ε64 ∷ ε37 ∷ ε17 ∷ ε18 ∷ ε45 ∷ ε71 ∷ ε46 ∷ ε19 ∷ ε38 ∷ ε65 ∷ ε39 ∷ ε20 ∷ ε80 ∷ ε47 ∷ ε72 ∷ []
 
 abbrev pub t77 : List.List Row.Entry
-t77 = ε36 ∷ ε64 ∷ ε37 ∷ ε17 ∷ ε18 ∷ ε45 ∷ ε72 ∷ ε31 ∷ ε19 ∷ ε38 ∷ ε65 ∷ ε39 ∷ ε20 ∷ ε80 ∷ ε47 ∷ ε73 ∷ []
+t77 = ε36 ∷ ε64 ∷ ε37 ∷ ε17 ∷ ε18 ∷ ε45 ∷ ε71 ∷ ε31 ∷ ε19 ∷ ε38 ∷ ε65 ∷ ε39 ∷ ε20 ∷ ε80 ∷ ε47 ∷ ε72 ∷ []
 
 abbrev pub t78 : List.List Row.Entry
-t78 = ε36 ∷ ε64 ∷ ε37 ∷ ε17 ∷ ε18 ∷ ε45 ∷ ε72 ∷ ε31 ∷ ε19 ∷ ε38 ∷ ε65 ∷ ε39 ∷ ε20 ∷ ε21 ∷ ε32 ∷ ε73 ∷ []
+t78 = ε36 ∷ ε64 ∷ ε37 ∷ ε17 ∷ ε18 ∷ ε45 ∷ ε71 ∷ ε31 ∷ ε19 ∷ ε38 ∷ ε65 ∷ ε39 ∷ ε20 ∷ ε21 ∷ ε32 ∷ ε72 ∷ []
 
 abbrev pub t79 : List.List Row.Entry
-t79 = ε36 ∷ ε64 ∷ ε37 ∷ ε17 ∷ ε18 ∷ ε45 ∷ ε72 ∷ ε46 ∷ ε19 ∷ ε38 ∷ ε65 ∷ ε39 ∷ ε20 ∷ ε21 ∷ ε32 ∷ ε73 ∷ []
+t79 = ε36 ∷ ε64 ∷ ε37 ∷ ε17 ∷ ε18 ∷ ε45 ∷ ε71 ∷ ε46 ∷ ε19 ∷ ε38 ∷ ε65 ∷ ε39 ∷ ε20 ∷ ε21 ∷ ε32 ∷ ε72 ∷ []
 
 abbrev pub t80 : List.List Row.Entry
-t80 = ε33 ∷ ε66 ∷ ε48 ∷ ε77 ∷ ε22 ∷ ε3 ∷ ε49 ∷ ε51 ∷ ε6 ∷ ε7 ∷ ε62 ∷ ε8 ∷ ε9 ∷ ε57 ∷ ε59 ∷ ε63 ∷ []
+t80 = ε33 ∷ ε73 ∷ ε48 ∷ ε77 ∷ ε22 ∷ ε3 ∷ ε49 ∷ ε51 ∷ ε6 ∷ ε7 ∷ ε62 ∷ ε8 ∷ ε9 ∷ ε57 ∷ ε59 ∷ ε63 ∷ []
 
 abbrev pub t81 : List.List Row.Entry
-t81 = ε36 ∷ ε64 ∷ ε37 ∷ ε17 ∷ ε18 ∷ ε45 ∷ ε72 ∷ ε46 ∷ ε19 ∷ ε38 ∷ ε65 ∷ ε39 ∷ ε20 ∷ ε21 ∷ ε47 ∷ (47, Rows'.whole (Declared.row Refusal.the-type)) ∷ []
+t81 = ε36 ∷ ε64 ∷ ε37 ∷ ε17 ∷ ε18 ∷ ε45 ∷ ε71 ∷ ε46 ∷ ε19 ∷ ε38 ∷ ε65 ∷ ε39 ∷ ε20 ∷ ε21 ∷ ε47 ∷ (47, Rows'.whole (Declared.row Refusal.the-type)) ∷ []
 
 abbrev pub t82 : List.List Row.Entry
-t82 = ε74 ∷ ε66 ∷ ε48 ∷ ε77 ∷ ε22 ∷ ε3 ∷ ε49 ∷ ε51 ∷ ε6 ∷ ε7 ∷ ε62 ∷ ε8 ∷ ε9 ∷ ε57 ∷ ε59 ∷ ε63 ∷ []
+t82 = ε74 ∷ ε73 ∷ ε48 ∷ ε77 ∷ ε22 ∷ ε3 ∷ ε49 ∷ ε51 ∷ ε6 ∷ ε7 ∷ ε62 ∷ ε8 ∷ ε9 ∷ ε57 ∷ ε59 ∷ ε63 ∷ []
 
 abbrev pub t83 : List.List Row.Entry
-t83 = ε74 ∷ ε66 ∷ ε48 ∷ ε77 ∷ ε40 ∷ ε3 ∷ ε49 ∷ ε51 ∷ ε6 ∷ ε7 ∷ ε62 ∷ ε8 ∷ ε9 ∷ ε57 ∷ ε59 ∷ ε63 ∷ []
+t83 = ε74 ∷ ε73 ∷ ε48 ∷ ε77 ∷ ε40 ∷ ε3 ∷ ε49 ∷ ε51 ∷ ε6 ∷ ε7 ∷ ε62 ∷ ε8 ∷ ε9 ∷ ε57 ∷ ε59 ∷ ε63 ∷ []
 
 abbrev pub t84 : List.List Row.Entry
-t84 = ε74 ∷ ε66 ∷ ε48 ∷ ε77 ∷ ε40 ∷ ε3 ∷ ε4 ∷ ε51 ∷ ε6 ∷ ε7 ∷ ε62 ∷ ε8 ∷ ε9 ∷ ε57 ∷ ε59 ∷ ε63 ∷ []
+t84 = ε74 ∷ ε73 ∷ ε48 ∷ ε77 ∷ ε40 ∷ ε3 ∷ ε4 ∷ ε51 ∷ ε6 ∷ ε7 ∷ ε62 ∷ ε8 ∷ ε9 ∷ ε57 ∷ ε59 ∷ ε63 ∷ []
 
 abbrev pub t85 : List.List Row.Entry
-t85 = ε74 ∷ ε66 ∷ ε48 ∷ ε77 ∷ ε40 ∷ ε3 ∷ ε4 ∷ ε5 ∷ ε6 ∷ ε7 ∷ ε62 ∷ ε8 ∷ ε9 ∷ ε57 ∷ ε59 ∷ ε63 ∷ []
+t85 = ε74 ∷ ε73 ∷ ε48 ∷ ε77 ∷ ε40 ∷ ε3 ∷ ε4 ∷ ε5 ∷ ε6 ∷ ε7 ∷ ε62 ∷ ε8 ∷ ε9 ∷ ε57 ∷ ε59 ∷ ε63 ∷ []
 
 abbrev pub t86 : List.List Row.Entry
-t86 = ε74 ∷ ε66 ∷ ε48 ∷ ε77 ∷ ε40 ∷ ε3 ∷ ε4 ∷ ε5 ∷ ε6 ∷ ε7 ∷ ε62 ∷ ε8 ∷ ε9 ∷ ε10 ∷ ε59 ∷ ε63 ∷ []
+t86 = ε74 ∷ ε73 ∷ ε48 ∷ ε77 ∷ ε40 ∷ ε3 ∷ ε4 ∷ ε5 ∷ ε6 ∷ ε7 ∷ ε62 ∷ ε8 ∷ ε9 ∷ ε10 ∷ ε59 ∷ ε63 ∷ []
 
 abbrev pub t87 : List.List Row.Entry
-t87 = ε12 ∷ ε61 ∷ ε41 ∷ ε42 ∷ ε67 ∷ ε14 ∷ ε68 ∷ ε69 ∷ ε70 ∷ ε43 ∷ ε34 ∷ ε35 ∷ ε15 ∷ ε71 ∷ ε44 ∷ ε16 ∷ []
+t87 = ε12 ∷ ε61 ∷ ε41 ∷ ε42 ∷ ε66 ∷ ε14 ∷ ε67 ∷ ε68 ∷ ε69 ∷ ε43 ∷ ε34 ∷ ε35 ∷ ε15 ∷ ε70 ∷ ε44 ∷ ε16 ∷ []
 
 abbrev pub T0 : Row.Cx
 T0 = record { locals = List._++_ t0 (List._++_ t1 t2); slots = [] }
@@ -1914,7 +1914,7 @@ module _ (claims· : Claims) where
   )))
 
   abbrev s8 : (bs : List.List Nat.ℕ) → Typed.Mo T10 → Typed.Mo T11
-  s8 = λ bs. Scalar.n-room T10 20 mirs.sched_core-Refusal
+  s8 = λ bs. Scalar.n-room T10 20 mirs.questions-Refusal
 
   abbrev s9 : (bs : List.List Nat.ℕ) → Typed.Mo T11 → Typed.Mo T12
   s9 = λ bs. Scalar.n-room T11 4 Syntax.tyBool
@@ -1948,7 +1948,7 @@ module _ (claims· : Claims) where
   )))
 
   abbrev s18 : (bs : List.List Nat.ℕ) → Typed.Mo T21 → Typed.Mo T22
-  s18 = λ bs. Scalar.n-room T21 22 mirs.sched_core-Refusal
+  s18 = λ bs. Scalar.n-room T21 22 mirs.questions-Refusal
 
   abbrev s19 : (bs : List.List Nat.ℕ) → Typed.Mo T22 → Typed.Mo T23
   s19 = λ bs. Scalar.n-room T22 4 Syntax.tyBool
@@ -1982,7 +1982,7 @@ module _ (claims· : Claims) where
   )))
 
   abbrev s28 : (bs : List.List Nat.ℕ) → Typed.Mo T32 → Typed.Mo T33
-  s28 = λ bs. Scalar.n-room T32 23 mirs.sched_core-Refusal
+  s28 = λ bs. Scalar.n-room T32 23 mirs.questions-Refusal
 
   abbrev s29 : (bs : List.List Nat.ℕ) → Typed.Mo T33 → Typed.Mo T34
   s29 = λ bs. Scalar.n-room T33 4 Syntax.tyBool
@@ -2010,7 +2010,7 @@ module _ (claims· : Claims) where
   )))
 
   abbrev s36 : (bs : List.List Nat.ℕ) → Typed.Mo T41 → Typed.Mo T42
-  s36 = λ bs. Scalar.n-room T41 24 mirs.sched_core-Refusal
+  s36 = λ bs. Scalar.n-room T41 24 mirs.questions-Refusal
 
   abbrev s37 : (bs : List.List Nat.ℕ) → Typed.Mo T42 → Typed.Mo T43
   s37 = λ bs. Scalar.n-room T42 4 Syntax.tyBool
@@ -2090,7 +2090,7 @@ module _ (claims· : Claims) where
   )))
 
   abbrev s59 : (bs : List.List Nat.ℕ) → Typed.Mo T67 → Typed.Mo T68
-  s59 = λ bs. Scalar.n-room T67 29 mirs.sched_core-Refusal
+  s59 = λ bs. Scalar.n-room T67 29 mirs.questions-Refusal
 
   abbrev s60 : (bs : List.List Nat.ℕ) → Typed.Mo T68 → Typed.Mo T69
   s60 = λ bs. Scalar.n-room T68 4 Syntax.tyBool
@@ -2228,7 +2228,7 @@ module _ (claims· : Claims) where
   )))
 
   abbrev s96 : (bs : List.List Nat.ℕ) → Typed.Mo T107 → Typed.Mo T108
-  s96 = λ bs. Scalar.n-room T107 38 mirs.sched_core-Refusal
+  s96 = λ bs. Scalar.n-room T107 38 mirs.questions-Refusal
 
   abbrev s97 : (bs : List.List Nat.ℕ) → Typed.Mo T108 → Typed.Mo T109
   s97 = λ bs. Scalar.n-room T108 4 Syntax.tyBool
@@ -2394,7 +2394,7 @@ module _ (claims· : Claims) where
   )))
 
   abbrev s142 : (bs : List.List Nat.ℕ) → Typed.Mo T156 → Typed.Mo T157
-  s142 = λ bs. Scalar.n-room T156 47 mirs.sched_core-Refusal
+  s142 = λ bs. Scalar.n-room T156 47 mirs.questions-Refusal
 
   abbrev s143 : (bs : List.List Nat.ℕ) → Typed.Mo T157 → Typed.Mo T158
   s143 = λ bs. Scalar.n-room T157 4 Syntax.tyBool
@@ -3695,51 +3695,54 @@ module _ (claims· : Claims) where
               (Scalar.room-sc 𝓤 H A W Row.sBool)) d0
 
           d2 : Typed.Typed 𝓤 H A 𝓣 E G10 b4 Δ1 (at2 bs)
-          d2 = Typed.g-pre 𝓤 H A W 𝓣 E G10 G11 b4 Δ1 (Typed.pass T10 T11 (s8 bs)) (at1 bs) (Scalar.g-room 𝓤 H A W E G10 20 mirs.sched_core-Refusal
-              (Local.room-whole 𝓤 H A W (Declared.row Refusal.the-type) mirs.sched_core-Refusal Path'.refl)) d1
+          d2 = Typed.g-pre 𝓤 H A W 𝓣 E G10 G11 b4 Δ1 (Typed.pass T10 T11 (s8 bs)) (at1 bs) (Scalar.g-room 𝓤 H A W E G10 20 mirs.questions-Refusal
+              (Local.room-whole 𝓤 H A W (Declared.row Refusal.the-type) mirs.questions-Refusal Path'.refl)) d1
 
           d3 : Typed.Typed 𝓤 H A 𝓣 E G9 b5 Δ1 (at3 bs)
           d3 = Typed.s-seq 𝓤 H A W 𝓣 E G9 G10 b3 b4 Δ1 (Typed.pass T9 T10 (s7 bs)) (at2 bs) (Make.t-enum-make-wt 𝓤 H A W E 𝓣 Verdict.the-type
-              Laws''.the-laws Laws''.the-plain tt G9 0 ((Scalar.oInt Syntax.w8 1) ∷ (Scalar.oAt 20 mirs.sched_core-Refusal (Laws'3.val
-              Refusal.the-type Laws.the-laws)) ∷ []) (λ m. Verdict.enum .make (Logic.inr (Logic.inl (
-                m .1 .1 .1 .1 .1 .1 .1 .1 .1 .1 .1 .1 .1 .1 .1 .1
-                    .1 .1 .1 .1 .0,
+              Laws''.the-laws Laws''.the-plain tt G9 0 ((Scalar.oInt Syntax.w8 1) ∷ (Scalar.oAt 20 mirs.questions-Refusal (Laws'3.val Refusal.the-type
+              Laws.the-laws)) ∷ []) (λ m. Verdict.enum .make (Logic.inr (Logic.inl (
+                m .1 .1 .1 .1 .1 .1 .1 .1 .1 .1 .1 .1 .1 .1 .1 .1 .1 .1 .1 .1 .0,
                 tt,
-              )))) (Reads.room-gone 𝓤 H A mirs.Verdict) (
-                tt,
-                (
-                  (Whole.reads-enum 𝓤 H A W Refusal.the-type Laws.the-laws, Path'.refl),
-                  tt,
-                ),
-              ) Path'.refl (λ m wa. Make.made-val Verdict.the-type Laws''.the-laws ((Laws'3.val Refusal.the-type Laws.the-laws (m .1 .1 .1 .1 .1 .1
-              .1 .1 .1 .1 .1 .1 .1 .1 .1 .1 .1 .1 .1 .1 .0)) ∷ []) (Verdict.enum .make (Logic.inr (Logic.inl (
-                m .1 .1 .1 .1 .1 .1 .1 .1 .1 .1 .1 .1 .1
-                    .1 .1 .1 .1 .1 .1 .1 .0,
+              )))) (Reads.room-gone 𝓤 H A mirs.Verdict) (tt, ((Whole.reads-enum 𝓤 H A W Refusal.the-type Laws.the-laws, Path'.refl), tt)) Path'.refl
+              (λ m wa. Make.made-val Verdict.the-type Laws''.the-laws ((Laws'3.val Refusal.the-type Laws.the-laws (m .1 .1 .1 .1 .1 .1 .1 .1 .1 .1 .1
+              .1 .1 .1 .1 .1 .1 .1 .1 .1 .0)) ∷ []) (Verdict.enum .make (Logic.inr (Logic.inl (
+                m .1 .1 .1 .1 .1 .1 .1 .1 .1 .1 .1 .1 .1 .1 .1 .1 .1 .1
+                    .1 .1 .0,
                 tt,
               )))) (
                 Signed.made-wt Refusal.the-field Laws.the-field-laws (Whole.enum-wt Refusal.the-type Laws.the-laws (
                   tt,
-                  (tt, (tt, (tt, (tt, (tt, (tt, (tt, (tt, (tt, tt))))))))),
-                )) (Refusal.the-type .to (m .1 .1 .1 .1 .1 .1 .1 .1 .1 .1 .1 .1 .1 .1 .1 .1 .1
-                    .1 .1 .1 .0)),
+                  (
+                    tt,
+                    (
+                      tt,
+                      (
+                        tt,
+                        (tt, (tt, (tt, (tt, (tt, (tt, (tt, (tt, tt)))))))),
+                      ),
+                    ),
+                  ),
+                )) (Refusal.the-type .to (m .1 .1 .1 .1 .1 .1 .1 .1 .1 .1 .1 .1 .1 .1 .1 .1 .1 .1
+                    .1 .1 .0)),
                 tt,
-              ) (wa .1)) λ m wa. Make.made-is Verdict.the-type Laws''.the-laws ((Laws'3.val Refusal.the-type Laws.the-laws (m .1 .1
-              .1 .1 .1 .1 .1 .1 .1 .1 .1 .1 .1 .1 .1 .1 .1 .1 .1 .1 .0)) ∷ []) (Verdict.enum .make (Logic.inr (Logic.inl (
-                m .1 .1 .1 .1 .1 .1 .1 .1 .1
-                    .1 .1 .1 .1 .1 .1 .1 .1 .1 .1 .1 .0,
+              ) (wa .1)) λ m wa. Make.made-is Verdict.the-type Laws''.the-laws ((Laws'3.val Refusal.the-type Laws.the-laws (m .1 .1 .1
+              .1 .1 .1 .1 .1 .1 .1 .1 .1 .1 .1 .1 .1 .1 .1 .1 .1 .0)) ∷ []) (Verdict.enum .make (Logic.inr (Logic.inl (
+                m .1 .1 .1 .1 .1 .1 .1 .1 .1 .1
+                    .1 .1 .1 .1 .1 .1 .1 .1 .1 .1 .0,
                 tt,
               )))) (
                 Signed.made-wt Refusal.the-field Laws.the-field-laws (Whole.enum-wt Refusal.the-type
-                    Laws.the-laws (tt, (tt, (tt, (tt, (tt, (tt, (tt, (tt, (tt, (tt, tt))))))))))) (Refusal.the-type .to (m .1 .1 .1 .1 .1 .1 .1 .1 .1 .1 .1
-                    .1 .1 .1 .1 .1 .1 .1 .1 .1 .0)),
+                    Laws.the-laws (tt, (tt, (tt, (tt, (tt, (tt, (tt, (tt, (tt, (tt, (tt, (tt, tt))))))))))))) (Refusal.the-type .to (m .1 .1 .1 .1 .1 .1 .1
+                    .1 .1 .1 .1 .1 .1 .1 .1 .1 .1 .1 .1 .1 .0)),
                 tt,
               ) (wa .1)) d2
 
           d4 : Typed.Typed 𝓤 H A 𝓣 E G8 b6 Δ1 (at4 bs)
           d4 = Typed.s-seq 𝓤 H A W 𝓣 E G8 G9 b2 b5 Δ1 (Typed.pass T8 T9 (s6 bs)) (at3 bs) (Make.t-enum-make-wt 𝓤 H A W E 𝓣 Refusal.the-type
               Laws.the-laws Laws.the-plain tt G8 20 ((Scalar.oInt Syntax.w8 0) ∷ []) (λ m. Refusal.enum .make (Logic.inl tt)) (Reads.room-gone 𝓤 H A
-              mirs.sched_core-Refusal) (tt, tt) Path'.refl (λ m wa. Make.made-val Refusal.the-type Laws.the-laws [] (Refusal.enum .make (Logic.inl
-              tt)) tt (wa .1)) λ m wa. Make.made-is Refusal.the-type Laws.the-laws [] (Refusal.enum .make (Logic.inl tt)) tt (wa .1)) d3
+              mirs.questions-Refusal) (tt, tt) Path'.refl (λ m wa. Make.made-val Refusal.the-type Laws.the-laws [] (Refusal.enum .make (Logic.inl tt))
+              tt (wa .1)) λ m wa. Make.made-is Refusal.the-type Laws.the-laws [] (Refusal.enum .make (Logic.inl tt)) tt (wa .1)) d3
 
           d5 : Typed.Typed 𝓤 H A 𝓣 E G7 b6 Δ1 (at5 bs)
           d5 = Typed.g-pre 𝓤 H A W 𝓣 E G7 G8 b6 Δ1 (Typed.pass T7 T8 (s5 bs)) (at4 bs) (Scalar.g-room 𝓤 H A W E G7 19 Syntax.tyBool (Scalar.room-sc 𝓤
@@ -3771,12 +3774,12 @@ module _ (claims· : Claims) where
               (Scalar.room-sc 𝓤 H A W Row.sBool)) d11
 
           d13 : Typed.Typed 𝓤 H A 𝓣 E G21 b13 Δ2 (at13 bs)
-          d13 = Typed.g-pre 𝓤 H A W 𝓣 E G21 G22 b13 Δ2 (Typed.pass T21 T22 (s18 bs)) (at12 bs) (Scalar.g-room 𝓤 H A W E G21 22 mirs.sched_core-Refusal
-              (Local.room-whole 𝓤 H A W (Declared.row Refusal.the-type) mirs.sched_core-Refusal Path'.refl)) d12
+          d13 = Typed.g-pre 𝓤 H A W 𝓣 E G21 G22 b13 Δ2 (Typed.pass T21 T22 (s18 bs)) (at12 bs) (Scalar.g-room 𝓤 H A W E G21 22 mirs.questions-Refusal
+              (Local.room-whole 𝓤 H A W (Declared.row Refusal.the-type) mirs.questions-Refusal Path'.refl)) d12
 
           d14 : Typed.Typed 𝓤 H A 𝓣 E G20 b14 Δ2 (at14 bs)
           d14 = Typed.s-seq 𝓤 H A W 𝓣 E G20 G21 b12 b13 Δ2 (Typed.pass T20 T21 (s17 bs)) (at13 bs) (Make.t-enum-make-wt 𝓤 H A W E 𝓣 Verdict.the-type
-              Laws''.the-laws Laws''.the-plain tt G20 0 ((Scalar.oInt Syntax.w8 1) ∷ (Scalar.oAt 22 mirs.sched_core-Refusal (Laws'3.val
+              Laws''.the-laws Laws''.the-plain tt G20 0 ((Scalar.oInt Syntax.w8 1) ∷ (Scalar.oAt 22 mirs.questions-Refusal (Laws'3.val
               Refusal.the-type Laws.the-laws)) ∷ []) (λ m. Verdict.enum .make (Logic.inr (Logic.inl (
                 m .1 .1 .1 .1 .1 .1 .1 .1 .1 .1 .1 .1 .1 .1 .1 .1
                     .1 .1 .1 .1 .1 .1 .0,
@@ -3797,22 +3800,42 @@ module _ (claims· : Claims) where
                 tt,
               )))) (
                 Signed.made-wt Refusal.the-field Laws.the-field-laws (Whole.enum-wt
-                    Refusal.the-type Laws.the-laws (tt, (tt, (tt, (tt, (tt, (tt, (tt, (tt, (tt, (tt, tt))))))))))) (Refusal.the-type .to (m .1 .1 .1 .1 .1
-                    .1 .1 .1 .1 .1 .1 .1 .1 .1 .1 .1 .1 .1 .1 .1 .1 .1 .0)),
+                    Refusal.the-type Laws.the-laws (tt, (tt, (tt, (tt, (tt, (tt, (tt, (tt, (tt, (tt, (tt, (tt, tt))))))))))))) (Refusal.the-type .to (m .1
+                    .1 .1 .1 .1 .1 .1 .1 .1 .1 .1 .1 .1 .1 .1 .1 .1 .1 .1 .1 .1 .1 .0)),
                 tt,
-              ) (wa .1)) λ m wa. Make.made-is Verdict.the-type Laws''.the-laws ((Laws'3.val
-              Refusal.the-type Laws.the-laws (m .1 .1 .1 .1 .1 .1 .1 .1 .1 .1 .1 .1 .1 .1 .1 .1 .1 .1 .1 .1 .1 .1 .0)) ∷ []) (Verdict.enum .make
-              (Logic.inr (Logic.inl (m .1 .1 .1 .1 .1 .1 .1 .1 .1 .1 .1 .1 .1 .1 .1 .1 .1 .1 .1 .1 .1 .1 .0, tt)))) (
-                Signed.made-wt Refusal.the-field
-                    Laws.the-field-laws (Whole.enum-wt Refusal.the-type Laws.the-laws (tt, (tt, (tt, (tt, (tt, (tt, (tt, (tt, (tt, (tt, tt)))))))))))
-                    (Refusal.the-type .to (m .1 .1 .1 .1 .1 .1 .1 .1 .1 .1 .1 .1 .1 .1 .1 .1 .1 .1 .1 .1 .1 .1 .0)),
+              ) (wa .1)) λ m wa. Make.made-is Verdict.the-type Laws''.the-laws
+              ((Laws'3.val Refusal.the-type Laws.the-laws (m .1 .1 .1 .1 .1 .1 .1 .1 .1 .1 .1 .1 .1 .1 .1 .1 .1 .1 .1 .1 .1 .1 .0)) ∷ [])
+              (Verdict.enum .make (Logic.inr (Logic.inl (m .1 .1 .1 .1 .1 .1 .1 .1 .1 .1 .1 .1 .1 .1 .1 .1 .1 .1 .1 .1 .1 .1 .0, tt)))) (
+                Signed.made-wt Refusal.the-field Laws.the-field-laws (Whole.enum-wt Refusal.the-type Laws.the-laws (
+                  tt,
+                  (
+                    tt,
+                    (
+                      tt,
+                      (
+                        tt,
+                        (
+                          tt,
+                          (
+                            tt,
+                            (
+                              tt,
+                              (tt, (tt, (tt, (tt, (tt, tt))))),
+                            ),
+                          ),
+                        ),
+                      ),
+                    ),
+                  ),
+                )) (Refusal.the-type .to (m .1 .1 .1 .1 .1 .1 .1 .1 .1 .1 .1 .1 .1 .1 .1 .1 .1 .1 .1 .1 .1 .1
+                    .0)),
                 tt,
               ) (wa .1)) d13
 
           d15 : Typed.Typed 𝓤 H A 𝓣 E G19 b15 Δ2 (at15 bs)
           d15 = Typed.s-seq 𝓤 H A W 𝓣 E G19 G20 b11 b14 Δ2 (Typed.pass T19 T20 (s16 bs)) (at14 bs) (Make.t-enum-make-wt 𝓤 H A W E 𝓣 Refusal.the-type
               Laws.the-laws Laws.the-plain tt G19 22 ((Scalar.oInt Syntax.w8 1) ∷ []) (λ m. Refusal.enum .make (Logic.inr (Logic.inl tt)))
-              (Reads.room-gone 𝓤 H A mirs.sched_core-Refusal) (tt, tt) Path'.refl (λ m wa. Make.made-val Refusal.the-type Laws.the-laws []
+              (Reads.room-gone 𝓤 H A mirs.questions-Refusal) (tt, tt) Path'.refl (λ m wa. Make.made-val Refusal.the-type Laws.the-laws []
               (Refusal.enum .make (Logic.inr (Logic.inl tt))) tt (wa .1)) λ m wa. Make.made-is Refusal.the-type Laws.the-laws [] (Refusal.enum .make
               (Logic.inr (Logic.inl tt))) tt (wa .1)) d14
 
@@ -3846,12 +3869,12 @@ module _ (claims· : Claims) where
               (Scalar.room-sc 𝓤 H A W Row.sBool)) d22
 
           d24 : Typed.Typed 𝓤 H A 𝓣 E G32 b22 Δ3 (at24 bs)
-          d24 = Typed.g-pre 𝓤 H A W 𝓣 E G32 G33 b22 Δ3 (Typed.pass T32 T33 (s28 bs)) (at23 bs) (Scalar.g-room 𝓤 H A W E G32 23 mirs.sched_core-Refusal
-              (Local.room-whole 𝓤 H A W (Declared.row Refusal.the-type) mirs.sched_core-Refusal Path'.refl)) d23
+          d24 = Typed.g-pre 𝓤 H A W 𝓣 E G32 G33 b22 Δ3 (Typed.pass T32 T33 (s28 bs)) (at23 bs) (Scalar.g-room 𝓤 H A W E G32 23 mirs.questions-Refusal
+              (Local.room-whole 𝓤 H A W (Declared.row Refusal.the-type) mirs.questions-Refusal Path'.refl)) d23
 
           d25 : Typed.Typed 𝓤 H A 𝓣 E G31 b23 Δ3 (at25 bs)
           d25 = Typed.s-seq 𝓤 H A W 𝓣 E G31 G32 b21 b22 Δ3 (Typed.pass T31 T32 (s27 bs)) (at24 bs) (Make.t-enum-make-wt 𝓤 H A W E 𝓣 Verdict.the-type
-              Laws''.the-laws Laws''.the-plain tt G31 0 ((Scalar.oInt Syntax.w8 1) ∷ (Scalar.oAt 23 mirs.sched_core-Refusal (Laws'3.val
+              Laws''.the-laws Laws''.the-plain tt G31 0 ((Scalar.oInt Syntax.w8 1) ∷ (Scalar.oAt 23 mirs.questions-Refusal (Laws'3.val
               Refusal.the-type Laws.the-laws)) ∷ []) (λ m. Verdict.enum .make (Logic.inr (Logic.inl (
                 m .1 .1 .1 .1 .1 .1 .1 .1 .1 .1 .1 .1 .1 .1 .1 .1
                     .1 .1 .1 .1 .1 .1 .1 .0,
@@ -3872,12 +3895,12 @@ module _ (claims· : Claims) where
                 tt,
               )))) (
                 Signed.made-wt Refusal.the-field Laws.the-field-laws (Whole.enum-wt
-                    Refusal.the-type Laws.the-laws (tt, (tt, (tt, (tt, (tt, (tt, (tt, (tt, (tt, (tt, tt))))))))))) (Refusal.the-type .to (m .1 .1 .1 .1 .1
-                    .1 .1 .1 .1 .1 .1 .1 .1 .1 .1 .1 .1 .1 .1 .1 .1 .1 .1 .0)),
+                    Refusal.the-type Laws.the-laws (tt, (tt, (tt, (tt, (tt, (tt, (tt, (tt, (tt, (tt, (tt, (tt, tt))))))))))))) (Refusal.the-type .to (m .1
+                    .1 .1 .1 .1 .1 .1 .1 .1 .1 .1 .1 .1 .1 .1 .1 .1 .1 .1 .1 .1 .1 .1 .0)),
                 tt,
-              ) (wa .1)) λ m wa. Make.made-is Verdict.the-type Laws''.the-laws
-              ((Laws'3.val Refusal.the-type Laws.the-laws (m .1 .1 .1 .1 .1 .1 .1 .1 .1 .1 .1 .1 .1 .1 .1 .1 .1 .1 .1 .1 .1 .1 .1 .0)) ∷ [])
-              (Verdict.enum .make (Logic.inr (Logic.inl (m .1 .1 .1 .1 .1 .1 .1 .1 .1 .1 .1 .1 .1 .1 .1 .1 .1 .1 .1 .1 .1 .1 .1 .0, tt)))) (
+              ) (wa .1)) λ m wa. Make.made-is Verdict.the-type
+              Laws''.the-laws ((Laws'3.val Refusal.the-type Laws.the-laws (m .1 .1 .1 .1 .1 .1 .1 .1 .1 .1 .1 .1 .1 .1 .1 .1 .1 .1 .1 .1 .1 .1 .1 .0))
+              ∷ []) (Verdict.enum .make (Logic.inr (Logic.inl (m .1 .1 .1 .1 .1 .1 .1 .1 .1 .1 .1 .1 .1 .1 .1 .1 .1 .1 .1 .1 .1 .1 .1 .0, tt)))) (
                 Signed.made-wt Refusal.the-field Laws.the-field-laws (Whole.enum-wt Refusal.the-type Laws.the-laws (
                   tt,
                   (
@@ -3892,22 +3915,22 @@ module _ (claims· : Claims) where
                             tt,
                             (
                               tt,
-                              (tt, (tt, (tt, tt))),
+                              (tt, (tt, (tt, (tt, (tt, tt))))),
                             ),
                           ),
                         ),
                       ),
                     ),
                   ),
-                )) (Refusal.the-type .to (m .1 .1 .1 .1 .1 .1 .1 .1 .1 .1 .1 .1 .1 .1 .1 .1 .1 .1 .1 .1 .1 .1 .1 .0)),
+                )) (Refusal.the-type .to (m .1 .1 .1 .1 .1 .1 .1 .1 .1 .1 .1 .1 .1 .1 .1 .1 .1 .1 .1 .1 .1 .1 .1
+                    .0)),
                 tt,
-              ) (wa
-              .1)) d24
+              ) (wa .1)) d24
 
           d26 : Typed.Typed 𝓤 H A 𝓣 E G30 b24 Δ3 (at26 bs)
           d26 = Typed.s-seq 𝓤 H A W 𝓣 E G30 G31 b20 b23 Δ3 (Typed.pass T30 T31 (s26 bs)) (at25 bs) (Make.t-enum-make-wt 𝓤 H A W E 𝓣 Refusal.the-type
               Laws.the-laws Laws.the-plain tt G30 23 ((Scalar.oInt Syntax.w8 1) ∷ []) (λ m. Refusal.enum .make (Logic.inr (Logic.inl tt)))
-              (Reads.room-gone 𝓤 H A mirs.sched_core-Refusal) (tt, tt) Path'.refl (λ m wa. Make.made-val Refusal.the-type Laws.the-laws []
+              (Reads.room-gone 𝓤 H A mirs.questions-Refusal) (tt, tt) Path'.refl (λ m wa. Make.made-val Refusal.the-type Laws.the-laws []
               (Refusal.enum .make (Logic.inr (Logic.inl tt))) tt (wa .1)) λ m wa. Make.made-is Refusal.the-type Laws.the-laws [] (Refusal.enum .make
               (Logic.inr (Logic.inl tt))) tt (wa .1)) d25
 
@@ -3941,12 +3964,12 @@ module _ (claims· : Claims) where
               (Scalar.room-sc 𝓤 H A W Row.sBool)) d33
 
           d35 : Typed.Typed 𝓤 H A 𝓣 E G41 b30 Δ4 (at35 bs)
-          d35 = Typed.g-pre 𝓤 H A W 𝓣 E G41 G42 b30 Δ4 (Typed.pass T41 T42 (s36 bs)) (at34 bs) (Scalar.g-room 𝓤 H A W E G41 24 mirs.sched_core-Refusal
-              (Local.room-whole 𝓤 H A W (Declared.row Refusal.the-type) mirs.sched_core-Refusal Path'.refl)) d34
+          d35 = Typed.g-pre 𝓤 H A W 𝓣 E G41 G42 b30 Δ4 (Typed.pass T41 T42 (s36 bs)) (at34 bs) (Scalar.g-room 𝓤 H A W E G41 24 mirs.questions-Refusal
+              (Local.room-whole 𝓤 H A W (Declared.row Refusal.the-type) mirs.questions-Refusal Path'.refl)) d34
 
           d36 : Typed.Typed 𝓤 H A 𝓣 E G40 b31 Δ4 (at36 bs)
           d36 = Typed.s-seq 𝓤 H A W 𝓣 E G40 G41 b29 b30 Δ4 (Typed.pass T40 T41 (s35 bs)) (at35 bs) (Make.t-enum-make-wt 𝓤 H A W E 𝓣 Verdict.the-type
-              Laws''.the-laws Laws''.the-plain tt G40 0 ((Scalar.oInt Syntax.w8 1) ∷ (Scalar.oAt 24 mirs.sched_core-Refusal (Laws'3.val
+              Laws''.the-laws Laws''.the-plain tt G40 0 ((Scalar.oInt Syntax.w8 1) ∷ (Scalar.oAt 24 mirs.questions-Refusal (Laws'3.val
               Refusal.the-type Laws.the-laws)) ∷ []) (λ m. Verdict.enum .make (Logic.inr (Logic.inl (
                 m .1 .1 .1 .1 .1 .1 .1 .1 .1 .1 .1 .1 .1 .1 .1 .1
                     .1 .1 .1 .1 .1 .1 .1 .1 .0,
@@ -3967,39 +3990,26 @@ module _ (claims· : Claims) where
                 tt,
               )))) (
                 Signed.made-wt Refusal.the-field Laws.the-field-laws
-                    (Whole.enum-wt Refusal.the-type Laws.the-laws (tt, (tt, (tt, (tt, (tt, (tt, (tt, (tt, (tt, (tt, tt))))))))))) (Refusal.the-type .to (m
-                    .1 .1 .1 .1 .1 .1 .1 .1 .1 .1 .1 .1 .1 .1 .1 .1 .1 .1 .1 .1 .1 .1 .1 .1 .0)),
+                    (Whole.enum-wt Refusal.the-type Laws.the-laws (tt, (tt, (tt, (tt, (tt, (tt, (tt, (tt, (tt, (tt, (tt, (tt, tt)))))))))))))
+                    (Refusal.the-type .to (m .1 .1 .1 .1 .1 .1 .1 .1 .1 .1 .1 .1 .1 .1 .1 .1 .1 .1 .1 .1 .1 .1 .1 .1 .0)),
                 tt,
-              ) (wa .1)) λ m wa. Make.made-is Verdict.the-type
-              Laws''.the-laws ((Laws'3.val Refusal.the-type Laws.the-laws (m .1 .1 .1 .1 .1 .1 .1 .1 .1 .1 .1 .1 .1 .1 .1 .1 .1 .1 .1 .1 .1 .1 .1 .1
-              .0)) ∷ []) (Verdict.enum .make (Logic.inr (Logic.inl (
-                m .1 .1 .1 .1 .1 .1 .1 .1 .1 .1 .1 .1 .1 .1 .1 .1 .1 .1 .1 .1 .1 .1 .1 .1 .0,
+              ) (wa .1)) λ m wa.
+              Make.made-is Verdict.the-type Laws''.the-laws ((Laws'3.val Refusal.the-type Laws.the-laws (m .1 .1 .1 .1 .1 .1 .1 .1 .1 .1 .1 .1 .1 .1
+              .1 .1 .1 .1 .1 .1 .1 .1 .1 .1 .0)) ∷ []) (Verdict.enum .make (Logic.inr (Logic.inl (
+                m .1 .1 .1 .1 .1 .1 .1 .1 .1 .1 .1 .1 .1 .1 .1 .1 .1
+                    .1 .1 .1 .1 .1 .1 .1 .0,
                 tt,
               )))) (
-                Signed.made-wt Refusal.the-field Laws.the-field-laws (Whole.enum-wt Refusal.the-type Laws.the-laws (
-                  tt,
-                  (
-                    tt,
-                    (
-                      tt,
-                      (
-                        tt,
-                        (
-                          tt,
-                          (tt, (tt, (tt, (tt, (tt, tt))))),
-                        ),
-                      ),
-                    ),
-                  ),
-                )) (Refusal.the-type .to (m .1 .1 .1 .1 .1 .1 .1 .1 .1 .1 .1 .1 .1 .1 .1 .1 .1 .1 .1 .1 .1 .1 .1 .1
-                    .0)),
+                Signed.made-wt Refusal.the-field Laws.the-field-laws (Whole.enum-wt Refusal.the-type Laws.the-laws
+                    (tt, (tt, (tt, (tt, (tt, (tt, (tt, (tt, (tt, (tt, (tt, (tt, tt))))))))))))) (Refusal.the-type .to (m .1 .1 .1 .1 .1 .1 .1 .1 .1 .1 .1 .1
+                    .1 .1 .1 .1 .1 .1 .1 .1 .1 .1 .1 .1 .0)),
                 tt,
               ) (wa .1)) d35
 
           d37 : Typed.Typed 𝓤 H A 𝓣 E G39 b32 Δ4 (at37 bs)
           d37 = Typed.s-seq 𝓤 H A W 𝓣 E G39 G40 b28 b31 Δ4 (Typed.pass T39 T40 (s34 bs)) (at36 bs) (Make.t-enum-make-wt 𝓤 H A W E 𝓣 Refusal.the-type
               Laws.the-laws Laws.the-plain tt G39 24 ((Scalar.oInt Syntax.w8 1) ∷ []) (λ m. Refusal.enum .make (Logic.inr (Logic.inl tt)))
-              (Reads.room-gone 𝓤 H A mirs.sched_core-Refusal) (tt, tt) Path'.refl (λ m wa. Make.made-val Refusal.the-type Laws.the-laws []
+              (Reads.room-gone 𝓤 H A mirs.questions-Refusal) (tt, tt) Path'.refl (λ m wa. Make.made-val Refusal.the-type Laws.the-laws []
               (Refusal.enum .make (Logic.inr (Logic.inl tt))) tt (wa .1)) λ m wa. Make.made-is Refusal.the-type Laws.the-laws [] (Refusal.enum .make
               (Logic.inr (Logic.inl tt))) tt (wa .1)) d36
 
@@ -4062,12 +4072,12 @@ module _ (claims· : Claims) where
               (Scalar.room-sc 𝓤 H A W Row.sBool)) d52
 
           d54 : Typed.Typed 𝓤 H A 𝓣 E G67 b48 Δ9 (at54 bs)
-          d54 = Typed.g-pre 𝓤 H A W 𝓣 E G67 G68 b48 Δ9 (Typed.pass T67 T68 (s59 bs)) (at53 bs) (Scalar.g-room 𝓤 H A W E G67 29 mirs.sched_core-Refusal
-              (Local.room-whole 𝓤 H A W (Declared.row Refusal.the-type) mirs.sched_core-Refusal Path'.refl)) d53
+          d54 = Typed.g-pre 𝓤 H A W 𝓣 E G67 G68 b48 Δ9 (Typed.pass T67 T68 (s59 bs)) (at53 bs) (Scalar.g-room 𝓤 H A W E G67 29 mirs.questions-Refusal
+              (Local.room-whole 𝓤 H A W (Declared.row Refusal.the-type) mirs.questions-Refusal Path'.refl)) d53
 
           d55 : Typed.Typed 𝓤 H A 𝓣 E G66 b49 Δ9 (at55 bs)
           d55 = Typed.s-seq 𝓤 H A W 𝓣 E G66 G67 b47 b48 Δ9 (Typed.pass T66 T67 (s58 bs)) (at54 bs) (Make.t-enum-make-wt 𝓤 H A W E 𝓣 Verdict.the-type
-              Laws''.the-laws Laws''.the-plain tt G66 0 ((Scalar.oInt Syntax.w8 1) ∷ (Scalar.oAt 29 mirs.sched_core-Refusal (Laws'3.val
+              Laws''.the-laws Laws''.the-plain tt G66 0 ((Scalar.oInt Syntax.w8 1) ∷ (Scalar.oAt 29 mirs.questions-Refusal (Laws'3.val
               Refusal.the-type Laws.the-laws)) ∷ []) (λ m. Verdict.enum .make (Logic.inr (Logic.inl (
                 m .1 .1 .1 .1 .1 .1 .1 .1 .1 .1 .1 .1 .1 .1 .1 .1
                     .1 .1 .1 .1 .1 .1 .1 .1 .1 .1 .1 .1 .1 .0,
@@ -4099,33 +4109,60 @@ module _ (claims· : Claims) where
                             tt,
                             (
                               tt,
-                              (tt, (tt, (tt, tt))),
+                              (tt, (tt, (tt, (tt, (tt, tt))))),
                             ),
                           ),
                         ),
                       ),
                     ),
                   ),
-                )) (Refusal.the-type .to (m .1 .1 .1 .1 .1 .1 .1 .1 .1 .1 .1 .1 .1 .1 .1 .1 .1 .1 .1 .1 .1 .1 .1 .1 .1 .1 .1
-                    .1 .1 .0)),
+                )) (Refusal.the-type .to (m .1 .1 .1 .1 .1 .1 .1 .1 .1 .1 .1 .1 .1 .1 .1 .1 .1 .1 .1 .1 .1 .1 .1
+                    .1 .1 .1 .1 .1 .1 .0)),
                 tt,
-              ) (wa .1)) λ m wa. Make.made-is Verdict.the-type Laws''.the-laws ((Laws'3.val Refusal.the-type Laws.the-laws (m .1 .1 .1
-              .1 .1 .1 .1 .1 .1 .1 .1 .1 .1 .1 .1 .1 .1 .1 .1 .1 .1 .1 .1 .1 .1 .1 .1 .1 .1 .0)) ∷ []) (Verdict.enum .make (Logic.inr (Logic.inl (
-                m .1
-                    .1 .1 .1 .1 .1 .1 .1 .1 .1 .1 .1 .1 .1 .1 .1 .1 .1 .1 .1 .1 .1 .1 .1 .1 .1 .1 .1 .1 .0,
-                tt,
-              )))) (
-                Signed.made-wt Refusal.the-field
-                    Laws.the-field-laws (Whole.enum-wt Refusal.the-type Laws.the-laws (tt, (tt, (tt, (tt, (tt, (tt, (tt, (tt, (tt, (tt, tt)))))))))))
-                    (Refusal.the-type .to (m .1 .1 .1 .1 .1 .1 .1 .1 .1 .1 .1 .1 .1 .1 .1 .1 .1 .1 .1 .1 .1 .1 .1 .1 .1 .1 .1 .1 .1 .0)),
+              ) (wa .1)) λ m wa. Make.made-is Verdict.the-type Laws''.the-laws ((Laws'3.val Refusal.the-type Laws.the-laws
+              (m .1 .1 .1 .1 .1 .1 .1 .1 .1 .1 .1 .1 .1 .1 .1 .1 .1 .1 .1 .1 .1 .1 .1 .1 .1 .1 .1 .1 .1 .0)) ∷ []) (Verdict.enum .make (Logic.inr
+              (Logic.inl (m .1 .1 .1 .1 .1 .1 .1 .1 .1 .1 .1 .1 .1 .1 .1 .1 .1 .1 .1 .1 .1 .1 .1 .1 .1 .1 .1 .1 .1 .0, tt)))) (
+                Signed.made-wt
+                    Refusal.the-field Laws.the-field-laws (Whole.enum-wt Refusal.the-type Laws.the-laws (
+                      tt,
+                      (
+                        tt,
+                        (
+                          tt,
+                          (
+                            tt,
+                            (
+                              tt,
+                              (
+                                tt,
+                                (
+                                  tt,
+                                  (
+                                    tt,
+                                    (
+                                      tt,
+                                      (
+                                        tt,
+                                        (tt, (tt, tt)),
+                                      ),
+                                    ),
+                                  ),
+                                ),
+                              ),
+                            ),
+                          ),
+                        ),
+                      ),
+                    )) (Refusal.the-type .to (m .1 .1 .1 .1 .1 .1 .1 .1 .1 .1 .1 .1 .1 .1 .1 .1 .1 .1 .1 .1 .1 .1 .1 .1 .1 .1 .1 .1
+                    .1 .0)),
                 tt,
               ) (wa .1)) d54
 
           d56 : Typed.Typed 𝓤 H A 𝓣 E G65 b50 Δ9 (at56 bs)
           d56 = Typed.s-seq 𝓤 H A W 𝓣 E G65 G66 b46 b49 Δ9 (Typed.pass T65 T66 (s57 bs)) (at55 bs) (Make.t-enum-make-wt 𝓤 H A W E 𝓣 Refusal.the-type
               Laws.the-laws Laws.the-plain tt G65 29 ((Scalar.oInt Syntax.w8 0) ∷ []) (λ m. Refusal.enum .make (Logic.inl tt)) (Reads.room-gone 𝓤 H A
-              mirs.sched_core-Refusal) (tt, tt) Path'.refl (λ m wa. Make.made-val Refusal.the-type Laws.the-laws [] (Refusal.enum .make (Logic.inl
-              tt)) tt (wa .1)) λ m wa. Make.made-is Refusal.the-type Laws.the-laws [] (Refusal.enum .make (Logic.inl tt)) tt (wa .1)) d55
+              mirs.questions-Refusal) (tt, tt) Path'.refl (λ m wa. Make.made-val Refusal.the-type Laws.the-laws [] (Refusal.enum .make (Logic.inl tt))
+              tt (wa .1)) λ m wa. Make.made-is Refusal.the-type Laws.the-laws [] (Refusal.enum .make (Logic.inl tt)) tt (wa .1)) d55
 
           d57 : Typed.Typed 𝓤 H A 𝓣 E G64 b50 Δ9 (at57 bs)
           d57 = Typed.g-pre 𝓤 H A W 𝓣 E G64 G65 b50 Δ9 (Typed.pass T64 T65 (s56 bs)) (at56 bs) (Scalar.g-room 𝓤 H A W E G64 25 Syntax.tyBool
@@ -4199,11 +4236,11 @@ module _ (claims· : Claims) where
 
           d76 : Typed.Typed 𝓤 H A 𝓣 E G107 b74 Δ14 (at76 bs)
           d76 = Typed.g-pre 𝓤 H A W 𝓣 E G107 G108 b74 Δ14 (Typed.pass T107 T108 (s96 bs)) (at75 bs) (Scalar.g-room 𝓤 H A W E G107 38
-              mirs.sched_core-Refusal (Local.room-whole 𝓤 H A W (Declared.row Refusal.the-type) mirs.sched_core-Refusal Path'.refl)) d75
+              mirs.questions-Refusal (Local.room-whole 𝓤 H A W (Declared.row Refusal.the-type) mirs.questions-Refusal Path'.refl)) d75
 
           d77 : Typed.Typed 𝓤 H A 𝓣 E G106 b75 Δ14 (at77 bs)
           d77 = Typed.s-seq 𝓤 H A W 𝓣 E G106 G107 b73 b74 Δ14 (Typed.pass T106 T107 (s95 bs)) (at76 bs) (Make.t-enum-make-wt 𝓤 H A W E 𝓣
-              Verdict.the-type Laws''.the-laws Laws''.the-plain tt G106 0 ((Scalar.oInt Syntax.w8 1) ∷ (Scalar.oAt 38 mirs.sched_core-Refusal
+              Verdict.the-type Laws''.the-laws Laws''.the-plain tt G106 0 ((Scalar.oInt Syntax.w8 1) ∷ (Scalar.oAt 38 mirs.questions-Refusal
               (Laws'3.val Refusal.the-type Laws.the-laws)) ∷ []) (λ m. Verdict.enum .make (Logic.inr (Logic.inl (
                 m .1 .1 .1 .1 .1 .1 .1 .1 .1 .1 .1 .1
                     .1 .1 .1 .1 .1 .1 .1 .1 .1 .1 .1 .1 .1 .1 .1 .1 .1 .1 .1 .1 .1 .1 .1 .1 .1 .1 .0,
@@ -4219,38 +4256,62 @@ module _ (claims· : Claims) where
                 tt,
               )))) (
                 Signed.made-wt Refusal.the-field
-                    Laws.the-field-laws (Whole.enum-wt Refusal.the-type Laws.the-laws (tt, (tt, (tt, (tt, (tt, (tt, (tt, (tt, (tt, (tt, tt)))))))))))
-                    (Refusal.the-type .to (m .1 .1 .1 .1 .1 .1 .1 .1 .1 .1 .1 .1 .1 .1 .1 .1 .1 .1 .1 .1 .1 .1 .1 .1 .1 .1 .1 .1 .1 .1 .1 .1 .1 .1 .1 .1 .1
-                    .1 .0)),
-                tt,
-              ) (wa .1)) λ m wa. Make.made-is Verdict.the-type Laws''.the-laws ((Laws'3.val Refusal.the-type Laws.the-laws (m .1 .1 .1 .1
-              .1 .1 .1 .1 .1 .1 .1 .1 .1 .1 .1 .1 .1 .1 .1 .1 .1 .1 .1 .1 .1 .1 .1 .1 .1 .1 .1 .1 .1 .1 .1 .1 .1 .1 .0)) ∷ []) (Verdict.enum .make
-              (Logic.inr (Logic.inl (
-                m .1 .1 .1 .1 .1 .1 .1 .1 .1 .1 .1 .1 .1 .1 .1 .1 .1 .1 .1 .1 .1 .1 .1 .1 .1 .1 .1 .1 .1 .1 .1 .1 .1 .1 .1 .1 .1
-                    .1 .0,
-                tt,
-              )))) (
-                Signed.made-wt Refusal.the-field Laws.the-field-laws (Whole.enum-wt Refusal.the-type Laws.the-laws (
-                  tt,
-                  (
-                    tt,
-                    (
+                    Laws.the-field-laws (Whole.enum-wt Refusal.the-type Laws.the-laws (
                       tt,
                       (
                         tt,
-                        (tt, (tt, (tt, (tt, (tt, (tt, tt)))))),
+                        (
+                          tt,
+                          (
+                            tt,
+                            (
+                              tt,
+                              (
+                                tt,
+                                (
+                                  tt,
+                                  (
+                                    tt,
+                                    (
+                                      tt,
+                                      (
+                                        tt,
+                                        (
+                                          tt,
+                                          (
+                                            tt,
+                                            tt,
+                                          ),
+                                        ),
+                                      ),
+                                    ),
+                                  ),
+                                ),
+                              ),
+                            ),
+                          ),
+                        ),
                       ),
-                    ),
-                  ),
-                )) (Refusal.the-type .to (m .1 .1 .1 .1 .1 .1 .1 .1 .1 .1 .1 .1 .1 .1 .1 .1 .1 .1 .1 .1 .1 .1
-                    .1 .1 .1 .1 .1 .1 .1 .1 .1 .1 .1 .1 .1 .1 .1 .1 .0)),
+                    )) (Refusal.the-type .to (m .1 .1 .1 .1 .1 .1 .1 .1 .1 .1 .1 .1 .1 .1 .1 .1 .1 .1 .1 .1 .1 .1 .1 .1 .1 .1 .1 .1 .1 .1 .1 .1
+                    .1 .1 .1 .1 .1 .1 .0)),
+                tt,
+              ) (wa .1)) λ m wa. Make.made-is Verdict.the-type Laws''.the-laws ((Laws'3.val Refusal.the-type Laws.the-laws
+              (m .1 .1 .1 .1 .1 .1 .1 .1 .1 .1 .1 .1 .1 .1 .1 .1 .1 .1 .1 .1 .1 .1 .1 .1 .1 .1 .1 .1 .1 .1 .1 .1 .1 .1 .1 .1 .1 .1 .0)) ∷ [])
+              (Verdict.enum .make (Logic.inr (Logic.inl (
+                m .1 .1 .1 .1 .1 .1 .1 .1 .1 .1 .1 .1 .1 .1 .1 .1 .1 .1 .1 .1 .1 .1 .1 .1 .1 .1 .1 .1 .1 .1
+                    .1 .1 .1 .1 .1 .1 .1 .1 .0,
+                tt,
+              )))) (
+                Signed.made-wt Refusal.the-field Laws.the-field-laws (Whole.enum-wt Refusal.the-type Laws.the-laws
+                    (tt, (tt, (tt, (tt, (tt, (tt, (tt, (tt, (tt, (tt, (tt, (tt, tt))))))))))))) (Refusal.the-type .to (m .1 .1 .1 .1 .1 .1 .1 .1 .1 .1 .1 .1
+                    .1 .1 .1 .1 .1 .1 .1 .1 .1 .1 .1 .1 .1 .1 .1 .1 .1 .1 .1 .1 .1 .1 .1 .1 .1 .1 .0)),
                 tt,
               ) (wa .1)) d76
 
           d78 : Typed.Typed 𝓤 H A 𝓣 E G105 b76 Δ14 (at78 bs)
           d78 = Typed.s-seq 𝓤 H A W 𝓣 E G105 G106 b72 b75 Δ14 (Typed.pass T105 T106 (s94 bs)) (at77 bs) (Make.t-enum-make-wt 𝓤 H A W E 𝓣
               Refusal.the-type Laws.the-laws Laws.the-plain tt G105 38 ((Scalar.oInt Syntax.w8 0) ∷ []) (λ m. Refusal.enum .make (Logic.inl tt))
-              (Reads.room-gone 𝓤 H A mirs.sched_core-Refusal) (tt, tt) Path'.refl (λ m wa. Make.made-val Refusal.the-type Laws.the-laws []
+              (Reads.room-gone 𝓤 H A mirs.questions-Refusal) (tt, tt) Path'.refl (λ m wa. Make.made-val Refusal.the-type Laws.the-laws []
               (Refusal.enum .make (Logic.inl tt)) tt (wa .1)) λ m wa. Make.made-is Refusal.the-type Laws.the-laws [] (Refusal.enum .make (Logic.inl
               tt)) tt (wa .1)) d77
 
@@ -4537,11 +4598,11 @@ module _ (claims· : Claims) where
 
           d131 : Typed.Typed 𝓤 H A 𝓣 E G156 b120 Δ19 (at131 bs)
           d131 = Typed.g-pre 𝓤 H A W 𝓣 E G156 G157 b120 Δ19 (Typed.pass T156 T157 (s142 bs)) (at130 bs) (Scalar.g-room 𝓤 H A W E G156 47
-              mirs.sched_core-Refusal (Local.room-whole 𝓤 H A W (Declared.row Refusal.the-type) mirs.sched_core-Refusal Path'.refl)) d130
+              mirs.questions-Refusal (Local.room-whole 𝓤 H A W (Declared.row Refusal.the-type) mirs.questions-Refusal Path'.refl)) d130
 
           d132 : Typed.Typed 𝓤 H A 𝓣 E G155 b121 Δ19 (at132 bs)
           d132 = Typed.s-seq 𝓤 H A W 𝓣 E G155 G156 b119 b120 Δ19 (Typed.pass T155 T156 (s141 bs)) (at131 bs) (Make.t-enum-make-wt 𝓤 H A W E 𝓣
-              Verdict.the-type Laws''.the-laws Laws''.the-plain tt G155 0 ((Scalar.oInt Syntax.w8 1) ∷ (Scalar.oAt 47 mirs.sched_core-Refusal
+              Verdict.the-type Laws''.the-laws Laws''.the-plain tt G155 0 ((Scalar.oInt Syntax.w8 1) ∷ (Scalar.oAt 47 mirs.questions-Refusal
               (Laws'3.val Refusal.the-type Laws.the-laws)) ∷ []) (λ m. Verdict.enum .make (Logic.inr (Logic.inl (
                 m .1 .1 .1 .1 .1 .1 .1 .1 .1 .1 .1 .1
                     .1 .1 .1 .1 .1 .1 .1 .1 .1 .1 .1 .1 .1 .1 .1 .1 .1 .1 .1 .1 .1 .1 .1 .1 .1 .1 .1 .1 .1 .1 .1 .1 .1 .1 .1 .0,
@@ -4560,17 +4621,17 @@ module _ (claims· : Claims) where
                     tt,
                     (
                       tt,
-                      (tt, (tt, (tt, (tt, (tt, (tt, (tt, tt))))))),
+                      (tt, (tt, (tt, (tt, (tt, (tt, (tt, (tt, (tt, tt))))))))),
                     ),
                   ),
-                )) (Refusal.the-type .to (m .1 .1 .1 .1 .1 .1 .1 .1 .1 .1 .1 .1 .1 .1 .1 .1 .1 .1 .1 .1 .1
-                    .1 .1 .1 .1 .1 .1 .1 .1 .1 .1 .1 .1 .1 .1 .1 .1 .1 .1 .1 .1 .1 .1 .1 .1 .1 .1 .0)),
+                )) (Refusal.the-type .to (m .1 .1 .1 .1 .1 .1 .1 .1 .1 .1 .1 .1 .1 .1 .1 .1 .1
+                    .1 .1 .1 .1 .1 .1 .1 .1 .1 .1 .1 .1 .1 .1 .1 .1 .1 .1 .1 .1 .1 .1 .1 .1 .1 .1 .1 .1 .1 .1 .0)),
                 tt,
-              ) (wa .1)) λ m wa. Make.made-is Verdict.the-type
-              Laws''.the-laws ((Laws'3.val Refusal.the-type Laws.the-laws (m .1 .1 .1 .1 .1 .1 .1 .1 .1 .1 .1 .1 .1 .1 .1 .1 .1 .1 .1 .1 .1 .1 .1 .1
-              .1 .1 .1 .1 .1 .1 .1 .1 .1 .1 .1 .1 .1 .1 .1 .1 .1 .1 .1 .1 .1 .1 .1 .0)) ∷ []) (Verdict.enum .make (Logic.inr (Logic.inl (
-                m .1 .1 .1 .1
-                    .1 .1 .1 .1 .1 .1 .1 .1 .1 .1 .1 .1 .1 .1 .1 .1 .1 .1 .1 .1 .1 .1 .1 .1 .1 .1 .1 .1 .1 .1 .1 .1 .1 .1 .1 .1 .1 .1 .1 .1 .1 .1 .1 .0,
+              ) (wa .1)) λ m wa. Make.made-is
+              Verdict.the-type Laws''.the-laws ((Laws'3.val Refusal.the-type Laws.the-laws (m .1 .1 .1 .1 .1 .1 .1 .1 .1 .1 .1 .1 .1 .1 .1 .1 .1 .1 .1
+              .1 .1 .1 .1 .1 .1 .1 .1 .1 .1 .1 .1 .1 .1 .1 .1 .1 .1 .1 .1 .1 .1 .1 .1 .1 .1 .1 .1 .0)) ∷ []) (Verdict.enum .make (Logic.inr (Logic.inl (
+                m .1 .1 .1 .1 .1 .1 .1 .1 .1 .1 .1 .1 .1 .1 .1 .1 .1 .1 .1 .1 .1 .1 .1 .1 .1 .1 .1 .1 .1 .1 .1 .1 .1 .1 .1 .1 .1 .1 .1 .1 .1 .1 .1 .1
+                    .1 .1 .1 .0,
                 tt,
               )))) (
                 Signed.made-wt Refusal.the-field Laws.the-field-laws (Whole.enum-wt Refusal.the-type Laws.the-laws (
@@ -4579,27 +4640,18 @@ module _ (claims· : Claims) where
                     tt,
                     (
                       tt,
-                      (
-                        tt,
-                        (
-                          tt,
-                          (
-                            tt,
-                            (tt, (tt, (tt, (tt, tt)))),
-                          ),
-                        ),
-                      ),
+                      (tt, (tt, (tt, (tt, (tt, (tt, (tt, (tt, (tt, tt))))))))),
                     ),
                   ),
-                )) (Refusal.the-type .to (m .1 .1 .1 .1 .1 .1 .1 .1 .1 .1 .1 .1 .1 .1 .1 .1 .1 .1 .1 .1 .1 .1 .1 .1 .1 .1
-                    .1 .1 .1 .1 .1 .1 .1 .1 .1 .1 .1 .1 .1 .1 .1 .1 .1 .1 .1 .1 .1 .0)),
+                )) (Refusal.the-type .to (m .1 .1 .1 .1 .1 .1 .1 .1 .1 .1 .1 .1 .1 .1 .1 .1 .1
+                    .1 .1 .1 .1 .1 .1 .1 .1 .1 .1 .1 .1 .1 .1 .1 .1 .1 .1 .1 .1 .1 .1 .1 .1 .1 .1 .1 .1 .1 .1 .0)),
                 tt,
               ) (wa .1)) d131
 
           d133 : Typed.Typed 𝓤 H A 𝓣 E G154 b122 Δ19 (at133 bs)
           d133 = Typed.s-seq 𝓤 H A W 𝓣 E G154 G155 b118 b121 Δ19 (Typed.pass T154 T155 (s140 bs)) (at132 bs) (Make.t-enum-make-wt 𝓤 H A W E 𝓣
               Refusal.the-type Laws.the-laws Laws.the-plain tt G154 47 ((Scalar.oInt Syntax.w8 0) ∷ []) (λ m. Refusal.enum .make (Logic.inl tt))
-              (Reads.room-gone 𝓤 H A mirs.sched_core-Refusal) (tt, tt) Path'.refl (λ m wa. Make.made-val Refusal.the-type Laws.the-laws []
+              (Reads.room-gone 𝓤 H A mirs.questions-Refusal) (tt, tt) Path'.refl (λ m wa. Make.made-val Refusal.the-type Laws.the-laws []
               (Refusal.enum .make (Logic.inl tt)) tt (wa .1)) λ m wa. Make.made-is Refusal.the-type Laws.the-laws [] (Refusal.enum .make (Logic.inl
               tt)) tt (wa .1)) d132
 

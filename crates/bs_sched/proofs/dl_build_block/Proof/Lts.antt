@@ -9,12 +9,12 @@ use Rattle.bs_sched.proofs.Verdict
 use Rattle.bs_sched.proofs.Verdict.Laws as Laws'6
 use Rattle.dl_record.proofs.Record
 use Rattle.dl_record.proofs.Record.Laws
+use Rattle.questions.proofs.Refusal
+use Rattle.questions.proofs.Refusal.Laws as Laws'
 use Rattle.sched_core.proofs.BuildCoreAnswer
-use Rattle.sched_core.proofs.BuildCoreAnswer.Laws as Laws'
+use Rattle.sched_core.proofs.BuildCoreAnswer.Laws as Laws''
 use Rattle.sched_core.proofs.BuildReply
-use Rattle.sched_core.proofs.BuildReply.Laws as Laws''
-use Rattle.sched_core.proofs.Refusal
-use Rattle.sched_core.proofs.Refusal.Laws as Laws'3
+use Rattle.sched_core.proofs.BuildReply.Laws as Laws'3
 use Rattle.sched_core.proofs.Station
 use Rattle.sched_core.proofs.Station.Laws as Laws'4
 use borrow.Author.Called
@@ -277,7 +277,7 @@ abbrev ε29 : Row.Entry
 ε29 = (18, Rows'.sc-here (Row.sInt Syntax.w64))
 
 abbrev ε30 : Row.Entry
-ε30 = (6, Rows'.any-gone mirs.sched_core-Refusal)
+ε30 = (6, Rows'.any-gone mirs.questions-Refusal)
 
 abbrev ε31 : Row.Entry
 ε31 = (1, Rows'.any-gone mirs.sched_core-Station)
@@ -411,7 +411,7 @@ r = Value.rVal record {
 }
 
 abbrev pub xs : List.List Syntax.Ty
-xs = mirs.Verdict ∷ mirs.sched_core-Refusal ∷ τ3 ∷ mirs.sched_core-BuildCoreAnswer ∷ τ3 ∷ mirs.sched_core-BuildReply ∷ τ4 ∷ τ0 ∷
+xs = mirs.Verdict ∷ mirs.questions-Refusal ∷ τ3 ∷ mirs.sched_core-BuildCoreAnswer ∷ τ3 ∷ mirs.sched_core-BuildReply ∷ τ4 ∷ τ0 ∷
     mirs.sched_core-Station ∷ τ5 ∷ τ10 ∷ τ8 ∷ τ14 ∷ τ2 ∷ Syntax.tyBool ∷ mirs.sched_core-BuildReply ∷ Syntax.tyBool ∷ mirs.sched_core-BuildReply ∷ τ5
     ∷ τ10 ∷ τ9 ∷ τ15 ∷ τ9 ∷ τ15 ∷ Syntax.tyUnit ∷ τ6 ∷ τ11 ∷ []
 
@@ -467,19 +467,19 @@ abbrev pub ps·1 : List.List (Kinds.PK 0)
 ps·1 = (Value.pVal record {
   ty = Declared.row BuildReply.the-type;
   one = Path'.refl;
-  val = Laws'7.val BuildReply.the-type Laws''.the-laws;
+  val = Laws'7.val BuildReply.the-type Laws'3.the-laws;
   tells =
-      Laws'7.tells BuildReply.the-type Laws''.the-laws;
-  still = Laws'7.still BuildReply.the-type Laws''.the-copy Exit.yes;
+      Laws'7.tells BuildReply.the-type Laws'3.the-laws;
+  still = Laws'7.still BuildReply.the-type Laws'3.the-copy Exit.yes;
   row = Rows'.whole
       (Declared.row BuildReply.the-type);
   rd = λ x. x;
   mk = λ x. x;
 } λ M 𝓤 H A W. record {
-  copies = Laws'7.copy BuildReply.the-type Laws''.the-copy 𝓤 H
+  copies = Laws'7.copy BuildReply.the-type Laws'3.the-copy 𝓤 H
       A W;
-  lawful = Laws'7.lawful BuildReply.the-type Laws''.the-laws 𝓤 H A W tt;
-  makes = Laws'7.makes BuildReply.the-type Laws''.the-plain 𝓤 H A;
+  lawful = Laws'7.lawful BuildReply.the-type Laws'3.the-laws 𝓤 H A W tt;
+  makes = Laws'7.makes BuildReply.the-type Laws'3.the-plain 𝓤 H A;
   in-mem = Local.mem-whole 𝓤 H A W (Declared.row BuildReply.the-type);
   of-mem = Local.whole-mem 𝓤 H A W (Declared.row BuildReply.the-type);
 }) ∷
@@ -585,19 +585,19 @@ abbrev pub r·4 : Kinds.RK 2
 r·4 = Value.rVal record {
   ty = Declared'.row BuildCoreAnswer.the-type;
   one = Path'.refl;
-  val = Laws'9.val BuildCoreAnswer.the-type Laws'.the-laws;
-  tells = Laws'9.tells BuildCoreAnswer.the-type Laws'.the-laws;
-  still = Laws'9.still BuildCoreAnswer.the-type Laws'.the-copy Exit.yes;
+  val = Laws'9.val BuildCoreAnswer.the-type Laws''.the-laws;
+  tells = Laws'9.tells BuildCoreAnswer.the-type Laws''.the-laws;
+  still = Laws'9.still BuildCoreAnswer.the-type Laws''.the-copy Exit.yes;
   row =
       Rows'.whole (Declared'.row BuildCoreAnswer.the-type);
   rd = λ x. x;
   mk = λ x. x;
 } λ M 𝓤 H A W. record {
   copies = Laws'9.copy
-      BuildCoreAnswer.the-type Laws'.the-copy 𝓤 H A W;
-  lawful = Laws'9.lawful BuildCoreAnswer.the-type Laws'.the-laws 𝓤 H A W;
+      BuildCoreAnswer.the-type Laws''.the-copy 𝓤 H A W;
+  lawful = Laws'9.lawful BuildCoreAnswer.the-type Laws''.the-laws 𝓤 H A W;
   makes = Laws'9.makes
-      BuildCoreAnswer.the-type Laws'.the-plain 𝓤 H A;
+      BuildCoreAnswer.the-type Laws''.the-plain 𝓤 H A;
   in-mem = Local.mem-whole 𝓤 H A W (Declared'.row BuildCoreAnswer.the-type);
   of-mem =
       Local.whole-mem 𝓤 H A W (Declared'.row BuildCoreAnswer.the-type);
@@ -1340,7 +1340,7 @@ module _ (claims· : Claims) where
   s25 = λ bs. Make.n-enum-make BuildReply.the-type T27 20 λ m. BuildReply.enum .make (Logic.inr (Logic.inr (Logic.inl (m .1 .1 .1 .1 .1 .1 .0, tt))))
 
   abbrev s26 : (bs : List.List Nat.ℕ) → Typed.Mo T28 → Typed.Mo T29
-  s26 = λ bs. Scalar.n-room T28 6 mirs.sched_core-Refusal
+  s26 = λ bs. Scalar.n-room T28 6 mirs.questions-Refusal
 
   abbrev s27 : (bs : List.List Nat.ℕ) → Typed.Both T29 T30
   s27 = λ bs. Call.callB ps·1 r·1 (claims· .2) (claims· .3) T29 (
@@ -1528,7 +1528,7 @@ module _ (claims· : Claims) where
       T′ m′. Row.set 8 ε49 (u .1 .1 .1 .1 .1 .1 .1 .1 .0) T′ m′) (λ u. Unit) λ u. Unit
 
   abbrev s78 : (bs : List.List Nat.ℕ) → Typed.Mo T81 → Typed.Mo T82
-  s78 = λ bs. Scalar.n-use T81 (Scalar.oFld 8 ((Syntax.field 2) ∷ []) τ0 34 (Reads.fieldV BuildCoreAnswer.the-type Laws'.the-laws 2)) 12 ρ2 (Row.sInt
+  s78 = λ bs. Scalar.n-use T81 (Scalar.oFld 8 ((Syntax.field 2) ∷ []) τ0 34 (Reads.fieldV BuildCoreAnswer.the-type Laws''.the-laws 2)) 12 ρ2 (Row.sInt
       Syntax.w8 .of)
 
   abbrev s79 : (bs : List.List Nat.ℕ) → Typed.Both T82 T83
@@ -2643,7 +2643,7 @@ module _ (claims· : Claims) where
               ) 0 [] (Call.sub-id 𝓤 H A W (G29 .slots)) (
                 (
                   Yields.yields-copy 𝓤 H A W (λ ρ. Unit) (Declared.row
-                      BuildReply.the-type) Path'.refl (Copies.cEnum BuildReply.the-type Laws''.the-laws Laws''.the-copy .copy 𝓤 H A W) ρ7 (λ x. x) (λ x. x) (λ
+                      BuildReply.the-type) Path'.refl (Copies.cEnum BuildReply.the-type Laws'3.the-laws Laws'3.the-copy .copy 𝓤 H A W) ρ7 (λ x. x) (λ x. x) (λ
                       ρ told. Local.mem-whole 𝓤 H A W (Declared.row BuildReply.the-type) ρ) λ ρ told. Local.whole-mem 𝓤 H A W (Declared.row
                       BuildReply.the-type) ρ,
                   Path'.refl,
@@ -2661,35 +2661,64 @@ module _ (claims· : Claims) where
               (Reads'.room-gone 𝓤 H A mirs.BuildAnswer) tt Path'.refl) d2
 
           d4 : Typed.Typed 𝓤 H A 𝓣 E G28 b11 Δ1 (at4 bs)
-          d4 = Typed.g-pre 𝓤 H A W 𝓣 E G28 G29 b11 Δ1 (Typed.pass T28 T29 (s26 bs)) (at3 bs) (Scalar.g-room 𝓤 H A W E G28 6 mirs.sched_core-Refusal
-              (Local.room-whole 𝓤 H A W (Declared.row Refusal.the-type) mirs.sched_core-Refusal Path'.refl)) d3
+          d4 = Typed.g-pre 𝓤 H A W 𝓣 E G28 G29 b11 Δ1 (Typed.pass T28 T29 (s26 bs)) (at3 bs) (Scalar.g-room 𝓤 H A W E G28 6 mirs.questions-Refusal
+              (Local.room-whole 𝓤 H A W (Declared.row Refusal.the-type) mirs.questions-Refusal Path'.refl)) d3
 
           d5 : Typed.Typed 𝓤 H A 𝓣 E G27 b12 Δ1 (at5 bs)
           d5 = Typed.s-seq 𝓤 H A W 𝓣 E G27 G28 b8 b11 Δ1 (Typed.pass T27 T28 (s25 bs)) (at4 bs) (Make.t-enum-make-wt 𝓤 H A W E 𝓣 BuildReply.the-type
-              Laws''.the-laws Laws''.the-plain tt G27 20 ((Scalar.oInt Syntax.w8 2) ∷ (Scalar.oAt 6 mirs.sched_core-Refusal (Laws'7.val
-              Refusal.the-type Laws'3.the-laws)) ∷ []) (λ m. BuildReply.enum .make (Logic.inr (Logic.inr (Logic.inl (m .1 .1 .1 .1 .1 .1 .0, tt)))))
-              (Reads'.room-gone 𝓤 H A mirs.sched_core-BuildReply) (tt, ((Whole.reads-enum 𝓤 H A W Refusal.the-type Laws'3.the-laws, Path'.refl), tt))
-              Path'.refl (λ m wa. Make.made-val BuildReply.the-type Laws''.the-laws ((Laws'7.val Refusal.the-type Laws'3.the-laws (m .1 .1 .1 .1 .1 .1
+              Laws'3.the-laws Laws'3.the-plain tt G27 20 ((Scalar.oInt Syntax.w8 2) ∷ (Scalar.oAt 6 mirs.questions-Refusal (Laws'7.val
+              Refusal.the-type Laws'.the-laws)) ∷ []) (λ m. BuildReply.enum .make (Logic.inr (Logic.inr (Logic.inl (m .1 .1 .1 .1 .1 .1 .0, tt)))))
+              (Reads'.room-gone 𝓤 H A mirs.sched_core-BuildReply) (tt, ((Whole.reads-enum 𝓤 H A W Refusal.the-type Laws'.the-laws, Path'.refl), tt))
+              Path'.refl (λ m wa. Make.made-val BuildReply.the-type Laws'3.the-laws ((Laws'7.val Refusal.the-type Laws'.the-laws (m .1 .1 .1 .1 .1 .1
               .0)) ∷ []) (BuildReply.enum .make (Logic.inr (Logic.inr (Logic.inl (m .1 .1 .1 .1 .1 .1 .0, tt))))) (
                 Signed.made-wt Refusal.the-field
-                    Laws'3.the-field-laws (Whole.enum-wt Refusal.the-type Laws'3.the-laws (tt, (tt, (tt, (tt, (tt, (tt, (tt, (tt, (tt, (tt, tt)))))))))))
-                    (Refusal.the-type .to (m .1 .1 .1 .1 .1 .1 .0)),
+                    Laws'.the-field-laws (Whole.enum-wt Refusal.the-type Laws'.the-laws (
+                      tt,
+                      (
+                        tt,
+                        (
+                          tt,
+                          (
+                            tt,
+                            (
+                              tt,
+                              (
+                                tt,
+                                (
+                                  tt,
+                                  (
+                                    tt,
+                                    (
+                                      tt,
+                                      (
+                                        tt,
+                                        (
+                                          tt,
+                                          (
+                                            tt,
+                                            tt,
+                                          ),
+                                        ),
+                                      ),
+                                    ),
+                                  ),
+                                ),
+                              ),
+                            ),
+                          ),
+                        ),
+                      ),
+                    )) (Refusal.the-type .to (m .1 .1 .1 .1 .1 .1 .0)),
                 tt,
-              ) (wa .1)) λ m wa. Make.made-is BuildReply.the-type Laws''.the-laws ((Laws'7.val
-              Refusal.the-type Laws'3.the-laws (m .1 .1 .1 .1 .1 .1 .0)) ∷ []) (BuildReply.enum .make (Logic.inr (Logic.inr (Logic.inl (
-                m .1 .1 .1 .1
-                    .1 .1 .0,
+              ) (wa .1)) λ m wa. Make.made-is BuildReply.the-type Laws'3.the-laws
+              ((Laws'7.val Refusal.the-type Laws'.the-laws (m .1 .1 .1 .1 .1 .1 .0)) ∷ []) (BuildReply.enum .make (Logic.inr (Logic.inr (Logic.inl (
+                m
+                    .1 .1 .1 .1 .1 .1 .0,
                 tt,
               ))))) (
-                Signed.made-wt Refusal.the-field Laws'3.the-field-laws (Whole.enum-wt Refusal.the-type Laws'3.the-laws (
+                Signed.made-wt Refusal.the-field Laws'.the-field-laws (Whole.enum-wt Refusal.the-type Laws'.the-laws (
                   tt,
-                  (
-                    tt,
-                    (
-                      tt,
-                      (tt, (tt, (tt, (tt, (tt, (tt, (tt, tt))))))),
-                    ),
-                  ),
+                  (tt, (tt, (tt, (tt, (tt, (tt, (tt, (tt, (tt, (tt, (tt, tt))))))))))),
                 )) (Refusal.the-type .to (m .1 .1 .1 .1 .1 .1 .0)),
                 tt,
               ) (wa .1)) d4
@@ -2700,14 +2729,14 @@ module _ (claims· : Claims) where
 
           d7 : Typed.Typed 𝓤 H A 𝓣 E G25 b13 Δ1 (at7 bs)
           d7 = Typed.s-seq 𝓤 H A W 𝓣 E G25 G26 b7 b12 Δ1 (Typed.pass T25 T26 (s23 bs)) (at6 bs) (CopyOut.t-copy-told 𝓤 H A W E 𝓣 (Declared.row
-              Refusal.the-type) Path'.refl (Laws'7.val Refusal.the-type Laws'3.the-laws) (Laws'7.lawful Refusal.the-type Laws'3.the-laws 𝓤 H A W tt)
-              (Laws'7.makes Refusal.the-type Laws'3.the-plain 𝓤 H A) G25 6 (Scalar.oFld 5 ((Syntax.variant 1) ∷ (Syntax.field 1) ∷ [])
-              mirs.sched_core-Refusal 1 λ v. Laws'7.val Refusal.the-type Laws'3.the-laws (v .0)) (λ m. m .1 .1 .1 .1 .1 .0 .0) (λ m. Laws'7.Fields
+              Refusal.the-type) Path'.refl (Laws'7.val Refusal.the-type Laws'.the-laws) (Laws'7.lawful Refusal.the-type Laws'.the-laws 𝓤 H A W tt)
+              (Laws'7.makes Refusal.the-type Laws'.the-plain 𝓤 H A) G25 6 (Scalar.oFld 5 ((Syntax.variant 1) ∷ (Syntax.field 1) ∷ [])
+              mirs.questions-Refusal 1 λ v. Laws'7.val Refusal.the-type Laws'.the-laws (v .0)) (λ m. m .1 .1 .1 .1 .1 .0 .0) (λ m. Laws'7.Fields
               (Declared.variants Verdict.the-type) (Laws'7.spellss (Verdict.enum .parts) Laws'6.the-laws) (Verdict.the-type .to (Known.at Verdict.enum
-              1 (m .1 .1 .1 .1 .1 .0)))) (Reads'.room-gone 𝓤 H A mirs.sched_core-Refusal) (
+              1 (m .1 .1 .1 .1 .1 .0)))) (Reads'.room-gone 𝓤 H A mirs.questions-Refusal) (
                 Match.reads-payload 𝓤 H A W Verdict.enum Laws'6.the-laws 1
-                    Path'.refl Path'.refl (λ v. Val.vcons (Laws'7.val Refusal.the-type Laws'3.the-laws (v .0)) Val.vnil) (λ v. Path'.refl) 0
-                    mirs.sched_core-Refusal 1 Path'.refl,
+                    Path'.refl Path'.refl (λ v. Val.vcons (Laws'7.val Refusal.the-type Laws'.the-laws (v .0)) Val.vnil) (λ v. Path'.refl) 0
+                    mirs.questions-Refusal 1 Path'.refl,
                 Path'.refl,
               ) Path'.refl (λ ρ m. Make'.tells-row 𝓤 H A W E ρ (Row.out 6 (G25 .locals)) m 5
               (Laws'7.Fields (Declared.variants Verdict.the-type) (Laws'7.spellss (Verdict.enum .parts) Laws'6.the-laws) (Verdict.the-type .to
@@ -2802,7 +2831,7 @@ module _ (claims· : Claims) where
               ) 0 [] (Call.sub-id 𝓤 H A W (G40 .slots)) (
                 (
                   Yields.yields-copy 𝓤 H A W (λ ρ. Unit) (Declared.row
-                      BuildReply.the-type) Path'.refl (Copies.cEnum BuildReply.the-type Laws''.the-laws Laws''.the-copy .copy 𝓤 H A W) ρ7 (λ x. x) (λ x. x) (λ
+                      BuildReply.the-type) Path'.refl (Copies.cEnum BuildReply.the-type Laws'3.the-laws Laws'3.the-copy .copy 𝓤 H A W) ρ7 (λ x. x) (λ x. x) (λ
                       ρ told. Local.mem-whole 𝓤 H A W (Declared.row BuildReply.the-type) ρ) λ ρ told. Local.whole-mem 𝓤 H A W (Declared.row
                       BuildReply.the-type) ρ,
                   Path'.refl,
@@ -2821,10 +2850,10 @@ module _ (claims· : Claims) where
 
           d27 : Typed.Typed 𝓤 H A 𝓣 E G39 b22 Δ2 (at27 bs)
           d27 = Typed.s-seq 𝓤 H A W 𝓣 E G39 G40 b18 b21 Δ2 (Typed.pass T39 T40 (s36 bs)) (at26 bs) (Make.t-enum-make-wt 𝓤 H A W E 𝓣
-              BuildReply.the-type Laws''.the-laws Laws''.the-plain tt G39 22 ((Scalar.oInt Syntax.w8 1) ∷ []) (λ m. BuildReply.enum .make (Logic.inr
+              BuildReply.the-type Laws'3.the-laws Laws'3.the-plain tt G39 22 ((Scalar.oInt Syntax.w8 1) ∷ []) (λ m. BuildReply.enum .make (Logic.inr
               (Logic.inl tt))) (Reads'.room-gone 𝓤 H A mirs.sched_core-BuildReply) (tt, tt) Path'.refl (λ m wa. Make.made-val BuildReply.the-type
-              Laws''.the-laws [] (BuildReply.enum .make (Logic.inr (Logic.inl tt))) tt (wa .1)) λ m wa. Make.made-is BuildReply.the-type
-              Laws''.the-laws [] (BuildReply.enum .make (Logic.inr (Logic.inl tt))) tt (wa .1)) d26
+              Laws'3.the-laws [] (BuildReply.enum .make (Logic.inr (Logic.inl tt))) tt (wa .1)) λ m wa. Make.made-is BuildReply.the-type
+              Laws'3.the-laws [] (BuildReply.enum .make (Logic.inr (Logic.inl tt))) tt (wa .1)) d26
 
           d28 : Typed.Typed 𝓤 H A 𝓣 E G38 b22 Δ2 (at28 bs)
           d28 = Typed.g-pre 𝓤 H A W 𝓣 E G38 G39 b22 Δ2 (Typed.pass T38 T39 (s35 bs)) (at27 bs) (Scalar.g-room 𝓤 H A W E G38 21 Syntax.tyBool
@@ -2872,7 +2901,7 @@ module _ (claims· : Claims) where
           d39 = Typed.s-seq 𝓤 H A W 𝓣 E G84 G85 b41 b42 Δ0 (Typed.pass T84 T85 (s81 bs)) (at38 bs) (Make'.t-make-told 𝓤 H A W E 𝓣 (Declared'.row
               (Apart.apartT BuildAnswer.the-type)) Path'.refl (Laws'9.val (Apart.apartT BuildAnswer.the-type) Laws'5.the-laws) (Laws'9.lawful
               (Apart.apartT BuildAnswer.the-type) Laws'5.the-laws 𝓤 H A W) (Laws'9.makes (Apart.apartT BuildAnswer.the-type) Laws'5.the-plain 𝓤 H A)
-              G84 0 ((Scalar.oAt 10 mirs.sched_core-BuildReply (Laws'7.val BuildReply.the-type Laws''.the-laws)) ∷ (Scalar.oAt 11 τ4 λ xs.
+              G84 0 ((Scalar.oAt 10 mirs.sched_core-BuildReply (Laws'7.val BuildReply.the-type Laws'3.the-laws)) ∷ (Scalar.oAt 11 τ4 λ xs.
               Array'.arrayVal (List.map (Laws'9.u16-laws .val) xs)) ∷ (Scalar.oAt 12 τ0 (Row.valS (Row.sInt Syntax.w8))) ∷ (Scalar.oAt 13
               mirs.sched_core-Station (Laws'9.val Station.the-type Laws'4.the-laws)) ∷ []) (λ m. (
                 m .1 .1 .1 .1 .1 .1 .1 .1 .1 .1 .0,
@@ -2882,12 +2911,12 @@ module _ (claims· : Claims) where
                   (m .1 .1 .1 .1 .1 .1 .1 .1 .1 .1 .1 .1 .0, (m .1 .1 .1 .1 .1 .1 .1 .1 .1 .1 .1 .1 .1 .0, tt)),
                 ),
               )) (λ m.
-              Laws'8.Is (Declared.row BuildReply.the-type) (m .1 .1 .1 .1 .1 .1 .1 .1 .1 .1 .0) (Laws'7.vals BuildReply.the-type Laws''.the-laws (m .1
+              Laws'8.Is (Declared.row BuildReply.the-type) (m .1 .1 .1 .1 .1 .1 .1 .1 .1 .1 .0) (Laws'7.vals BuildReply.the-type Laws'3.the-laws (m .1
               .1 .1 .1 .1 .1 .1 .1 .1 .1 .0)) × (Path'._≡_ (ListN.length (m .1 .1 .1 .1 .1 .1 .1 .1 .1 .1 .1 .0)) 16 × Laws'8.Is (Declared'.row
               Station.the-type) (m .1 .1 .1 .1 .1 .1 .1 .1 .1 .1 .1 .1 .1 .0) (Laws'9.vals Station.the-type Laws'4.the-laws (m .1 .1 .1 .1 .1 .1 .1 .1
               .1 .1 .1 .1 .1 .0)))) (Reads'.room-gone 𝓤 H A mirs.BuildAnswer) (
                 (
-                  Whole.reads-enum 𝓤 H A W BuildReply.the-type Laws''.the-laws,
+                  Whole.reads-enum 𝓤 H A W BuildReply.the-type Laws'3.the-laws,
                   Path'.refl,
                 ),
                 (
@@ -2903,12 +2932,12 @@ module _ (claims· : Claims) where
                 ),
               ) Path'.refl (λ ρ m.
               Make'.tells-both 𝓤 H A W E ρ (Row.out 0 (G84 .locals)) m (Laws'8.Is (Declared.row BuildReply.the-type) (m .1 .1 .1 .1 .1 .1 .1 .1 .1 .1
-              .0) (Laws'7.vals BuildReply.the-type Laws''.the-laws (m .1 .1 .1 .1 .1 .1 .1 .1 .1 .1 .0))) (Path'._≡_ (ListN.length (m .1 .1 .1 .1 .1
+              .0) (Laws'7.vals BuildReply.the-type Laws'3.the-laws (m .1 .1 .1 .1 .1 .1 .1 .1 .1 .1 .0))) (Path'._≡_ (ListN.length (m .1 .1 .1 .1 .1
               .1 .1 .1 .1 .1 .1 .0)) 16 × Laws'8.Is (Declared'.row Station.the-type) (m .1 .1 .1 .1 .1 .1 .1 .1 .1 .1 .1 .1 .1 .0) (Laws'9.vals
               Station.the-type Laws'4.the-laws (m .1 .1 .1 .1 .1 .1 .1 .1 .1 .1 .1 .1 .1 .0))) (Make'.tells-row 𝓤 H A W E ρ (Row.out 0 (G84 .locals))
-              m 10 (Laws'8.Is (Declared.row BuildReply.the-type) (m .1 .1 .1 .1 .1 .1 .1 .1 .1 .1 .0) (Laws'7.vals BuildReply.the-type Laws''.the-laws
+              m 10 (Laws'8.Is (Declared.row BuildReply.the-type) (m .1 .1 .1 .1 .1 .1 .1 .1 .1 .1 .0) (Laws'7.vals BuildReply.the-type Laws'3.the-laws
               (m .1 .1 .1 .1 .1 .1 .1 .1 .1 .1 .0))) (Make'.whole-is 𝓤 H A W E (Declared.row BuildReply.the-type) Path'.refl (Laws'7.val
-              BuildReply.the-type Laws''.the-laws) (Laws'7.tells BuildReply.the-type Laws''.the-laws) ρ 10 (m .1 .1 .1 .1 .1 .1 .1 .1 .1 .1 .0)))
+              BuildReply.the-type Laws'3.the-laws) (Laws'7.tells BuildReply.the-type Laws'3.the-laws) ρ 10 (m .1 .1 .1 .1 .1 .1 .1 .1 .1 .1 .0)))
               (Make'.tells-both 𝓤 H A W E ρ (Row.out 0 (G84 .locals)) m (Path'._≡_ (ListN.length (m .1 .1 .1 .1 .1 .1 .1 .1 .1 .1 .1 .0)) 16)
               (Laws'8.Is (Declared'.row Station.the-type) (m .1 .1 .1 .1 .1 .1 .1 .1 .1 .1 .1 .1 .1 .0) (Laws'9.vals Station.the-type Laws'4.the-laws
               (m .1 .1 .1 .1 .1 .1 .1 .1 .1 .1 .1 .1 .1 .0))) (Make'.tells-row 𝓤 H A W E ρ (Row.out 0 (G84 .locals)) m 11 (Path'._≡_ (ListN.length (m
@@ -2917,7 +2946,7 @@ module _ (claims· : Claims) where
               .1 .1 .1 .1 .1 .1 .1 .1 .1 .1 .1 .1 .1 .0) (Laws'9.vals Station.the-type Laws'4.the-laws (m .1 .1 .1 .1 .1 .1 .1 .1 .1 .1 .1 .1 .1 .0)))
               (Make'.whole-is 𝓤 H A W E (Declared'.row Station.the-type) Path'.refl (Laws'9.val Station.the-type Laws'4.the-laws) (Laws'9.tells
               Station.the-type Laws'4.the-laws) ρ 13 (m .1 .1 .1 .1 .1 .1 .1 .1 .1 .1 .1 .1 .1 .0))))) (λ m q. Signed.made-val (Apart.apartT
-              BuildAnswer.the-type) Laws'5.the-laws ((Laws'7.val BuildReply.the-type Laws''.the-laws (m .1 .1 .1 .1 .1 .1 .1 .1 .1 .1 .0)) ∷
+              BuildAnswer.the-type) Laws'5.the-laws ((Laws'7.val BuildReply.the-type Laws'3.the-laws (m .1 .1 .1 .1 .1 .1 .1 .1 .1 .1 .0)) ∷
               (Array'.arrayVal (List.map (Laws'9.u16-laws .val) (m .1 .1 .1 .1 .1 .1 .1 .1 .1 .1 .1 .0))) ∷ (Laws'5.the-laws .1 .1 .0 .val (m .1 .1 .1
               .1 .1 .1 .1 .1 .1 .1 .1 .1 .0)) ∷ (Laws'9.val Station.the-type Laws'4.the-laws (m .1 .1 .1 .1 .1 .1 .1 .1 .1 .1 .1 .1 .1 .0)) ∷ []) (
                 m
@@ -2934,7 +2963,7 @@ module _ (claims· : Claims) where
                   ),
                 ),
               ) (
-                Make.made-enum BuildReply.the-type Laws''.the-laws tt Laws''.lowers (m .1 .1 .1 .1 .1 .1 .1 .1 .1 .1
+                Make.made-enum BuildReply.the-type Laws'3.the-laws tt Laws'3.lowers (m .1 .1 .1 .1 .1 .1 .1 .1 .1 .1
                     .0) (q .0),
                 (
                   Items.array-made Field.u16-field Laws'9.u16-laws Make'.u16-wt 16 (m .1 .1 .1 .1 .1 .1 .1 .1 .1 .1 .1 .0) (q .1 .0),
@@ -2948,7 +2977,7 @@ module _ (claims· : Claims) where
                   ),
                 ),
               )) λ m q. Signed.made-is
-              (Apart.apartT BuildAnswer.the-type) Laws'5.the-laws ((Laws'7.val BuildReply.the-type Laws''.the-laws (m .1 .1 .1 .1 .1 .1 .1 .1 .1 .1
+              (Apart.apartT BuildAnswer.the-type) Laws'5.the-laws ((Laws'7.val BuildReply.the-type Laws'3.the-laws (m .1 .1 .1 .1 .1 .1 .1 .1 .1 .1
               .0)) ∷ (Array'.arrayVal (List.map (Laws'9.u16-laws .val) (m .1 .1 .1 .1 .1 .1 .1 .1 .1 .1 .1 .0))) ∷ (Laws'5.the-laws .1 .1 .0 .val (m
               .1 .1 .1 .1 .1 .1 .1 .1 .1 .1 .1 .1 .0)) ∷ (Laws'9.val Station.the-type Laws'4.the-laws (m .1 .1 .1 .1 .1 .1 .1 .1 .1 .1 .1 .1 .1 .0)) ∷
               []) (
@@ -2965,7 +2994,7 @@ module _ (claims· : Claims) where
                   ),
                 ),
               ) (
-                Make.made-enum BuildReply.the-type Laws''.the-laws tt Laws''.lowers (m .1 .1 .1 .1 .1 .1 .1 .1
+                Make.made-enum BuildReply.the-type Laws'3.the-laws tt Laws'3.lowers (m .1 .1 .1 .1 .1 .1 .1 .1
                     .1 .1 .0) (q .0),
                 (
                   Items.array-made Field.u16-field Laws'9.u16-laws Make'.u16-wt 16 (m .1 .1 .1 .1 .1 .1 .1 .1 .1 .1 .1 .0) (q .1 .0),
@@ -3004,7 +3033,7 @@ module _ (claims· : Claims) where
               .1 .1 .1 .0) (u .1 .1 .1 .1 .1 .1 .1 .1 .0) (At.getAt (BuildCoreAnswer.the-type .parts) 3 (BuildCoreAnswer.struct .as-values (u .1 .1 .1
               .1 .1 .1 .1 .1 .0))) (At.getAt (BuildCoreAnswer.the-type .parts) 3 (BuildCoreAnswer.struct .as-values (u .1 .1 .1 .1 .1 .1 .1 .1 .0)))
               (Row.hd 0 (Row.tl (Row.tl (Row.tl (Row.tl (Row.tl (Row.tl (Row.tl (Row.tl bs)))))))), 0) (Behind.look-at 𝓤 H A W q
-              BuildCoreAnswer.the-type Laws'.the-laws 3 36 Path'.refl Path'.refl (
+              BuildCoreAnswer.the-type Laws''.the-laws 3 36 Path'.refl Path'.refl (
                 Row.hd 0 (Row.tl (Row.tl (Row.tl (Row.tl (Row.tl (Row.tl (Row.tl
                     (Row.tl bs)))))))),
                 0,
@@ -3014,8 +3043,8 @@ module _ (claims· : Claims) where
 
           d42 : Typed.Typed 𝓤 H A 𝓣 E G81 b45 Δ0 (at42 bs)
           d42 = Typed.s-seq 𝓤 H A W 𝓣 E G81 G82 b39 b44 Δ0 (Typed.pass T81 T82 (s78 bs)) (at41 bs) (Scalar.t-use 𝓤 H A W E 𝓣 G81 (Scalar.oFld 8
-              ((Syntax.field 2) ∷ []) τ0 34 (Reads.fieldV BuildCoreAnswer.the-type Laws'.the-laws 2)) 12 ρ2 τ0 (Row.valS (Row.sInt Syntax.w8))
-              (Row.sInt Syntax.w8 .of) (Reads.reads-field 𝓤 H A W BuildCoreAnswer.the-type Laws'.the-laws 2 τ0 34 Path'.refl, Path'.refl)
+              ((Syntax.field 2) ∷ []) τ0 34 (Reads.fieldV BuildCoreAnswer.the-type Laws''.the-laws 2)) 12 ρ2 τ0 (Row.valS (Row.sInt Syntax.w8))
+              (Row.sInt Syntax.w8 .of) (Reads.reads-field 𝓤 H A W BuildCoreAnswer.the-type Laws''.the-laws 2 τ0 34 Path'.refl, Path'.refl)
               (Reads'.room-gone 𝓤 H A τ0) (Scalar.holds-sc 𝓤 H A W (Row.sInt Syntax.w8)) Path'.refl (λ u. Path'.refl) λ u. tt) d41
 
           d43 : Typed.Typed 𝓤 H A 𝓣 E G80 b46 Δ0 (at43 bs)
@@ -3045,7 +3074,7 @@ module _ (claims· : Claims) where
                 Row.hd 0 (Row.tl (Row.tl
                     (Row.tl (Row.tl (Row.tl (Row.tl (Row.tl (Row.tl bs)))))))),
                 0,
-              ) (Behind.look-at 𝓤 H A W q BuildCoreAnswer.the-type Laws'.the-laws 1 2
+              ) (Behind.look-at 𝓤 H A W q BuildCoreAnswer.the-type Laws''.the-laws 1 2
               Path'.refl Path'.refl (Row.hd 0 (Row.tl (Row.tl (Row.tl (Row.tl (Row.tl (Row.tl (Row.tl (Row.tl bs)))))))), 0) (u .1 .1 .1 .1 .1 .1 .1
               .1 .0) (BuildCoreAnswer.struct .as-values (u .1 .1 .1 .1 .1 .1 .1 .1 .0)) Path'.refl)) (Reads'.room-gone 𝓤 H A τ4) (Yields.makes-mem 𝓤 H
               A W (λ ρ. Unit) (Array'.Array (Referent.rtF (Referent.fInt Syntax.w16)) 16) Path'.refl ρ11 (λ x. x) λ ρ told. Whole'.arr-mem 𝓤 H A W
@@ -3053,21 +3082,21 @@ module _ (claims· : Claims) where
 
           d44 : Typed.Typed 𝓤 H A 𝓣 E G79 b47 Δ0 (at44 bs)
           d44 = Typed.s-seq 𝓤 H A W 𝓣 E G79 G80 b37 b46 Δ0 (Typed.pass T78 T80 (s76 bs)) (at43 bs) (CopyOut.t-copy-told 𝓤 H A W E 𝓣 (Declared.row
-              BuildReply.the-type) Path'.refl (Laws'7.val BuildReply.the-type Laws''.the-laws) (Laws'7.lawful BuildReply.the-type Laws''.the-laws 𝓤 H
-              A W tt) (Laws'7.makes BuildReply.the-type Laws''.the-plain 𝓤 H A) G79 10 (Scalar.oFld 8 ((Syntax.field 0) ∷ [])
-              mirs.sched_core-BuildReply 0 λ x. Laws'7.val BuildReply.the-type Laws''.the-laws (BuildCoreAnswer.struct .as-values x .0)) (λ m.
+              BuildReply.the-type) Path'.refl (Laws'7.val BuildReply.the-type Laws'3.the-laws) (Laws'7.lawful BuildReply.the-type Laws'3.the-laws 𝓤 H
+              A W tt) (Laws'7.makes BuildReply.the-type Laws'3.the-plain 𝓤 H A) G79 10 (Scalar.oFld 8 ((Syntax.field 0) ∷ [])
+              mirs.sched_core-BuildReply 0 λ x. Laws'7.val BuildReply.the-type Laws'3.the-laws (BuildCoreAnswer.struct .as-values x .0)) (λ m.
               BuildCoreAnswer.struct .as-values (m .1 .1 .1 .1 .1 .1 .1 .1 .0) .0) (λ m. Laws'8.Is (Declared'.row BuildCoreAnswer.the-type) (m .1 .1
-              .1 .1 .1 .1 .1 .1 .0) (Laws'9.vals BuildCoreAnswer.the-type Laws'.the-laws (m .1 .1 .1 .1 .1 .1 .1 .1 .0))) (Reads'.room-gone 𝓤 H A
+              .1 .1 .1 .1 .1 .1 .0) (Laws'9.vals BuildCoreAnswer.the-type Laws''.the-laws (m .1 .1 .1 .1 .1 .1 .1 .1 .0))) (Reads'.room-gone 𝓤 H A
               mirs.sched_core-BuildReply) (
-                Reads.reads-field 𝓤 H A W BuildCoreAnswer.the-type Laws'.the-laws 0 mirs.sched_core-BuildReply 0
+                Reads.reads-field 𝓤 H A W BuildCoreAnswer.the-type Laws''.the-laws 0 mirs.sched_core-BuildReply 0
                     Path'.refl,
                 Path'.refl,
               ) Path'.refl (λ ρ m. Make'.tells-row 𝓤 H A W E ρ (Row.out 10 (G79 .locals)) m 8 (Laws'8.Is (Declared'.row
-              BuildCoreAnswer.the-type) (m .1 .1 .1 .1 .1 .1 .1 .1 .0) (Laws'9.vals BuildCoreAnswer.the-type Laws'.the-laws (m .1 .1 .1 .1 .1 .1 .1 .1
-              .0))) (Make'.whole-is 𝓤 H A W E (Declared'.row BuildCoreAnswer.the-type) Path'.refl (Laws'9.val BuildCoreAnswer.the-type Laws'.the-laws)
-              (Laws'9.tells BuildCoreAnswer.the-type Laws'.the-laws) ρ 8 (m .1 .1 .1 .1 .1 .1 .1 .1 .0))) (λ m k wa. Path'.refl) λ m k wa. Laws'9.owed
-              BuildCoreAnswer.the-type Laws'.the-laws (m .1 .1 .1 .1 .1 .1 .1 .1 .0) (Laws'9.vals BuildCoreAnswer.the-type Laws'.the-laws (m .1 .1 .1
-              .1 .1 .1 .1 .1 .0)) k .0) d43
+              BuildCoreAnswer.the-type) (m .1 .1 .1 .1 .1 .1 .1 .1 .0) (Laws'9.vals BuildCoreAnswer.the-type Laws''.the-laws (m .1 .1 .1 .1 .1 .1 .1
+              .1 .0))) (Make'.whole-is 𝓤 H A W E (Declared'.row BuildCoreAnswer.the-type) Path'.refl (Laws'9.val BuildCoreAnswer.the-type
+              Laws''.the-laws) (Laws'9.tells BuildCoreAnswer.the-type Laws''.the-laws) ρ 8 (m .1 .1 .1 .1 .1 .1 .1 .1 .0))) (λ m k wa. Path'.refl) λ m
+              k wa. Laws'9.owed BuildCoreAnswer.the-type Laws''.the-laws (m .1 .1 .1 .1 .1 .1 .1 .1 .0) (Laws'9.vals BuildCoreAnswer.the-type
+              Laws''.the-laws (m .1 .1 .1 .1 .1 .1 .1 .1 .0)) k .0) d43
 
           d45 : Typed.Typed 𝓤 H A 𝓣 E G78 b47 Δ0 (at45 bs)
           d45 = Typed.g-pre 𝓤 H A W 𝓣 E G78 G79 b47 Δ0 (λ Ψ. Ψ) (at44 bs) (Lifetime.g-forget 𝓤 H A W E G78 8 Row.dead Path'.refl) d44
@@ -3253,7 +3282,7 @@ module _ (claims· : Claims) where
                 Row.hd 0 (Row.tl (Row.tl
                     (Row.tl (Row.tl (Row.tl (Row.tl (Row.tl (Row.tl bs)))))))),
                 0,
-              ) (Behind.look-at 𝓤 H A W q BuildCoreAnswer.the-type Laws'.the-laws 4 1492
+              ) (Behind.look-at 𝓤 H A W q BuildCoreAnswer.the-type Laws''.the-laws 4 1492
               Path'.refl Path'.refl (Row.hd 0 (Row.tl (Row.tl (Row.tl (Row.tl (Row.tl (Row.tl (Row.tl (Row.tl bs)))))))), 0) (u .1 .1 .1 .1 .1 .1 .1
               .1 .0) (BuildCoreAnswer.struct .as-values (u .1 .1 .1 .1 .1 .1 .1 .1 .0)) Path'.refl)) (Reads'.room-gone 𝓤 H A τ3) (Yields.makes-mem 𝓤 H
               A W (λ ρ. Unit) (Array'.Array (Declared'.row Record.the-type) 64) Path'.refl ρ6 (λ x. x) λ ρ told. Whole'.arr-mem 𝓤 H A W (Declared'.row

@@ -9,10 +9,10 @@ use Rattle.dl_record.proofs.Record
 use Rattle.dl_record.proofs.Record.Laws
 use Rattle.enqueue_core.proofs.QueuePlan
 use Rattle.enqueue_core.proofs.QueuePlan.Laws as Laws'
+use Rattle.questions.proofs.Refusal
+use Rattle.questions.proofs.Refusal.Laws as Laws''
 use Rattle.sched_core.proofs.Answer
-use Rattle.sched_core.proofs.Answer.Laws as Laws''
-use Rattle.sched_core.proofs.Refusal
-use Rattle.sched_core.proofs.Refusal.Laws as Laws'3
+use Rattle.sched_core.proofs.Answer.Laws as Laws'3
 use Rattle.sched_core.proofs.Reply
 use Rattle.sched_core.proofs.Reply.Laws as Laws'4
 use Rattle.sched_core.proofs.Station
@@ -195,16 +195,16 @@ abbrev ε18 : Row.Entry
 ε18 = (0, Rows.any-gone mirs.sched_core-Answer)
 
 abbrev ε19 : Row.Entry
-ε19 = (11, Rows.any-gone mirs.dl_record-Record)
+ε19 = (8, Rows.any-gone mirs.questions-Refusal)
 
 abbrev ε20 : Row.Entry
-ε20 = (12, Rows.any-gone mirs.sched_core-Reply)
+ε20 = (11, Rows.any-gone mirs.dl_record-Record)
 
 abbrev ε21 : Row.Entry
-ε21 = (16, Rows.any-gone mirs.sched_core-Reply)
+ε21 = (12, Rows.any-gone mirs.sched_core-Reply)
 
 abbrev ε22 : Row.Entry
-ε22 = (8, Rows.any-gone mirs.sched_core-Refusal)
+ε22 = (16, Rows.any-gone mirs.sched_core-Reply)
 
 abbrev ε23 : Row.Entry
 ε23 = (1, Rows.any-gone mirs.sched_core-Station)
@@ -278,25 +278,25 @@ abbrev pub r : Kinds.RK 2
 r = Value.rVal record {
   ty = Declared'.row Answer.the-type;
   one = Path'.refl;
-  val = Laws'9.val Answer.the-type Laws''.the-laws;
+  val = Laws'9.val Answer.the-type Laws'3.the-laws;
   tells = Laws'9.tells
-      Answer.the-type Laws''.the-laws;
-  still = Laws'9.still Answer.the-type Laws''.the-copy Exit.yes;
+      Answer.the-type Laws'3.the-laws;
+  still = Laws'9.still Answer.the-type Laws'3.the-copy Exit.yes;
   row = Rows.whole (Declared'.row Answer.the-type);
   rd = λ x. x;
   mk = λ x. x;
 } λ M 𝓤 H A W. record {
-  copies = Laws'9.copy Answer.the-type Laws''.the-copy 𝓤 H A W;
+  copies = Laws'9.copy Answer.the-type Laws'3.the-copy 𝓤 H A W;
   lawful = Laws'9.lawful
-      Answer.the-type Laws''.the-laws 𝓤 H A W;
-  makes = Laws'9.makes Answer.the-type Laws''.the-plain 𝓤 H A;
+      Answer.the-type Laws'3.the-laws 𝓤 H A W;
+  makes = Laws'9.makes Answer.the-type Laws'3.the-plain 𝓤 H A;
   in-mem = Local.mem-whole 𝓤 H A W
       (Declared'.row Answer.the-type);
   of-mem = Local.whole-mem 𝓤 H A W (Declared'.row Answer.the-type);
 }
 
 abbrev pub xs : List.List Syntax.Ty
-xs = mirs.Verdict ∷ mirs.sched_core-Refusal ∷ mirs.enqueue_core-QueuePlan ∷ τ1 ∷ mirs.dl_record-Record ∷ mirs.sched_core-Reply ∷
+xs = mirs.Verdict ∷ mirs.questions-Refusal ∷ mirs.enqueue_core-QueuePlan ∷ τ1 ∷ mirs.dl_record-Record ∷ mirs.sched_core-Reply ∷
     mirs.sched_core-Station ∷ τ3 ∷ τ6 ∷ mirs.sched_core-Reply ∷ Syntax.tyUnit ∷ τ4 ∷ τ7 ∷ []
 
 abbrev pub m : Nat.ℕ
@@ -539,103 +539,103 @@ abbrev pub Claims : Type 1
 Claims = Kinds.In 2 ps·0 × Kinds.Out 2 ps·0 r·0 × Kinds.In 0 ps·1 × Kinds.Out 0 ps·1 r·1 × Kinds.In 1 ps·2 × Kinds.Out 1 ps·2 r·2
 
 abbrev pub t0 : List.List Row.Entry
-t0 = ε18 ∷ ε30 ∷ ε11 ∷ ε36 ∷ ε14 ∷ ε15 ∷ ε16 ∷ ε8 ∷ ε22 ∷ ε26 ∷ ε3 ∷ ε19 ∷ ε20 ∷ ε24 ∷ ε4 ∷ ε5 ∷ []
+t0 = ε18 ∷ ε30 ∷ ε11 ∷ ε36 ∷ ε14 ∷ ε15 ∷ ε16 ∷ ε8 ∷ ε19 ∷ ε26 ∷ ε3 ∷ ε20 ∷ ε21 ∷ ε24 ∷ ε4 ∷ ε5 ∷ []
 
 abbrev pub t1 : List.List Row.Entry
-t1 = ε21 ∷ ε9 ∷ ε6 ∷ ε7 ∷ []
+t1 = ε22 ∷ ε9 ∷ ε6 ∷ ε7 ∷ []
 
 abbrev pub t2 : List.List Row.Entry
-t2 = (0, Rows.whole (Declared'.row Answer.the-type)) ∷ ε23 ∷ ε11 ∷ ε36 ∷ ε0 ∷ ε1 ∷ ε2 ∷ ε8 ∷ ε22 ∷ ε26 ∷ ε3 ∷ ε19 ∷ ε20 ∷ ε24 ∷ ε4 ∷ ε5 ∷ []
+t2 = (0, Rows.whole (Declared'.row Answer.the-type)) ∷ ε23 ∷ ε11 ∷ ε36 ∷ ε0 ∷ ε1 ∷ ε2 ∷ ε8 ∷ ε19 ∷ ε26 ∷ ε3 ∷ ε20 ∷ ε21 ∷ ε24 ∷ ε4 ∷ ε5 ∷ []
 
 abbrev pub t3 : List.List Row.Entry
-t3 = ε18 ∷ ε30 ∷ ε35 ∷ ε36 ∷ ε14 ∷ ε15 ∷ ε16 ∷ ε8 ∷ ε22 ∷ ε26 ∷ ε3 ∷ ε19 ∷ ε20 ∷ ε24 ∷ ε13 ∷ ε5 ∷ []
+t3 = ε18 ∷ ε30 ∷ ε35 ∷ ε36 ∷ ε14 ∷ ε15 ∷ ε16 ∷ ε8 ∷ ε19 ∷ ε26 ∷ ε3 ∷ ε20 ∷ ε21 ∷ ε24 ∷ ε13 ∷ ε5 ∷ []
 
 abbrev pub t4 : List.List Row.Entry
-t4 = ε18 ∷ ε30 ∷ ε35 ∷ ε36 ∷ ε14 ∷ ε15 ∷ ε16 ∷ ε8 ∷ ε22 ∷ ε26 ∷ ε3 ∷ ε19 ∷ ε20 ∷ ε24 ∷ ε4 ∷ ε12 ∷ []
+t4 = ε18 ∷ ε30 ∷ ε35 ∷ ε36 ∷ ε14 ∷ ε15 ∷ ε16 ∷ ε8 ∷ ε19 ∷ ε26 ∷ ε3 ∷ ε20 ∷ ε21 ∷ ε24 ∷ ε4 ∷ ε12 ∷ []
 
 abbrev pub t5 : List.List Row.Entry
-t5 = ε18 ∷ ε30 ∷ ε35 ∷ ε36 ∷ ε14 ∷ ε15 ∷ ε16 ∷ ε28 ∷ ε22 ∷ ε26 ∷ ε3 ∷ ε19 ∷ ε20 ∷ ε24 ∷ ε4 ∷ ε12 ∷ []
+t5 = ε18 ∷ ε30 ∷ ε35 ∷ ε36 ∷ ε14 ∷ ε15 ∷ ε16 ∷ ε28 ∷ ε19 ∷ ε26 ∷ ε3 ∷ ε20 ∷ ε21 ∷ ε24 ∷ ε4 ∷ ε12 ∷ []
 
 abbrev pub t6 : List.List Row.Entry
-t6 = ε18 ∷ ε30 ∷ ε35 ∷ ε36 ∷ ε14 ∷ ε15 ∷ ε16 ∷ ε28 ∷ ε22 ∷ ε26 ∷ ε3 ∷ ε19 ∷ ε20 ∷ ε24 ∷ ε4 ∷ ε5 ∷ []
+t6 = ε18 ∷ ε30 ∷ ε35 ∷ ε36 ∷ ε14 ∷ ε15 ∷ ε16 ∷ ε28 ∷ ε19 ∷ ε26 ∷ ε3 ∷ ε20 ∷ ε21 ∷ ε24 ∷ ε4 ∷ ε5 ∷ []
 
 abbrev pub t7 : List.List Row.Entry
-t7 = ε18 ∷ ε30 ∷ ε11 ∷ ε36 ∷ ε14 ∷ ε15 ∷ ε16 ∷ ε28 ∷ ε22 ∷ ε26 ∷ ε3 ∷ ε19 ∷ ε20 ∷ ε24 ∷ ε4 ∷ ε5 ∷ []
+t7 = ε18 ∷ ε30 ∷ ε11 ∷ ε36 ∷ ε14 ∷ ε15 ∷ ε16 ∷ ε28 ∷ ε19 ∷ ε26 ∷ ε3 ∷ ε20 ∷ ε21 ∷ ε24 ∷ ε4 ∷ ε5 ∷ []
 
 abbrev pub t8 : List.List Row.Entry
-t8 = ε18 ∷ ε30 ∷ ε11 ∷ ε36 ∷ ε14 ∷ ε15 ∷ ε16 ∷ ε25 ∷ ε22 ∷ ε26 ∷ ε3 ∷ ε19 ∷ ε20 ∷ ε24 ∷ ε4 ∷ ε5 ∷ []
+t8 = ε18 ∷ ε30 ∷ ε11 ∷ ε36 ∷ ε14 ∷ ε15 ∷ ε16 ∷ ε25 ∷ ε19 ∷ ε26 ∷ ε3 ∷ ε20 ∷ ε21 ∷ ε24 ∷ ε4 ∷ ε5 ∷ []
 
 abbrev pub t9 : List.List Row.Entry
-t9 = ε18 ∷ ε30 ∷ ε11 ∷ ε36 ∷ ε14 ∷ ε15 ∷ ε16 ∷ ε25 ∷ ε29 ∷ ε26 ∷ ε3 ∷ ε19 ∷ ε20 ∷ ε24 ∷ ε4 ∷ ε5 ∷ []
+t9 = ε18 ∷ ε30 ∷ ε11 ∷ ε36 ∷ ε14 ∷ ε15 ∷ ε16 ∷ ε25 ∷ ε29 ∷ ε26 ∷ ε3 ∷ ε20 ∷ ε21 ∷ ε24 ∷ ε4 ∷ ε5 ∷ []
 
 abbrev pub t10 : List.List Row.Entry
-t10 = ε18 ∷ ε30 ∷ ε11 ∷ ε36 ∷ ε14 ∷ ε15 ∷ ε16 ∷ ε8 ∷ ε29 ∷ ε26 ∷ ε3 ∷ ε19 ∷ ε20 ∷ ε24 ∷ ε4 ∷ ε5 ∷ []
+t10 = ε18 ∷ ε30 ∷ ε11 ∷ ε36 ∷ ε14 ∷ ε15 ∷ ε16 ∷ ε8 ∷ ε29 ∷ ε26 ∷ ε3 ∷ ε20 ∷ ε21 ∷ ε24 ∷ ε4 ∷ ε5 ∷ []
 
 abbrev pub t11 : List.List Row.Entry
 t11 = (16, Rows.whole (Declared.row Reply.the-type)) ∷ ε9 ∷ ε6 ∷ ε7 ∷ []
 
 abbrev pub t12 : List.List Row.Entry
-t12 = ε37 ∷ ε30 ∷ ε11 ∷ ε36 ∷ ε14 ∷ ε15 ∷ ε16 ∷ ε8 ∷ ε22 ∷ ε26 ∷ ε3 ∷ ε19 ∷ ε20 ∷ ε24 ∷ ε4 ∷ ε5 ∷ []
+t12 = ε37 ∷ ε30 ∷ ε11 ∷ ε36 ∷ ε14 ∷ ε15 ∷ ε16 ∷ ε8 ∷ ε19 ∷ ε26 ∷ ε3 ∷ ε20 ∷ ε21 ∷ ε24 ∷ ε4 ∷ ε5 ∷ []
 
 abbrev pub t13 : List.List Row.Entry
-t13 = ε37 ∷ ε23 ∷ ε11 ∷ ε36 ∷ ε14 ∷ ε15 ∷ ε16 ∷ ε8 ∷ ε22 ∷ ε26 ∷ ε3 ∷ ε19 ∷ ε20 ∷ ε24 ∷ ε4 ∷ ε5 ∷ []
+t13 = ε37 ∷ ε23 ∷ ε11 ∷ ε36 ∷ ε14 ∷ ε15 ∷ ε16 ∷ ε8 ∷ ε19 ∷ ε26 ∷ ε3 ∷ ε20 ∷ ε21 ∷ ε24 ∷ ε4 ∷ ε5 ∷ []
 
 abbrev pub t14 : List.List Row.Entry
-t14 = ε37 ∷ ε23 ∷ ε11 ∷ ε36 ∷ ε0 ∷ ε15 ∷ ε16 ∷ ε8 ∷ ε22 ∷ ε26 ∷ ε3 ∷ ε19 ∷ ε20 ∷ ε24 ∷ ε4 ∷ ε5 ∷ []
+t14 = ε37 ∷ ε23 ∷ ε11 ∷ ε36 ∷ ε0 ∷ ε15 ∷ ε16 ∷ ε8 ∷ ε19 ∷ ε26 ∷ ε3 ∷ ε20 ∷ ε21 ∷ ε24 ∷ ε4 ∷ ε5 ∷ []
 
 abbrev pub t15 : List.List Row.Entry
-t15 = ε37 ∷ ε23 ∷ ε11 ∷ ε36 ∷ ε0 ∷ ε1 ∷ ε16 ∷ ε8 ∷ ε22 ∷ ε26 ∷ ε3 ∷ ε19 ∷ ε20 ∷ ε24 ∷ ε4 ∷ ε5 ∷ []
+t15 = ε37 ∷ ε23 ∷ ε11 ∷ ε36 ∷ ε0 ∷ ε1 ∷ ε16 ∷ ε8 ∷ ε19 ∷ ε26 ∷ ε3 ∷ ε20 ∷ ε21 ∷ ε24 ∷ ε4 ∷ ε5 ∷ []
 
 abbrev pub t16 : List.List Row.Entry
-t16 = ε37 ∷ ε23 ∷ ε11 ∷ ε36 ∷ ε0 ∷ ε1 ∷ ε2 ∷ ε8 ∷ ε22 ∷ ε26 ∷ ε3 ∷ ε19 ∷ ε20 ∷ ε24 ∷ ε4 ∷ ε5 ∷ []
+t16 = ε37 ∷ ε23 ∷ ε11 ∷ ε36 ∷ ε0 ∷ ε1 ∷ ε2 ∷ ε8 ∷ ε19 ∷ ε26 ∷ ε3 ∷ ε20 ∷ ε21 ∷ ε24 ∷ ε4 ∷ ε5 ∷ []
 
 abbrev pub t17 : List.List Row.Entry
-t17 = ε18 ∷ ε30 ∷ ε11 ∷ ε36 ∷ ε14 ∷ ε15 ∷ ε16 ∷ ε8 ∷ ε22 ∷ ε33 ∷ ε3 ∷ ε19 ∷ ε20 ∷ ε24 ∷ ε4 ∷ ε5 ∷ []
+t17 = ε18 ∷ ε30 ∷ ε11 ∷ ε36 ∷ ε14 ∷ ε15 ∷ ε16 ∷ ε8 ∷ ε19 ∷ ε33 ∷ ε3 ∷ ε20 ∷ ε21 ∷ ε24 ∷ ε4 ∷ ε5 ∷ []
 
 abbrev pub t18 : List.List Row.Entry
-t18 = ε18 ∷ ε23 ∷ ε11 ∷ ε36 ∷ ε14 ∷ ε15 ∷ ε16 ∷ ε8 ∷ ε22 ∷ ε33 ∷ ε3 ∷ ε19 ∷ ε20 ∷ ε24 ∷ ε4 ∷ ε5 ∷ []
+t18 = ε18 ∷ ε23 ∷ ε11 ∷ ε36 ∷ ε14 ∷ ε15 ∷ ε16 ∷ ε8 ∷ ε19 ∷ ε33 ∷ ε3 ∷ ε20 ∷ ε21 ∷ ε24 ∷ ε4 ∷ ε5 ∷ []
 
 abbrev pub t19 : List.List Row.Entry
-t19 = ε18 ∷ ε23 ∷ ε11 ∷ ε36 ∷ ε14 ∷ ε15 ∷ ε16 ∷ ε8 ∷ ε22 ∷ ε33 ∷ ε17 ∷ ε19 ∷ ε20 ∷ ε24 ∷ ε4 ∷ ε5 ∷ []
+t19 = ε18 ∷ ε23 ∷ ε11 ∷ ε36 ∷ ε14 ∷ ε15 ∷ ε16 ∷ ε8 ∷ ε19 ∷ ε33 ∷ ε17 ∷ ε20 ∷ ε21 ∷ ε24 ∷ ε4 ∷ ε5 ∷ []
 
 abbrev pub t20 : List.List Row.Entry
-t20 = ε18 ∷ ε23 ∷ ε11 ∷ ε36 ∷ ε14 ∷ ε15 ∷ ε16 ∷ ε8 ∷ ε22 ∷ ε33 ∷ ε17 ∷ ε31 ∷ ε20 ∷ ε24 ∷ ε4 ∷ ε5 ∷ []
+t20 = ε18 ∷ ε23 ∷ ε11 ∷ ε36 ∷ ε14 ∷ ε15 ∷ ε16 ∷ ε8 ∷ ε19 ∷ ε33 ∷ ε17 ∷ ε31 ∷ ε21 ∷ ε24 ∷ ε4 ∷ ε5 ∷ []
 
 abbrev pub t21 : List.List Row.Entry
-t21 = ε18 ∷ ε23 ∷ ε34 ∷ ε36 ∷ ε14 ∷ ε15 ∷ ε16 ∷ ε8 ∷ ε22 ∷ ε33 ∷ ε17 ∷ ε31 ∷ ε20 ∷ ε24 ∷ ε4 ∷ ε5 ∷ []
+t21 = ε18 ∷ ε23 ∷ ε34 ∷ ε36 ∷ ε14 ∷ ε15 ∷ ε16 ∷ ε8 ∷ ε19 ∷ ε33 ∷ ε17 ∷ ε31 ∷ ε21 ∷ ε24 ∷ ε4 ∷ ε5 ∷ []
 
 abbrev pub t22 : List.List Row.Entry
-t22 = ε21 ∷ ε9 ∷ (18, Relend.msptr in-Record.row τ4 3) ∷ ε7 ∷ []
+t22 = ε22 ∷ ε9 ∷ (18, Relend.msptr in-Record.row τ4 3) ∷ ε7 ∷ []
 
 abbrev pub t23 : List.List Row.Entry
-t23 = ε21 ∷ ε9 ∷ ε6 ∷ (19, Mut.mslice in-Record.row τ4 3) ∷ []
+t23 = ε22 ∷ ε9 ∷ ε6 ∷ (19, Mut.mslice in-Record.row τ4 3) ∷ []
 
 abbrev pub t24 : List.List Row.Entry
-t24 = ε21 ∷ (17, Rows.sc-here Row.sUnit) ∷ ε6 ∷ ε10 ∷ []
+t24 = ε22 ∷ (17, Rows.sc-here Row.sUnit) ∷ ε6 ∷ ε10 ∷ []
 
 abbrev pub t25 : List.List Row.Entry
-t25 = ε18 ∷ ε23 ∷ ε34 ∷ ε36 ∷ ε14 ∷ ε15 ∷ ε16 ∷ ε8 ∷ ε22 ∷ ε33 ∷ ε17 ∷ ε19 ∷ ε20 ∷ ε24 ∷ ε4 ∷ ε5 ∷ []
+t25 = ε18 ∷ ε23 ∷ ε34 ∷ ε36 ∷ ε14 ∷ ε15 ∷ ε16 ∷ ε8 ∷ ε19 ∷ ε33 ∷ ε17 ∷ ε20 ∷ ε21 ∷ ε24 ∷ ε4 ∷ ε5 ∷ []
 
 abbrev pub t26 : List.List Row.Entry
-t26 = ε21 ∷ ε9 ∷ ε6 ∷ ε10 ∷ []
+t26 = ε22 ∷ ε9 ∷ ε6 ∷ ε10 ∷ []
 
 abbrev pub t27 : List.List Row.Entry
-t27 = ε18 ∷ ε23 ∷ ε11 ∷ ε36 ∷ ε14 ∷ ε15 ∷ ε16 ∷ ε8 ∷ ε22 ∷ ε33 ∷ ε17 ∷ ε19 ∷ ε27 ∷ ε24 ∷ ε4 ∷ ε5 ∷ []
+t27 = ε18 ∷ ε23 ∷ ε11 ∷ ε36 ∷ ε14 ∷ ε15 ∷ ε16 ∷ ε8 ∷ ε19 ∷ ε33 ∷ ε17 ∷ ε20 ∷ ε27 ∷ ε24 ∷ ε4 ∷ ε5 ∷ []
 
 abbrev pub t28 : List.List Row.Entry
-t28 = ε18 ∷ ε23 ∷ ε11 ∷ ε36 ∷ ε14 ∷ ε15 ∷ ε16 ∷ ε8 ∷ ε22 ∷ ε33 ∷ ε17 ∷ ε19 ∷ ε27 ∷ ε32 ∷ ε4 ∷ ε5 ∷ []
+t28 = ε18 ∷ ε23 ∷ ε11 ∷ ε36 ∷ ε14 ∷ ε15 ∷ ε16 ∷ ε8 ∷ ε19 ∷ ε33 ∷ ε17 ∷ ε20 ∷ ε27 ∷ ε32 ∷ ε4 ∷ ε5 ∷ []
 
 abbrev pub t29 : List.List Row.Entry
-t29 = ε18 ∷ ε23 ∷ ε11 ∷ ε36 ∷ ε14 ∷ ε15 ∷ ε16 ∷ ε8 ∷ ε22 ∷ ε26 ∷ ε17 ∷ ε19 ∷ ε27 ∷ ε32 ∷ ε4 ∷ ε5 ∷ []
+t29 = ε18 ∷ ε23 ∷ ε11 ∷ ε36 ∷ ε14 ∷ ε15 ∷ ε16 ∷ ε8 ∷ ε19 ∷ ε26 ∷ ε17 ∷ ε20 ∷ ε27 ∷ ε32 ∷ ε4 ∷ ε5 ∷ []
 
 abbrev pub t30 : List.List Row.Entry
-t30 = ε37 ∷ ε23 ∷ ε11 ∷ ε36 ∷ ε14 ∷ ε15 ∷ ε16 ∷ ε8 ∷ ε22 ∷ ε26 ∷ ε17 ∷ ε19 ∷ ε27 ∷ ε32 ∷ ε4 ∷ ε5 ∷ []
+t30 = ε37 ∷ ε23 ∷ ε11 ∷ ε36 ∷ ε14 ∷ ε15 ∷ ε16 ∷ ε8 ∷ ε19 ∷ ε26 ∷ ε17 ∷ ε20 ∷ ε27 ∷ ε32 ∷ ε4 ∷ ε5 ∷ []
 
 abbrev pub t31 : List.List Row.Entry
-t31 = ε37 ∷ ε23 ∷ ε11 ∷ ε36 ∷ ε14 ∷ ε15 ∷ ε16 ∷ ε8 ∷ ε22 ∷ ε26 ∷ ε3 ∷ ε19 ∷ ε27 ∷ ε32 ∷ ε4 ∷ ε5 ∷ []
+t31 = ε37 ∷ ε23 ∷ ε11 ∷ ε36 ∷ ε14 ∷ ε15 ∷ ε16 ∷ ε8 ∷ ε19 ∷ ε26 ∷ ε3 ∷ ε20 ∷ ε27 ∷ ε32 ∷ ε4 ∷ ε5 ∷ []
 
 abbrev pub t32 : List.List Row.Entry
-t32 = ε37 ∷ ε23 ∷ ε11 ∷ ε36 ∷ ε14 ∷ ε15 ∷ ε16 ∷ ε8 ∷ ε22 ∷ ε26 ∷ ε3 ∷ ε19 ∷ ε20 ∷ ε32 ∷ ε4 ∷ ε5 ∷ []
+t32 = ε37 ∷ ε23 ∷ ε11 ∷ ε36 ∷ ε14 ∷ ε15 ∷ ε16 ∷ ε8 ∷ ε19 ∷ ε26 ∷ ε3 ∷ ε20 ∷ ε21 ∷ ε32 ∷ ε4 ∷ ε5 ∷ []
 
 abbrev pub T0 : Row.Cx
 T0 = record { locals = List._++_ t0 t1; slots = [] }
@@ -828,7 +828,7 @@ module _ (claims· : Claims) where
   s13 = λ bs. Make.n-enum-make Reply.the-type T15 16 λ m. Reply.enum .make (Logic.inr (Logic.inl (m .1 .1 .1 .1 .1 .1 .1 .1 .0, tt)))
 
   abbrev s14 : (bs : List.List Nat.ℕ) → Typed.Mo T16 → Typed.Mo T17
-  s14 = λ bs. Scalar.n-room T16 8 mirs.sched_core-Refusal
+  s14 = λ bs. Scalar.n-room T16 8 mirs.questions-Refusal
 
   abbrev s15 : (bs : List.List Nat.ℕ) → Typed.Mo T17 → Typed.Mo T18
   s15 = λ bs. Make'.n-make (Declared'.row (Apart.apartT Answer.the-type)) T17 0 λ m. (
@@ -1136,28 +1136,28 @@ module _ (claims· : Claims) where
 
       module _ (κs : Lifetimes.Lfts 2) (qs : Lifetimes.Shares 2) where
         abbrev g3 : List.List Row.Entry
-        g3 = ε18 ∷ ε30 ∷ (2, Reshare.mslice-owedS in-Record.row τ5 0 2 (Row.lease (κs .0) (qs .0))) ∷ ε36 ∷ ε14 ∷ ε15 ∷ ε16 ∷ ε8 ∷ ε22 ∷ ε26 ∷ ε3 ∷
-            ε19 ∷ ε20 ∷ ε24 ∷ ε13 ∷ ε5 ∷ []
+        g3 = ε18 ∷ ε30 ∷ (2, Reshare.mslice-owedS in-Record.row τ5 0 2 (Row.lease (κs .0) (qs .0))) ∷ ε36 ∷ ε14 ∷ ε15 ∷ ε16 ∷ ε8 ∷ ε19 ∷ ε26 ∷ ε3 ∷
+            ε20 ∷ ε21 ∷ ε24 ∷ ε13 ∷ ε5 ∷ []
 
         abbrev g4 : List.List Row.Entry
-        g4 = ε18 ∷ ε30 ∷ (2, Reshare.mslice-owedS in-Record.row τ5 0 2 (Row.lease (κs .0) (qs .0))) ∷ ε36 ∷ ε14 ∷ ε15 ∷ ε16 ∷ ε8 ∷ ε22 ∷ ε26 ∷ ε3 ∷
-            ε19 ∷ ε20 ∷ ε24 ∷ ε4 ∷ ε12 ∷ []
+        g4 = ε18 ∷ ε30 ∷ (2, Reshare.mslice-owedS in-Record.row τ5 0 2 (Row.lease (κs .0) (qs .0))) ∷ ε36 ∷ ε14 ∷ ε15 ∷ ε16 ∷ ε8 ∷ ε19 ∷ ε26 ∷ ε3 ∷
+            ε20 ∷ ε21 ∷ ε24 ∷ ε4 ∷ ε12 ∷ []
 
         abbrev g5 : List.List Row.Entry
-        g5 = ε18 ∷ ε30 ∷ (2, Reshare.mslice-owedS in-Record.row τ5 0 2 (Row.lease (κs .0) (qs .0))) ∷ ε36 ∷ ε14 ∷ ε15 ∷ ε16 ∷ ε28 ∷ ε22 ∷ ε26 ∷ ε3 ∷
-            ε19 ∷ ε20 ∷ ε24 ∷ ε4 ∷ ε12 ∷ []
+        g5 = ε18 ∷ ε30 ∷ (2, Reshare.mslice-owedS in-Record.row τ5 0 2 (Row.lease (κs .0) (qs .0))) ∷ ε36 ∷ ε14 ∷ ε15 ∷ ε16 ∷ ε28 ∷ ε19 ∷ ε26 ∷ ε3 ∷
+            ε20 ∷ ε21 ∷ ε24 ∷ ε4 ∷ ε12 ∷ []
 
         abbrev g6 : List.List Row.Entry
-        g6 = ε18 ∷ ε30 ∷ (2, Reshare.mslice-owedS in-Record.row τ5 0 2 (Row.lease (κs .0) (qs .0))) ∷ ε36 ∷ ε14 ∷ ε15 ∷ ε16 ∷ ε28 ∷ ε22 ∷ ε26 ∷ ε3 ∷
-            ε19 ∷ ε20 ∷ ε24 ∷ ε4 ∷ ε5 ∷ []
+        g6 = ε18 ∷ ε30 ∷ (2, Reshare.mslice-owedS in-Record.row τ5 0 2 (Row.lease (κs .0) (qs .0))) ∷ ε36 ∷ ε14 ∷ ε15 ∷ ε16 ∷ ε28 ∷ ε19 ∷ ε26 ∷ ε3 ∷
+            ε20 ∷ ε21 ∷ ε24 ∷ ε4 ∷ ε5 ∷ []
 
         abbrev g21 : List.List Row.Entry
-        g21 = ε18 ∷ ε23 ∷ (2, Relend.mslice-owed in-Record.row τ5 0 3 (Row.lease (κs .0) (qs .0))) ∷ ε36 ∷ ε14 ∷ ε15 ∷ ε16 ∷ ε8 ∷ ε22 ∷ ε33 ∷ ε17 ∷
-            ε31 ∷ ε20 ∷ ε24 ∷ ε4 ∷ ε5 ∷ []
+        g21 = ε18 ∷ ε23 ∷ (2, Relend.mslice-owed in-Record.row τ5 0 3 (Row.lease (κs .0) (qs .0))) ∷ ε36 ∷ ε14 ∷ ε15 ∷ ε16 ∷ ε8 ∷ ε19 ∷ ε33 ∷ ε17 ∷
+            ε31 ∷ ε21 ∷ ε24 ∷ ε4 ∷ ε5 ∷ []
 
         abbrev g25 : List.List Row.Entry
-        g25 = ε18 ∷ ε23 ∷ (2, Relend.mslice-owed in-Record.row τ5 0 3 (Row.lease (κs .0) (qs .0))) ∷ ε36 ∷ ε14 ∷ ε15 ∷ ε16 ∷ ε8 ∷ ε22 ∷ ε33 ∷ ε17 ∷
-            ε19 ∷ ε20 ∷ ε24 ∷ ε4 ∷ ε5 ∷ []
+        g25 = ε18 ∷ ε23 ∷ (2, Relend.mslice-owed in-Record.row τ5 0 3 (Row.lease (κs .0) (qs .0))) ∷ ε36 ∷ ε14 ∷ ε15 ∷ ε16 ∷ ε8 ∷ ε19 ∷ ε33 ∷ ε17 ∷
+            ε20 ∷ ε21 ∷ ε24 ∷ ε4 ∷ ε5 ∷ []
 
         abbrev G0 : Row.Cx
         G0 = record { locals = List._++_ t0 t1; slots = (Row.lease (κs .0) (qs .0)) ∷ (Row.lease (κs .1 .0) (qs .1 .0)) ∷ Row.off ∷ Row.off ∷ [] }
@@ -1353,8 +1353,8 @@ module _ (claims· : Claims) where
 
           d7 : Typed.Typed 𝓤 H A 𝓣 E G17 b7 Δ1 (at7 bs)
           d7 = Typed.s-seq 𝓤 H A W 𝓣 E G17 G18 b5 b6 Δ1 (Typed.pass T17 T18 (s15 bs)) (at6 bs) (Make'.t-make-told 𝓤 H A W E 𝓣 (Declared'.row
-              (Apart.apartT Answer.the-type)) Path'.refl (Laws'9.val (Apart.apartT Answer.the-type) Laws''.the-laws) (Laws'9.lawful (Apart.apartT
-              Answer.the-type) Laws''.the-laws 𝓤 H A W) (Laws'9.makes (Apart.apartT Answer.the-type) Laws''.the-plain 𝓤 H A) G17 0 ((Scalar.oAt 16
+              (Apart.apartT Answer.the-type)) Path'.refl (Laws'9.val (Apart.apartT Answer.the-type) Laws'3.the-laws) (Laws'9.lawful (Apart.apartT
+              Answer.the-type) Laws'3.the-laws 𝓤 H A W) (Laws'9.makes (Apart.apartT Answer.the-type) Laws'3.the-plain 𝓤 H A) G17 0 ((Scalar.oAt 16
               mirs.sched_core-Reply (Laws'7.val Reply.the-type Laws'4.the-laws)) ∷ (Scalar.oAt 1 mirs.sched_core-Station (Laws'9.val Station.the-type
               Laws'5.the-laws)) ∷ []) (λ m. (m .1 .1 .1 .1 .1 .1 .1 .1 .1 .1 .1 .1 .1 .1 .1 .1 .0, (m .1 .0, tt))) (λ m. Laws'8.Is (Declared.row
               Reply.the-type) (m .1 .1 .1 .1 .1 .1 .1 .1 .1 .1 .1 .1 .1 .1 .1 .1 .0) (Laws'7.vals Reply.the-type Laws'4.the-laws (m .1 .1 .1 .1 .1 .1
@@ -1372,50 +1372,80 @@ module _ (claims· : Claims) where
               .0))) (Make'.tells-row 𝓤 H A W E ρ (Row.out 0 (G17 .locals)) m 1 (Laws'8.Is (Declared'.row Station.the-type) (m .1 .0) (Laws'9.vals
               Station.the-type Laws'5.the-laws (m .1 .0))) (Make'.whole-is 𝓤 H A W E (Declared'.row Station.the-type) Path'.refl (Laws'9.val
               Station.the-type Laws'5.the-laws) (Laws'9.tells Station.the-type Laws'5.the-laws) ρ 1 (m .1 .0)))) (λ m q. Signed.made-val (Apart.apartT
-              Answer.the-type) Laws''.the-laws ((Laws'7.val Reply.the-type Laws'4.the-laws (m .1 .1 .1 .1 .1 .1 .1 .1 .1 .1 .1 .1 .1 .1 .1 .1 .0)) ∷
+              Answer.the-type) Laws'3.the-laws ((Laws'7.val Reply.the-type Laws'4.the-laws (m .1 .1 .1 .1 .1 .1 .1 .1 .1 .1 .1 .1 .1 .1 .1 .1 .0)) ∷
               (Laws'9.val Station.the-type Laws'5.the-laws (m .1 .0)) ∷ []) (m .1 .1 .1 .1 .1 .1 .1 .1 .1 .1 .1 .1 .1 .1 .1 .1 .0, (m .1 .0, tt)) (
                 Make.made-enum Reply.the-type Laws'4.the-laws tt Laws'4.lowers (m .1 .1 .1 .1 .1 .1 .1 .1 .1 .1 .1 .1 .1 .1 .1 .1 .0) (q .0),
                 (Signed.made-struct Station.the-type Laws'5.the-laws Laws'5.lowers (m .1 .0) (q .1), tt),
               )) λ m q. Signed.made-is (Apart.apartT
-              Answer.the-type) Laws''.the-laws ((Laws'7.val Reply.the-type Laws'4.the-laws (m .1 .1 .1 .1 .1 .1 .1 .1 .1 .1 .1 .1 .1 .1 .1 .1 .0)) ∷
+              Answer.the-type) Laws'3.the-laws ((Laws'7.val Reply.the-type Laws'4.the-laws (m .1 .1 .1 .1 .1 .1 .1 .1 .1 .1 .1 .1 .1 .1 .1 .1 .0)) ∷
               (Laws'9.val Station.the-type Laws'5.the-laws (m .1 .0)) ∷ []) (m .1 .1 .1 .1 .1 .1 .1 .1 .1 .1 .1 .1 .1 .1 .1 .1 .0, (m .1 .0, tt)) (
                 Make.made-enum Reply.the-type Laws'4.the-laws tt Laws'4.lowers (m .1 .1 .1 .1 .1 .1 .1 .1 .1 .1 .1 .1 .1 .1 .1 .1 .0) (q .0),
                 (Signed.made-struct Station.the-type Laws'5.the-laws Laws'5.lowers (m .1 .0) (q .1), tt),
               )) d6
 
           d8 : Typed.Typed 𝓤 H A 𝓣 E G16 b7 Δ1 (at8 bs)
-          d8 = Typed.g-pre 𝓤 H A W 𝓣 E G16 G17 b7 Δ1 (Typed.pass T16 T17 (s14 bs)) (at7 bs) (Scalar.g-room 𝓤 H A W E G16 8 mirs.sched_core-Refusal
-              (Local.room-whole 𝓤 H A W (Declared.row Refusal.the-type) mirs.sched_core-Refusal Path'.refl)) d7
+          d8 = Typed.g-pre 𝓤 H A W 𝓣 E G16 G17 b7 Δ1 (Typed.pass T16 T17 (s14 bs)) (at7 bs) (Scalar.g-room 𝓤 H A W E G16 8 mirs.questions-Refusal
+              (Local.room-whole 𝓤 H A W (Declared.row Refusal.the-type) mirs.questions-Refusal Path'.refl)) d7
 
           d9 : Typed.Typed 𝓤 H A 𝓣 E G15 b8 Δ1 (at9 bs)
           d9 = Typed.s-seq 𝓤 H A W 𝓣 E G15 G16 b4 b7 Δ1 (Typed.pass T15 T16 (s13 bs)) (at8 bs) (Make.t-enum-make-wt 𝓤 H A W E 𝓣 Reply.the-type
-              Laws'4.the-laws Laws'4.the-plain tt G15 16 ((Scalar.oInt Syntax.w8 1) ∷ (Scalar.oAt 8 mirs.sched_core-Refusal (Laws'7.val
-              Refusal.the-type Laws'3.the-laws)) ∷ []) (λ m. Reply.enum .make (Logic.inr (Logic.inl (m .1 .1 .1 .1 .1 .1 .1 .1 .0, tt))))
-              (Reads'.room-gone 𝓤 H A mirs.sched_core-Reply) (tt, ((Whole.reads-enum 𝓤 H A W Refusal.the-type Laws'3.the-laws, Path'.refl), tt))
-              Path'.refl (λ m wa. Make.made-val Reply.the-type Laws'4.the-laws ((Laws'7.val Refusal.the-type Laws'3.the-laws (m .1 .1 .1 .1 .1 .1 .1
+              Laws'4.the-laws Laws'4.the-plain tt G15 16 ((Scalar.oInt Syntax.w8 1) ∷ (Scalar.oAt 8 mirs.questions-Refusal (Laws'7.val
+              Refusal.the-type Laws''.the-laws)) ∷ []) (λ m. Reply.enum .make (Logic.inr (Logic.inl (m .1 .1 .1 .1 .1 .1 .1 .1 .0, tt))))
+              (Reads'.room-gone 𝓤 H A mirs.sched_core-Reply) (tt, ((Whole.reads-enum 𝓤 H A W Refusal.the-type Laws''.the-laws, Path'.refl), tt))
+              Path'.refl (λ m wa. Make.made-val Reply.the-type Laws'4.the-laws ((Laws'7.val Refusal.the-type Laws''.the-laws (m .1 .1 .1 .1 .1 .1 .1
               .1 .0)) ∷ []) (Reply.enum .make (Logic.inr (Logic.inl (m .1 .1 .1 .1 .1 .1 .1 .1 .0, tt)))) (
                 Signed.made-wt Refusal.the-field
-                    Laws'3.the-field-laws (Whole.enum-wt Refusal.the-type Laws'3.the-laws (tt, (tt, (tt, (tt, (tt, (tt, (tt, (tt, (tt, (tt, tt)))))))))))
-                    (Refusal.the-type .to (m .1 .1 .1 .1 .1 .1 .1 .1 .0)),
+                    Laws''.the-field-laws (Whole.enum-wt Refusal.the-type Laws''.the-laws (
+                      tt,
+                      (
+                        tt,
+                        (
+                          tt,
+                          (
+                            tt,
+                            (
+                              tt,
+                              (
+                                tt,
+                                (
+                                  tt,
+                                  (
+                                    tt,
+                                    (
+                                      tt,
+                                      (
+                                        tt,
+                                        (
+                                          tt,
+                                          (
+                                            tt,
+                                            tt,
+                                          ),
+                                        ),
+                                      ),
+                                    ),
+                                  ),
+                                ),
+                              ),
+                            ),
+                          ),
+                        ),
+                      ),
+                    )) (Refusal.the-type .to (m .1 .1 .1 .1 .1 .1 .1 .1 .0)),
                 tt,
-              ) (wa .1)) λ m wa. Make.made-is Reply.the-type Laws'4.the-laws ((Laws'7.val
-              Refusal.the-type Laws'3.the-laws (m .1 .1 .1 .1 .1 .1 .1 .1 .0)) ∷ []) (Reply.enum .make (Logic.inr (Logic.inl (
-                m .1 .1 .1 .1 .1 .1 .1
-                    .1 .0,
+              ) (wa .1)) λ m wa. Make.made-is Reply.the-type Laws'4.the-laws
+              ((Laws'7.val Refusal.the-type Laws''.the-laws (m .1 .1 .1 .1 .1 .1 .1 .1 .0)) ∷ []) (Reply.enum .make (Logic.inr (Logic.inl (
+                m .1 .1 .1
+                    .1 .1 .1 .1 .1 .0,
                 tt,
               )))) (
-                Signed.made-wt Refusal.the-field Laws'3.the-field-laws (Whole.enum-wt Refusal.the-type Laws'3.the-laws (
+                Signed.made-wt Refusal.the-field Laws''.the-field-laws (Whole.enum-wt Refusal.the-type Laws''.the-laws (
                   tt,
-                  (
-                    tt,
-                    (
-                      tt,
-                      (tt, (tt, (tt, (tt, (tt, (tt, (tt, tt))))))),
-                    ),
-                  ),
+                  (tt, (tt, (tt, (tt, (tt, (tt, (tt, (tt, (tt, (tt, (tt, tt))))))))))),
                 )) (Refusal.the-type .to (m .1 .1 .1 .1 .1 .1 .1 .1 .0)),
                 tt,
-              ) (wa .1)) d8
+              ) (wa
+              .1)) d8
 
           d10 : Typed.Typed 𝓤 H A 𝓣 E G14 b8 Δ1 (at10 bs)
           d10 = Typed.g-pre 𝓤 H A W 𝓣 E G14 G15 b8 Δ1 (Typed.pass T14 T15 (s12 bs)) (at9 bs) (Scalar.g-room 𝓤 H A W E G14 7 mirs.Verdict
@@ -1423,14 +1453,14 @@ module _ (claims· : Claims) where
 
           d11 : Typed.Typed 𝓤 H A 𝓣 E G13 b9 Δ1 (at11 bs)
           d11 = Typed.s-seq 𝓤 H A W 𝓣 E G13 G14 b3 b8 Δ1 (Typed.pass T13 T14 (s11 bs)) (at10 bs) (CopyOut.t-copy-told 𝓤 H A W E 𝓣 (Declared.row
-              Refusal.the-type) Path'.refl (Laws'7.val Refusal.the-type Laws'3.the-laws) (Laws'7.lawful Refusal.the-type Laws'3.the-laws 𝓤 H A W tt)
-              (Laws'7.makes Refusal.the-type Laws'3.the-plain 𝓤 H A) G13 8 (Scalar.oFld 7 ((Syntax.variant 1) ∷ (Syntax.field 1) ∷ [])
-              mirs.sched_core-Refusal 1 λ v. Laws'7.val Refusal.the-type Laws'3.the-laws (v .0)) (λ m. m .1 .1 .1 .1 .1 .1 .1 .0 .0) (λ m.
+              Refusal.the-type) Path'.refl (Laws'7.val Refusal.the-type Laws''.the-laws) (Laws'7.lawful Refusal.the-type Laws''.the-laws 𝓤 H A W tt)
+              (Laws'7.makes Refusal.the-type Laws''.the-plain 𝓤 H A) G13 8 (Scalar.oFld 7 ((Syntax.variant 1) ∷ (Syntax.field 1) ∷ [])
+              mirs.questions-Refusal 1 λ v. Laws'7.val Refusal.the-type Laws''.the-laws (v .0)) (λ m. m .1 .1 .1 .1 .1 .1 .1 .0 .0) (λ m.
               Laws'7.Fields (Declared.variants Verdict.the-type) (Laws'7.spellss (Verdict.enum .parts) Laws'6.the-laws) (Verdict.the-type .to
-              (Known.at Verdict.enum 1 (m .1 .1 .1 .1 .1 .1 .1 .0)))) (Reads'.room-gone 𝓤 H A mirs.sched_core-Refusal) (
+              (Known.at Verdict.enum 1 (m .1 .1 .1 .1 .1 .1 .1 .0)))) (Reads'.room-gone 𝓤 H A mirs.questions-Refusal) (
                 Match.reads-payload 𝓤 H A W
-                    Verdict.enum Laws'6.the-laws 1 Path'.refl Path'.refl (λ v. Val.vcons (Laws'7.val Refusal.the-type Laws'3.the-laws (v .0)) Val.vnil) (λ
-                    v. Path'.refl) 0 mirs.sched_core-Refusal 1 Path'.refl,
+                    Verdict.enum Laws'6.the-laws 1 Path'.refl Path'.refl (λ v. Val.vcons (Laws'7.val Refusal.the-type Laws''.the-laws (v .0)) Val.vnil) (λ
+                    v. Path'.refl) 0 mirs.questions-Refusal 1 Path'.refl,
                 Path'.refl,
               ) Path'.refl (λ ρ m. Make'.tells-row 𝓤 H A W E ρ (Row.out 8 (G13
               .locals)) m 7 (Laws'7.Fields (Declared.variants Verdict.the-type) (Laws'7.spellss (Verdict.enum .parts) Laws'6.the-laws)
@@ -1513,8 +1543,8 @@ module _ (claims· : Claims) where
 
           d30 : Typed.Typed 𝓤 H A 𝓣 E G42 b22 Δ0 (at30 bs)
           d30 = Typed.s-seq 𝓤 H A W 𝓣 E G42 G43 b20 b21 Δ0 (Typed.pass T42 T43 (s40 bs)) (at29 bs) (Make'.t-make-told 𝓤 H A W E 𝓣 (Declared'.row
-              (Apart.apartT Answer.the-type)) Path'.refl (Laws'9.val (Apart.apartT Answer.the-type) Laws''.the-laws) (Laws'9.lawful (Apart.apartT
-              Answer.the-type) Laws''.the-laws 𝓤 H A W) (Laws'9.makes (Apart.apartT Answer.the-type) Laws''.the-plain 𝓤 H A) G42 0 ((Scalar.oAt 12
+              (Apart.apartT Answer.the-type)) Path'.refl (Laws'9.val (Apart.apartT Answer.the-type) Laws'3.the-laws) (Laws'9.lawful (Apart.apartT
+              Answer.the-type) Laws'3.the-laws 𝓤 H A W) (Laws'9.makes (Apart.apartT Answer.the-type) Laws'3.the-plain 𝓤 H A) G42 0 ((Scalar.oAt 12
               mirs.sched_core-Reply (Laws'7.val Reply.the-type Laws'4.the-laws)) ∷ (Scalar.oAt 13 mirs.sched_core-Station (Laws'9.val Station.the-type
               Laws'5.the-laws)) ∷ []) (λ m. (m .1 .1 .1 .1 .1 .1 .1 .1 .1 .1 .1 .1 .0, (m .1 .1 .1 .1 .1 .1 .1 .1 .1 .1 .1 .1 .1 .0, tt))) (λ m.
               Laws'8.Is (Declared.row Reply.the-type) (m .1 .1 .1 .1 .1 .1 .1 .1 .1 .1 .1 .1 .0) (Laws'7.vals Reply.the-type Laws'4.the-laws (m .1 .1
@@ -1541,7 +1571,7 @@ module _ (claims· : Claims) where
               .1 .1 .1 .1 .1 .0) (Laws'9.vals Station.the-type Laws'5.the-laws (m .1 .1 .1 .1 .1 .1 .1 .1 .1 .1 .1 .1 .1 .0))) (Make'.whole-is 𝓤 H A W
               E (Declared'.row Station.the-type) Path'.refl (Laws'9.val Station.the-type Laws'5.the-laws) (Laws'9.tells Station.the-type
               Laws'5.the-laws) ρ 13 (m .1 .1 .1 .1 .1 .1 .1 .1 .1 .1 .1 .1 .1 .0)))) (λ m q. Signed.made-val (Apart.apartT Answer.the-type)
-              Laws''.the-laws ((Laws'7.val Reply.the-type Laws'4.the-laws (m .1 .1 .1 .1 .1 .1 .1 .1 .1 .1 .1 .1 .0)) ∷ (Laws'9.val Station.the-type
+              Laws'3.the-laws ((Laws'7.val Reply.the-type Laws'4.the-laws (m .1 .1 .1 .1 .1 .1 .1 .1 .1 .1 .1 .1 .0)) ∷ (Laws'9.val Station.the-type
               Laws'5.the-laws (m .1 .1 .1 .1 .1 .1 .1 .1 .1 .1 .1 .1 .1 .0)) ∷ []) (
                 m .1 .1 .1 .1 .1 .1 .1 .1 .1 .1 .1 .1 .0,
                 (
@@ -1554,7 +1584,7 @@ module _ (claims· : Claims) where
                     .0),
                 (Signed.made-struct Station.the-type Laws'5.the-laws Laws'5.lowers (m .1 .1 .1 .1 .1 .1 .1 .1 .1 .1 .1 .1 .1 .0) (q .1), tt),
               )) λ m
-              q. Signed.made-is (Apart.apartT Answer.the-type) Laws''.the-laws ((Laws'7.val Reply.the-type Laws'4.the-laws (m .1 .1 .1 .1 .1 .1 .1 .1
+              q. Signed.made-is (Apart.apartT Answer.the-type) Laws'3.the-laws ((Laws'7.val Reply.the-type Laws'4.the-laws (m .1 .1 .1 .1 .1 .1 .1 .1
               .1 .1 .1 .1 .0)) ∷ (Laws'9.val Station.the-type Laws'5.the-laws (m .1 .1 .1 .1 .1 .1 .1 .1 .1 .1 .1 .1 .1 .0)) ∷ []) (
                 m .1 .1 .1 .1 .1
                     .1 .1 .1 .1 .1 .1 .1 .0,

@@ -13,10 +13,10 @@ use Rattle.enqueue_core.proofs.QueuePlan
 use Rattle.enqueue_core.proofs.QueuePlan.Laws as Laws''
 use Rattle.optional.proofs.OptU16
 use Rattle.optional.proofs.OptU16.Laws as Laws'3
+use Rattle.questions.proofs.Refusal
+use Rattle.questions.proofs.Refusal.Laws as Laws'4
 use Rattle.sched_core.proofs.Answer
-use Rattle.sched_core.proofs.Answer.Laws as Laws'4
-use Rattle.sched_core.proofs.Refusal
-use Rattle.sched_core.proofs.Refusal.Laws as Laws'5
+use Rattle.sched_core.proofs.Answer.Laws as Laws'5
 use Rattle.sched_core.proofs.Reply
 use Rattle.sched_core.proofs.Reply.Laws as Laws'6
 use Rattle.sched_core.proofs.Station
@@ -247,10 +247,10 @@ abbrev ε27 : Row.Entry
 ε27 = (22, Rows.any-gone mirs.sched_core-Reply)
 
 abbrev ε28 : Row.Entry
-ε28 = (1, Rows.any-gone mirs.sched_core-Station)
+ε28 = (12, Rows.any-gone mirs.questions-Refusal)
 
 abbrev ε29 : Row.Entry
-ε29 = (12, Rows.any-gone mirs.sched_core-Refusal)
+ε29 = (1, Rows.any-gone mirs.sched_core-Station)
 
 abbrev ε30 : Row.Entry
 ε30 = (17, Rows.any-gone mirs.sched_core-Station)
@@ -382,25 +382,25 @@ abbrev pub r : Kinds.RK 3
 r = Value.rVal record {
   ty = Declared'.row Answer.the-type;
   one = Path'.refl;
-  val = Laws'11.val Answer.the-type Laws'4.the-laws;
+  val = Laws'11.val Answer.the-type Laws'5.the-laws;
   tells = Laws'11.tells
-      Answer.the-type Laws'4.the-laws;
-  still = Laws'11.still Answer.the-type Laws'4.the-copy Exit.yes;
+      Answer.the-type Laws'5.the-laws;
+  still = Laws'11.still Answer.the-type Laws'5.the-copy Exit.yes;
   row = Rows.whole (Declared'.row Answer.the-type);
   rd = λ x. x;
   mk = λ x. x;
 } λ M 𝓤 H A W. record {
-  copies = Laws'11.copy Answer.the-type Laws'4.the-copy 𝓤 H A W;
+  copies = Laws'11.copy Answer.the-type Laws'5.the-copy 𝓤 H A W;
   lawful = Laws'11.lawful
-      Answer.the-type Laws'4.the-laws 𝓤 H A W;
-  makes = Laws'11.makes Answer.the-type Laws'4.the-plain 𝓤 H A;
+      Answer.the-type Laws'5.the-laws 𝓤 H A W;
+  makes = Laws'11.makes Answer.the-type Laws'5.the-plain 𝓤 H A;
   in-mem = Local.mem-whole 𝓤 H A W
       (Declared'.row Answer.the-type);
   of-mem = Local.whole-mem 𝓤 H A W (Declared'.row Answer.the-type);
 }
 
 abbrev pub xs : List.List Syntax.Ty
-xs = mirs.Verdict ∷ mirs.sched_core-Refusal ∷ mirs.enqueue_core-QueuePlan ∷ τ1 ∷ mirs.dl_record-Record ∷ mirs.sched_core-Reply ∷
+xs = mirs.Verdict ∷ mirs.questions-Refusal ∷ mirs.enqueue_core-QueuePlan ∷ τ1 ∷ mirs.dl_record-Record ∷ mirs.sched_core-Reply ∷
     mirs.sched_core-Station ∷ τ4 ∷ τ9 ∷ τ7 ∷ τ13 ∷ mirs.sched_core-Reply ∷ τ8 ∷ τ14 ∷ Syntax.tyUnit ∷ τ5 ∷ τ10 ∷ []
 
 abbrev pub m : Nat.ℕ
@@ -714,16 +714,16 @@ abbrev pub Claims : Type 1
 Claims = Kinds.In 2 ps·0 × Kinds.Out 2 ps·0 r·0 × Kinds.In 2 ps·1 × Kinds.Out 2 ps·1 r·1 × Kinds.In 1 ps·2 × Kinds.Out 1 ps·2 r·2
 
 abbrev pub t0 : List.List Row.Entry
-t0 = ε24 ∷ ε36 ∷ ε16 ∷ ε45 ∷ ε18 ∷ ε19 ∷ ε20 ∷ ε32 ∷ ε43 ∷ ε21 ∷ ε48 ∷ ε13 ∷ ε29 ∷ ε35 ∷ ε4 ∷ ε25 ∷ []
+t0 = ε24 ∷ ε36 ∷ ε16 ∷ ε45 ∷ ε18 ∷ ε19 ∷ ε20 ∷ ε32 ∷ ε43 ∷ ε21 ∷ ε48 ∷ ε13 ∷ ε28 ∷ ε35 ∷ ε4 ∷ ε25 ∷ []
 
 abbrev pub t1 : List.List Row.Entry
 t1 = ε26 ∷ ε30 ∷ ε5 ∷ ε6 ∷ ε7 ∷ ε10 ∷ ε27 ∷ ε8 ∷ ε11 ∷ ε14 ∷ ε9 ∷ ε12 ∷ []
 
 abbrev pub t2 : List.List Row.Entry
-t2 = (0, Rows.whole (Declared'.row Answer.the-type)) ∷ ε28 ∷ ε16 ∷ ε45 ∷ ε0 ∷ ε1 ∷ ε2 ∷ ε22 ∷ ε33 ∷ ε3 ∷ ε48 ∷ ε13 ∷ ε29 ∷ ε35 ∷ ε4 ∷ ε25 ∷ []
+t2 = (0, Rows.whole (Declared'.row Answer.the-type)) ∷ ε29 ∷ ε16 ∷ ε45 ∷ ε0 ∷ ε1 ∷ ε2 ∷ ε22 ∷ ε33 ∷ ε3 ∷ ε48 ∷ ε13 ∷ ε28 ∷ ε35 ∷ ε4 ∷ ε25 ∷ []
 
 abbrev pub t3 : List.List Row.Entry
-t3 = ε24 ∷ ε36 ∷ ε44 ∷ ε45 ∷ ε18 ∷ ε19 ∷ ε20 ∷ ε32 ∷ ε43 ∷ ε21 ∷ ε48 ∷ ε13 ∷ ε29 ∷ ε35 ∷ ε4 ∷ ε25 ∷ []
+t3 = ε24 ∷ ε36 ∷ ε44 ∷ ε45 ∷ ε18 ∷ ε19 ∷ ε20 ∷ ε32 ∷ ε43 ∷ ε21 ∷ ε48 ∷ ε13 ∷ ε28 ∷ ε35 ∷ ε4 ∷ ε25 ∷ []
 
 abbrev pub t4 : List.List Row.Entry
 t4 = ε26 ∷ ε30 ∷ (18, Relend.ssptr in-Record.row τ4 3) ∷ ε6 ∷ ε7 ∷ ε10 ∷ ε27 ∷ ε8 ∷ ε11 ∷ ε14 ∷ ε9 ∷ ε12 ∷ []
@@ -732,7 +732,7 @@ abbrev pub t5 : List.List Row.Entry
 t5 = ε26 ∷ ε30 ∷ ε5 ∷ ε17 ∷ ε7 ∷ ε10 ∷ ε27 ∷ ε8 ∷ ε11 ∷ ε14 ∷ ε9 ∷ ε12 ∷ []
 
 abbrev pub t6 : List.List Row.Entry
-t6 = ε24 ∷ ε36 ∷ ε44 ∷ ε50 ∷ ε18 ∷ ε19 ∷ ε20 ∷ ε32 ∷ ε43 ∷ ε21 ∷ ε48 ∷ ε13 ∷ ε29 ∷ ε35 ∷ ε4 ∷ ε25 ∷ []
+t6 = ε24 ∷ ε36 ∷ ε44 ∷ ε50 ∷ ε18 ∷ ε19 ∷ ε20 ∷ ε32 ∷ ε43 ∷ ε21 ∷ ε48 ∷ ε13 ∷ ε28 ∷ ε35 ∷ ε4 ∷ ε25 ∷ []
 
 abbrev pub t7 : List.List Row.Entry
 t7 = ε26 ∷ ε30 ∷ ε5 ∷ ε17 ∷ (20, Relend.ssptr (Referent.rtF (Referent.fInt Syntax.w8)) τ7 4) ∷ ε10 ∷ ε27 ∷ ε8 ∷ ε11 ∷ ε14 ∷ ε9 ∷ ε12 ∷ []
@@ -741,25 +741,25 @@ abbrev pub t8 : List.List Row.Entry
 t8 = ε26 ∷ ε30 ∷ ε5 ∷ ε17 ∷ ε7 ∷ ε47 ∷ ε27 ∷ ε8 ∷ ε11 ∷ ε14 ∷ ε9 ∷ ε12 ∷ []
 
 abbrev pub t9 : List.List Row.Entry
-t9 = ε24 ∷ ε36 ∷ ε44 ∷ ε50 ∷ ε18 ∷ ε19 ∷ ε20 ∷ ε32 ∷ ε43 ∷ ε21 ∷ ε48 ∷ ε37 ∷ ε29 ∷ ε35 ∷ ε4 ∷ ε25 ∷ []
+t9 = ε24 ∷ ε36 ∷ ε44 ∷ ε50 ∷ ε18 ∷ ε19 ∷ ε20 ∷ ε32 ∷ ε43 ∷ ε21 ∷ ε48 ∷ ε37 ∷ ε28 ∷ ε35 ∷ ε4 ∷ ε25 ∷ []
 
 abbrev pub t10 : List.List Row.Entry
 t10 = ε26 ∷ ε30 ∷ ε5 ∷ ε6 ∷ ε7 ∷ ε47 ∷ ε27 ∷ ε8 ∷ ε11 ∷ ε14 ∷ ε9 ∷ ε12 ∷ []
 
 abbrev pub t11 : List.List Row.Entry
-t11 = ε24 ∷ ε36 ∷ ε16 ∷ ε50 ∷ ε18 ∷ ε19 ∷ ε20 ∷ ε32 ∷ ε43 ∷ ε21 ∷ ε48 ∷ ε37 ∷ ε29 ∷ ε35 ∷ ε4 ∷ ε25 ∷ []
+t11 = ε24 ∷ ε36 ∷ ε16 ∷ ε50 ∷ ε18 ∷ ε19 ∷ ε20 ∷ ε32 ∷ ε43 ∷ ε21 ∷ ε48 ∷ ε37 ∷ ε28 ∷ ε35 ∷ ε4 ∷ ε25 ∷ []
 
 abbrev pub t12 : List.List Row.Entry
-t12 = ε24 ∷ ε36 ∷ ε16 ∷ ε45 ∷ ε18 ∷ ε19 ∷ ε20 ∷ ε32 ∷ ε43 ∷ ε21 ∷ ε48 ∷ ε37 ∷ ε29 ∷ ε35 ∷ ε4 ∷ ε25 ∷ []
+t12 = ε24 ∷ ε36 ∷ ε16 ∷ ε45 ∷ ε18 ∷ ε19 ∷ ε20 ∷ ε32 ∷ ε43 ∷ ε21 ∷ ε48 ∷ ε37 ∷ ε28 ∷ ε35 ∷ ε4 ∷ ε25 ∷ []
 
 abbrev pub t13 : List.List Row.Entry
-t13 = ε24 ∷ ε36 ∷ ε16 ∷ ε45 ∷ ε18 ∷ ε19 ∷ ε20 ∷ ε32 ∷ ε43 ∷ ε21 ∷ ε48 ∷ ε31 ∷ ε29 ∷ ε35 ∷ ε4 ∷ ε25 ∷ []
+t13 = ε24 ∷ ε36 ∷ ε16 ∷ ε45 ∷ ε18 ∷ ε19 ∷ ε20 ∷ ε32 ∷ ε43 ∷ ε21 ∷ ε48 ∷ ε31 ∷ ε28 ∷ ε35 ∷ ε4 ∷ ε25 ∷ []
 
 abbrev pub t14 : List.List Row.Entry
-t14 = ε24 ∷ ε36 ∷ ε16 ∷ ε45 ∷ ε18 ∷ ε19 ∷ ε20 ∷ ε22 ∷ ε43 ∷ ε21 ∷ ε48 ∷ ε31 ∷ ε29 ∷ ε35 ∷ ε4 ∷ ε25 ∷ []
+t14 = ε24 ∷ ε36 ∷ ε16 ∷ ε45 ∷ ε18 ∷ ε19 ∷ ε20 ∷ ε22 ∷ ε43 ∷ ε21 ∷ ε48 ∷ ε31 ∷ ε28 ∷ ε35 ∷ ε4 ∷ ε25 ∷ []
 
 abbrev pub t15 : List.List Row.Entry
-t15 = ε24 ∷ ε36 ∷ ε16 ∷ ε45 ∷ ε18 ∷ ε19 ∷ ε20 ∷ ε22 ∷ ε33 ∷ ε21 ∷ ε48 ∷ ε31 ∷ ε29 ∷ ε35 ∷ ε4 ∷ ε25 ∷ []
+t15 = ε24 ∷ ε36 ∷ ε16 ∷ ε45 ∷ ε18 ∷ ε19 ∷ ε20 ∷ ε22 ∷ ε33 ∷ ε21 ∷ ε48 ∷ ε31 ∷ ε28 ∷ ε35 ∷ ε4 ∷ ε25 ∷ []
 
 abbrev pub t16 : List.List Row.Entry
 t16 = ε24 ∷ ε36 ∷ ε16 ∷ ε45 ∷ ε18 ∷ ε19 ∷ ε20 ∷ ε22 ∷ ε33 ∷ ε21 ∷ ε48 ∷ ε31 ∷ ε38 ∷ ε35 ∷ ε4 ∷ ε25 ∷ []
@@ -771,28 +771,28 @@ abbrev pub t18 : List.List Row.Entry
 t18 = ε26 ∷ ε30 ∷ ε5 ∷ ε6 ∷ ε7 ∷ ε10 ∷ (22, Rows.whole (Declared.row Reply.the-type)) ∷ ε8 ∷ ε11 ∷ ε14 ∷ ε9 ∷ ε12 ∷ []
 
 abbrev pub t19 : List.List Row.Entry
-t19 = ε24 ∷ ε36 ∷ ε16 ∷ ε45 ∷ ε18 ∷ ε19 ∷ ε20 ∷ ε22 ∷ ε33 ∷ ε21 ∷ ε48 ∷ ε13 ∷ ε29 ∷ ε35 ∷ ε4 ∷ ε25 ∷ []
+t19 = ε24 ∷ ε36 ∷ ε16 ∷ ε45 ∷ ε18 ∷ ε19 ∷ ε20 ∷ ε22 ∷ ε33 ∷ ε21 ∷ ε48 ∷ ε13 ∷ ε28 ∷ ε35 ∷ ε4 ∷ ε25 ∷ []
 
 abbrev pub t20 : List.List Row.Entry
-t20 = ε46 ∷ ε36 ∷ ε16 ∷ ε45 ∷ ε18 ∷ ε19 ∷ ε20 ∷ ε22 ∷ ε33 ∷ ε21 ∷ ε48 ∷ ε13 ∷ ε29 ∷ ε35 ∷ ε4 ∷ ε25 ∷ []
+t20 = ε46 ∷ ε36 ∷ ε16 ∷ ε45 ∷ ε18 ∷ ε19 ∷ ε20 ∷ ε22 ∷ ε33 ∷ ε21 ∷ ε48 ∷ ε13 ∷ ε28 ∷ ε35 ∷ ε4 ∷ ε25 ∷ []
 
 abbrev pub t21 : List.List Row.Entry
-t21 = ε46 ∷ ε28 ∷ ε16 ∷ ε45 ∷ ε18 ∷ ε19 ∷ ε20 ∷ ε22 ∷ ε33 ∷ ε21 ∷ ε48 ∷ ε13 ∷ ε29 ∷ ε35 ∷ ε4 ∷ ε25 ∷ []
+t21 = ε46 ∷ ε29 ∷ ε16 ∷ ε45 ∷ ε18 ∷ ε19 ∷ ε20 ∷ ε22 ∷ ε33 ∷ ε21 ∷ ε48 ∷ ε13 ∷ ε28 ∷ ε35 ∷ ε4 ∷ ε25 ∷ []
 
 abbrev pub t22 : List.List Row.Entry
-t22 = ε46 ∷ ε28 ∷ ε16 ∷ ε45 ∷ ε0 ∷ ε19 ∷ ε20 ∷ ε22 ∷ ε33 ∷ ε21 ∷ ε48 ∷ ε13 ∷ ε29 ∷ ε35 ∷ ε4 ∷ ε25 ∷ []
+t22 = ε46 ∷ ε29 ∷ ε16 ∷ ε45 ∷ ε0 ∷ ε19 ∷ ε20 ∷ ε22 ∷ ε33 ∷ ε21 ∷ ε48 ∷ ε13 ∷ ε28 ∷ ε35 ∷ ε4 ∷ ε25 ∷ []
 
 abbrev pub t23 : List.List Row.Entry
-t23 = ε46 ∷ ε28 ∷ ε16 ∷ ε45 ∷ ε0 ∷ ε1 ∷ ε20 ∷ ε22 ∷ ε33 ∷ ε21 ∷ ε48 ∷ ε13 ∷ ε29 ∷ ε35 ∷ ε4 ∷ ε25 ∷ []
+t23 = ε46 ∷ ε29 ∷ ε16 ∷ ε45 ∷ ε0 ∷ ε1 ∷ ε20 ∷ ε22 ∷ ε33 ∷ ε21 ∷ ε48 ∷ ε13 ∷ ε28 ∷ ε35 ∷ ε4 ∷ ε25 ∷ []
 
 abbrev pub t24 : List.List Row.Entry
-t24 = ε46 ∷ ε28 ∷ ε16 ∷ ε45 ∷ ε0 ∷ ε1 ∷ ε2 ∷ ε22 ∷ ε33 ∷ ε21 ∷ ε48 ∷ ε13 ∷ ε29 ∷ ε35 ∷ ε4 ∷ ε25 ∷ []
+t24 = ε46 ∷ ε29 ∷ ε16 ∷ ε45 ∷ ε0 ∷ ε1 ∷ ε2 ∷ ε22 ∷ ε33 ∷ ε21 ∷ ε48 ∷ ε13 ∷ ε28 ∷ ε35 ∷ ε4 ∷ ε25 ∷ []
 
 abbrev pub t25 : List.List Row.Entry
-t25 = ε46 ∷ ε28 ∷ ε16 ∷ ε45 ∷ ε0 ∷ ε1 ∷ ε2 ∷ ε22 ∷ ε33 ∷ ε3 ∷ ε48 ∷ ε13 ∷ ε29 ∷ ε35 ∷ ε4 ∷ ε25 ∷ []
+t25 = ε46 ∷ ε29 ∷ ε16 ∷ ε45 ∷ ε0 ∷ ε1 ∷ ε2 ∷ ε22 ∷ ε33 ∷ ε3 ∷ ε48 ∷ ε13 ∷ ε28 ∷ ε35 ∷ ε4 ∷ ε25 ∷ []
 
 abbrev pub t26 : List.List Row.Entry
-t26 = ε24 ∷ ε36 ∷ ε16 ∷ ε49 ∷ ε18 ∷ ε19 ∷ ε20 ∷ ε32 ∷ ε43 ∷ ε21 ∷ ε48 ∷ ε13 ∷ ε29 ∷ ε35 ∷ ε4 ∷ ε25 ∷ []
+t26 = ε24 ∷ ε36 ∷ ε16 ∷ ε49 ∷ ε18 ∷ ε19 ∷ ε20 ∷ ε32 ∷ ε43 ∷ ε21 ∷ ε48 ∷ ε13 ∷ ε28 ∷ ε35 ∷ ε4 ∷ ε25 ∷ []
 
 abbrev pub t27 : List.List Row.Entry
 t27 = ε26 ∷ ε30 ∷ ε5 ∷ ε6 ∷ ε7 ∷ ε10 ∷ ε27 ∷ (23, Relend.msptr (Referent.rtF (Referent.fInt Syntax.w8)) τ8 5) ∷ ε11 ∷ ε14 ∷ ε9 ∷ ε12 ∷ []
@@ -801,31 +801,31 @@ abbrev pub t28 : List.List Row.Entry
 t28 = ε26 ∷ ε30 ∷ ε5 ∷ ε6 ∷ ε7 ∷ ε10 ∷ ε27 ∷ ε8 ∷ (24, Mut.mslice (Referent.rtF (Referent.fInt Syntax.w8)) τ8 5) ∷ ε14 ∷ ε9 ∷ ε12 ∷ []
 
 abbrev pub t29 : List.List Row.Entry
-t29 = ε24 ∷ ε36 ∷ ε16 ∷ ε49 ∷ ε18 ∷ ε19 ∷ ε20 ∷ ε32 ∷ ε43 ∷ ε21 ∷ ε48 ∷ ε13 ∷ ε29 ∷ ε41 ∷ ε4 ∷ ε25 ∷ []
+t29 = ε24 ∷ ε36 ∷ ε16 ∷ ε49 ∷ ε18 ∷ ε19 ∷ ε20 ∷ ε32 ∷ ε43 ∷ ε21 ∷ ε48 ∷ ε13 ∷ ε28 ∷ ε41 ∷ ε4 ∷ ε25 ∷ []
 
 abbrev pub t30 : List.List Row.Entry
 t30 = ε26 ∷ ε30 ∷ ε5 ∷ ε6 ∷ ε7 ∷ ε10 ∷ ε27 ∷ ε8 ∷ (24, Mut.msleft (Referent.rtF (Referent.fInt Syntax.w8)) τ8) ∷ ε14 ∷ ε9 ∷ ε12 ∷ []
 
 abbrev pub t31 : List.List Row.Entry
-t31 = ε24 ∷ ε28 ∷ ε16 ∷ ε49 ∷ ε18 ∷ ε19 ∷ ε20 ∷ ε32 ∷ ε43 ∷ ε21 ∷ ε48 ∷ ε13 ∷ ε29 ∷ ε41 ∷ ε4 ∷ ε25 ∷ []
+t31 = ε24 ∷ ε29 ∷ ε16 ∷ ε49 ∷ ε18 ∷ ε19 ∷ ε20 ∷ ε32 ∷ ε43 ∷ ε21 ∷ ε48 ∷ ε13 ∷ ε28 ∷ ε41 ∷ ε4 ∷ ε25 ∷ []
 
 abbrev pub t32 : List.List Row.Entry
-t32 = ε24 ∷ ε28 ∷ ε16 ∷ ε49 ∷ ε18 ∷ ε19 ∷ ε20 ∷ ε22 ∷ ε43 ∷ ε21 ∷ ε48 ∷ ε13 ∷ ε29 ∷ ε41 ∷ ε4 ∷ ε25 ∷ []
+t32 = ε24 ∷ ε29 ∷ ε16 ∷ ε49 ∷ ε18 ∷ ε19 ∷ ε20 ∷ ε22 ∷ ε43 ∷ ε21 ∷ ε48 ∷ ε13 ∷ ε28 ∷ ε41 ∷ ε4 ∷ ε25 ∷ []
 
 abbrev pub t33 : List.List Row.Entry
-t33 = ε24 ∷ ε28 ∷ ε16 ∷ ε49 ∷ ε18 ∷ ε19 ∷ ε20 ∷ ε22 ∷ ε33 ∷ ε21 ∷ ε48 ∷ ε13 ∷ ε29 ∷ ε41 ∷ ε4 ∷ ε25 ∷ []
+t33 = ε24 ∷ ε29 ∷ ε16 ∷ ε49 ∷ ε18 ∷ ε19 ∷ ε20 ∷ ε22 ∷ ε33 ∷ ε21 ∷ ε48 ∷ ε13 ∷ ε28 ∷ ε41 ∷ ε4 ∷ ε25 ∷ []
 
 abbrev pub t34 : List.List Row.Entry
-t34 = ε24 ∷ ε28 ∷ ε16 ∷ ε45 ∷ ε18 ∷ ε19 ∷ ε20 ∷ ε22 ∷ ε33 ∷ ε21 ∷ ε48 ∷ ε13 ∷ ε29 ∷ ε41 ∷ ε4 ∷ ε25 ∷ []
+t34 = ε24 ∷ ε29 ∷ ε16 ∷ ε45 ∷ ε18 ∷ ε19 ∷ ε20 ∷ ε22 ∷ ε33 ∷ ε21 ∷ ε48 ∷ ε13 ∷ ε28 ∷ ε41 ∷ ε4 ∷ ε25 ∷ []
 
 abbrev pub t35 : List.List Row.Entry
-t35 = ε24 ∷ ε28 ∷ ε16 ∷ ε45 ∷ ε18 ∷ ε19 ∷ ε20 ∷ ε22 ∷ ε33 ∷ ε21 ∷ ε48 ∷ ε13 ∷ ε29 ∷ ε41 ∷ ε23 ∷ ε25 ∷ []
+t35 = ε24 ∷ ε29 ∷ ε16 ∷ ε45 ∷ ε18 ∷ ε19 ∷ ε20 ∷ ε22 ∷ ε33 ∷ ε21 ∷ ε48 ∷ ε13 ∷ ε28 ∷ ε41 ∷ ε23 ∷ ε25 ∷ []
 
 abbrev pub t36 : List.List Row.Entry
-t36 = ε24 ∷ ε28 ∷ ε16 ∷ ε45 ∷ ε18 ∷ ε19 ∷ ε20 ∷ ε22 ∷ ε33 ∷ ε21 ∷ ε48 ∷ ε13 ∷ ε29 ∷ ε41 ∷ ε23 ∷ ε39 ∷ []
+t36 = ε24 ∷ ε29 ∷ ε16 ∷ ε45 ∷ ε18 ∷ ε19 ∷ ε20 ∷ ε22 ∷ ε33 ∷ ε21 ∷ ε48 ∷ ε13 ∷ ε28 ∷ ε41 ∷ ε23 ∷ ε39 ∷ []
 
 abbrev pub t37 : List.List Row.Entry
-t37 = ε24 ∷ ε28 ∷ ε42 ∷ ε45 ∷ ε18 ∷ ε19 ∷ ε20 ∷ ε22 ∷ ε33 ∷ ε21 ∷ ε48 ∷ ε13 ∷ ε29 ∷ ε41 ∷ ε23 ∷ ε39 ∷ []
+t37 = ε24 ∷ ε29 ∷ ε42 ∷ ε45 ∷ ε18 ∷ ε19 ∷ ε20 ∷ ε22 ∷ ε33 ∷ ε21 ∷ ε48 ∷ ε13 ∷ ε28 ∷ ε41 ∷ ε23 ∷ ε39 ∷ []
 
 abbrev pub t38 : List.List Row.Entry
 t38 = ε26 ∷ ε30 ∷ ε5 ∷ ε6 ∷ ε7 ∷ ε10 ∷ ε27 ∷ ε8 ∷ ε11 ∷ ε14 ∷ (26, Relend.msptr in-Record.row τ5 6) ∷ ε12 ∷ []
@@ -837,7 +837,7 @@ abbrev pub t40 : List.List Row.Entry
 t40 = ε26 ∷ ε30 ∷ ε5 ∷ ε6 ∷ ε7 ∷ ε10 ∷ ε27 ∷ ε8 ∷ ε11 ∷ (25, Rows.sc-here Row.sUnit) ∷ ε9 ∷ ε15 ∷ []
 
 abbrev pub t41 : List.List Row.Entry
-t41 = ε24 ∷ ε28 ∷ ε42 ∷ ε45 ∷ ε18 ∷ ε19 ∷ ε20 ∷ ε22 ∷ ε33 ∷ ε21 ∷ ε48 ∷ ε13 ∷ ε29 ∷ ε41 ∷ ε23 ∷ ε25 ∷ []
+t41 = ε24 ∷ ε29 ∷ ε42 ∷ ε45 ∷ ε18 ∷ ε19 ∷ ε20 ∷ ε22 ∷ ε33 ∷ ε21 ∷ ε48 ∷ ε13 ∷ ε28 ∷ ε41 ∷ ε23 ∷ ε25 ∷ []
 
 abbrev pub t42 : List.List Row.Entry
 t42 = ε26 ∷ ε30 ∷ ε5 ∷ ε6 ∷ ε7 ∷ ε10 ∷ ε27 ∷ ε8 ∷ ε11 ∷ ε14 ∷ ε9 ∷ ε15 ∷ []
@@ -849,10 +849,10 @@ abbrev pub t44 : List.List Row.Entry
 t44 = ε34 ∷ ε40 ∷ ε5 ∷ ε6 ∷ ε7 ∷ ε10 ∷ ε27 ∷ ε8 ∷ ε11 ∷ ε14 ∷ ε9 ∷ ε12 ∷ []
 
 abbrev pub t45 : List.List Row.Entry
-t45 = ε24 ∷ ε28 ∷ ε16 ∷ ε45 ∷ ε18 ∷ ε19 ∷ ε20 ∷ ε22 ∷ ε33 ∷ ε21 ∷ ε48 ∷ ε13 ∷ ε29 ∷ ε35 ∷ ε23 ∷ ε25 ∷ []
+t45 = ε24 ∷ ε29 ∷ ε16 ∷ ε45 ∷ ε18 ∷ ε19 ∷ ε20 ∷ ε22 ∷ ε33 ∷ ε21 ∷ ε48 ∷ ε13 ∷ ε28 ∷ ε35 ∷ ε23 ∷ ε25 ∷ []
 
 abbrev pub t46 : List.List Row.Entry
-t46 = ε46 ∷ ε28 ∷ ε16 ∷ ε45 ∷ ε18 ∷ ε19 ∷ ε20 ∷ ε22 ∷ ε33 ∷ ε21 ∷ ε48 ∷ ε13 ∷ ε29 ∷ ε35 ∷ ε23 ∷ ε25 ∷ []
+t46 = ε46 ∷ ε29 ∷ ε16 ∷ ε45 ∷ ε18 ∷ ε19 ∷ ε20 ∷ ε22 ∷ ε33 ∷ ε21 ∷ ε48 ∷ ε13 ∷ ε28 ∷ ε35 ∷ ε23 ∷ ε25 ∷ []
 
 abbrev pub t47 : List.List Row.Entry
 t47 = ε26 ∷ ε40 ∷ ε5 ∷ ε6 ∷ ε7 ∷ ε10 ∷ ε27 ∷ ε8 ∷ ε11 ∷ ε14 ∷ ε9 ∷ ε12 ∷ []
@@ -1115,7 +1115,7 @@ module _ (claims· : Claims) where
   s23 = λ bs. Make.n-enum-make Reply.the-type T25 22 λ m. Reply.enum .make (Logic.inr (Logic.inl (m .1 .1 .1 .1 .1 .1 .1 .1 .1 .1 .1 .1 .0, tt)))
 
   abbrev s24 : (bs : List.List Nat.ℕ) → Typed.Mo T26 → Typed.Mo T27
-  s24 = λ bs. Scalar.n-room T26 12 mirs.sched_core-Refusal
+  s24 = λ bs. Scalar.n-room T26 12 mirs.questions-Refusal
 
   abbrev s25 : (bs : List.List Nat.ℕ) → Typed.Mo T27 → Typed.Mo T28
   s25 = λ bs. Make'.n-make (Declared'.row (Apart.apartT Answer.the-type)) T27 0 λ m. (
@@ -1548,14 +1548,14 @@ module _ (claims· : Claims) where
       module _ (κs : Lifetimes.Lfts 3) (qs : Lifetimes.Shares 3) where
         abbrev g3 : List.List Row.Entry
         g3 = ε24 ∷ ε36 ∷ (2, Reshare.mslice-owedS in-Record.row τ6 0 3 (Row.lease (κs .0) (qs .0))) ∷ ε45 ∷ ε18 ∷ ε19 ∷ ε20 ∷ ε32 ∷ ε43 ∷ ε21 ∷ ε48 ∷
-            ε13 ∷ ε29 ∷ ε35 ∷ ε4 ∷ ε25 ∷ []
+            ε13 ∷ ε28 ∷ ε35 ∷ ε4 ∷ ε25 ∷ []
 
         abbrev g6 : List.List Row.Entry
         g6 = ε24 ∷ ε36 ∷ (2, Reshare.mslice-owedS in-Record.row τ6 0 3 (Row.lease (κs .0) (qs .0))) ∷ (
           3,
           Reshare.mslice-owedS (Referent.rtF
               (Referent.fInt Syntax.w8)) τ11 1 4 (Row.lease (κs .1 .0) (qs .1 .0)),
-        ) ∷ ε18 ∷ ε19 ∷ ε20 ∷ ε32 ∷ ε43 ∷ ε21 ∷ ε48 ∷ ε13 ∷ ε29 ∷ ε35 ∷ ε4 ∷
+        ) ∷ ε18 ∷ ε19 ∷ ε20 ∷ ε32 ∷ ε43 ∷ ε21 ∷ ε48 ∷ ε13 ∷ ε28 ∷ ε35 ∷ ε4 ∷
             ε25 ∷ []
 
         abbrev g9 : List.List Row.Entry
@@ -1563,40 +1563,40 @@ module _ (claims· : Claims) where
           3,
           Reshare.mslice-owedS (Referent.rtF
               (Referent.fInt Syntax.w8)) τ11 1 4 (Row.lease (κs .1 .0) (qs .1 .0)),
-        ) ∷ ε18 ∷ ε19 ∷ ε20 ∷ ε32 ∷ ε43 ∷ ε21 ∷ ε48 ∷ ε37 ∷ ε29 ∷ ε35 ∷ ε4 ∷
+        ) ∷ ε18 ∷ ε19 ∷ ε20 ∷ ε32 ∷ ε43 ∷ ε21 ∷ ε48 ∷ ε37 ∷ ε28 ∷ ε35 ∷ ε4 ∷
             ε25 ∷ []
 
         abbrev g11 : List.List Row.Entry
         g11 = ε24 ∷ ε36 ∷ ε16 ∷ (3, Reshare.mslice-owedS (Referent.rtF (Referent.fInt Syntax.w8)) τ11 1 4 (Row.lease (κs .1 .0) (qs .1 .0))) ∷ ε18 ∷
-            ε19 ∷ ε20 ∷ ε32 ∷ ε43 ∷ ε21 ∷ ε48 ∷ ε37 ∷ ε29 ∷ ε35 ∷ ε4 ∷ ε25 ∷ []
+            ε19 ∷ ε20 ∷ ε32 ∷ ε43 ∷ ε21 ∷ ε48 ∷ ε37 ∷ ε28 ∷ ε35 ∷ ε4 ∷ ε25 ∷ []
 
         abbrev g26 : List.List Row.Entry
         g26 = ε24 ∷ ε36 ∷ ε16 ∷ (3, Relend.mslice-owed (Referent.rtF (Referent.fInt Syntax.w8)) τ11 1 5 (Row.lease (κs .1 .0) (qs .1 .0))) ∷ ε18 ∷ ε19
-            ∷ ε20 ∷ ε32 ∷ ε43 ∷ ε21 ∷ ε48 ∷ ε13 ∷ ε29 ∷ ε35 ∷ ε4 ∷ ε25 ∷ []
+            ∷ ε20 ∷ ε32 ∷ ε43 ∷ ε21 ∷ ε48 ∷ ε13 ∷ ε28 ∷ ε35 ∷ ε4 ∷ ε25 ∷ []
 
         abbrev g29 : List.List Row.Entry
         g29 = ε24 ∷ ε36 ∷ ε16 ∷ (3, Relend.mslice-owed (Referent.rtF (Referent.fInt Syntax.w8)) τ11 1 5 (Row.lease (κs .1 .0) (qs .1 .0))) ∷ ε18 ∷ ε19
-            ∷ ε20 ∷ ε32 ∷ ε43 ∷ ε21 ∷ ε48 ∷ ε13 ∷ ε29 ∷ ε41 ∷ ε4 ∷ ε25 ∷ []
+            ∷ ε20 ∷ ε32 ∷ ε43 ∷ ε21 ∷ ε48 ∷ ε13 ∷ ε28 ∷ ε41 ∷ ε4 ∷ ε25 ∷ []
 
         abbrev g31 : List.List Row.Entry
-        g31 = ε24 ∷ ε28 ∷ ε16 ∷ (3, Relend.mslice-owed (Referent.rtF (Referent.fInt Syntax.w8)) τ11 1 5 (Row.lease (κs .1 .0) (qs .1 .0))) ∷ ε18 ∷ ε19
-            ∷ ε20 ∷ ε32 ∷ ε43 ∷ ε21 ∷ ε48 ∷ ε13 ∷ ε29 ∷ ε41 ∷ ε4 ∷ ε25 ∷ []
+        g31 = ε24 ∷ ε29 ∷ ε16 ∷ (3, Relend.mslice-owed (Referent.rtF (Referent.fInt Syntax.w8)) τ11 1 5 (Row.lease (κs .1 .0) (qs .1 .0))) ∷ ε18 ∷ ε19
+            ∷ ε20 ∷ ε32 ∷ ε43 ∷ ε21 ∷ ε48 ∷ ε13 ∷ ε28 ∷ ε41 ∷ ε4 ∷ ε25 ∷ []
 
         abbrev g32 : List.List Row.Entry
-        g32 = ε24 ∷ ε28 ∷ ε16 ∷ (3, Relend.mslice-owed (Referent.rtF (Referent.fInt Syntax.w8)) τ11 1 5 (Row.lease (κs .1 .0) (qs .1 .0))) ∷ ε18 ∷ ε19
-            ∷ ε20 ∷ ε22 ∷ ε43 ∷ ε21 ∷ ε48 ∷ ε13 ∷ ε29 ∷ ε41 ∷ ε4 ∷ ε25 ∷ []
+        g32 = ε24 ∷ ε29 ∷ ε16 ∷ (3, Relend.mslice-owed (Referent.rtF (Referent.fInt Syntax.w8)) τ11 1 5 (Row.lease (κs .1 .0) (qs .1 .0))) ∷ ε18 ∷ ε19
+            ∷ ε20 ∷ ε22 ∷ ε43 ∷ ε21 ∷ ε48 ∷ ε13 ∷ ε28 ∷ ε41 ∷ ε4 ∷ ε25 ∷ []
 
         abbrev g33 : List.List Row.Entry
-        g33 = ε24 ∷ ε28 ∷ ε16 ∷ (3, Relend.mslice-owed (Referent.rtF (Referent.fInt Syntax.w8)) τ11 1 5 (Row.lease (κs .1 .0) (qs .1 .0))) ∷ ε18 ∷ ε19
-            ∷ ε20 ∷ ε22 ∷ ε33 ∷ ε21 ∷ ε48 ∷ ε13 ∷ ε29 ∷ ε41 ∷ ε4 ∷ ε25 ∷ []
+        g33 = ε24 ∷ ε29 ∷ ε16 ∷ (3, Relend.mslice-owed (Referent.rtF (Referent.fInt Syntax.w8)) τ11 1 5 (Row.lease (κs .1 .0) (qs .1 .0))) ∷ ε18 ∷ ε19
+            ∷ ε20 ∷ ε22 ∷ ε33 ∷ ε21 ∷ ε48 ∷ ε13 ∷ ε28 ∷ ε41 ∷ ε4 ∷ ε25 ∷ []
 
         abbrev g37 : List.List Row.Entry
-        g37 = ε24 ∷ ε28 ∷ (2, Relend.mslice-owed in-Record.row τ6 0 6 (Row.lease (κs .0) (qs .0))) ∷ ε45 ∷ ε18 ∷ ε19 ∷ ε20 ∷ ε22 ∷ ε33 ∷ ε21 ∷ ε48 ∷
-            ε13 ∷ ε29 ∷ ε41 ∷ ε23 ∷ ε39 ∷ []
+        g37 = ε24 ∷ ε29 ∷ (2, Relend.mslice-owed in-Record.row τ6 0 6 (Row.lease (κs .0) (qs .0))) ∷ ε45 ∷ ε18 ∷ ε19 ∷ ε20 ∷ ε22 ∷ ε33 ∷ ε21 ∷ ε48 ∷
+            ε13 ∷ ε28 ∷ ε41 ∷ ε23 ∷ ε39 ∷ []
 
         abbrev g41 : List.List Row.Entry
-        g41 = ε24 ∷ ε28 ∷ (2, Relend.mslice-owed in-Record.row τ6 0 6 (Row.lease (κs .0) (qs .0))) ∷ ε45 ∷ ε18 ∷ ε19 ∷ ε20 ∷ ε22 ∷ ε33 ∷ ε21 ∷ ε48 ∷
-            ε13 ∷ ε29 ∷ ε41 ∷ ε23 ∷ ε25 ∷ []
+        g41 = ε24 ∷ ε29 ∷ (2, Relend.mslice-owed in-Record.row τ6 0 6 (Row.lease (κs .0) (qs .0))) ∷ ε45 ∷ ε18 ∷ ε19 ∷ ε20 ∷ ε22 ∷ ε33 ∷ ε21 ∷ ε48 ∷
+            ε13 ∷ ε28 ∷ ε41 ∷ ε23 ∷ ε25 ∷ []
 
         abbrev G0 : Row.Cx
         G0 = record {
@@ -2147,8 +2147,8 @@ module _ (claims· : Claims) where
 
           d8 : Typed.Typed 𝓤 H A 𝓣 E G27 b9 Δ1 (at8 bs)
           d8 = Typed.s-seq 𝓤 H A W 𝓣 E G27 G28 b7 b8 Δ1 (Typed.pass T27 T28 (s25 bs)) (at7 bs) (Make'.t-make-told 𝓤 H A W E 𝓣 (Declared'.row
-              (Apart.apartT Answer.the-type)) Path'.refl (Laws'11.val (Apart.apartT Answer.the-type) Laws'4.the-laws) (Laws'11.lawful (Apart.apartT
-              Answer.the-type) Laws'4.the-laws 𝓤 H A W) (Laws'11.makes (Apart.apartT Answer.the-type) Laws'4.the-plain 𝓤 H A) G27 0 ((Scalar.oAt 22
+              (Apart.apartT Answer.the-type)) Path'.refl (Laws'11.val (Apart.apartT Answer.the-type) Laws'5.the-laws) (Laws'11.lawful (Apart.apartT
+              Answer.the-type) Laws'5.the-laws 𝓤 H A W) (Laws'11.makes (Apart.apartT Answer.the-type) Laws'5.the-plain 𝓤 H A) G27 0 ((Scalar.oAt 22
               mirs.sched_core-Reply (Laws'9.val Reply.the-type Laws'6.the-laws)) ∷ (Scalar.oAt 1 mirs.sched_core-Station (Laws'11.val Station.the-type
               Laws'7.the-laws)) ∷ []) (λ m. (m .1 .1 .1 .1 .1 .1 .1 .1 .1 .1 .1 .1 .1 .1 .1 .1 .1 .1 .1 .1 .1 .1 .0, (m .1 .0, tt))) (λ m. Laws'10.Is
               (Declared.row Reply.the-type) (m .1 .1 .1 .1 .1 .1 .1 .1 .1 .1 .1 .1 .1 .1 .1 .1 .1 .1 .1 .1 .1 .1 .0) (Laws'9.vals Reply.the-type
@@ -2171,7 +2171,7 @@ module _ (claims· : Claims) where
               .1 .1 .1 .1 .1 .0))) (Make'.tells-row 𝓤 H A W E ρ (Row.out 0 (G27 .locals)) m 1 (Laws'10.Is (Declared'.row Station.the-type) (m .1 .0)
               (Laws'11.vals Station.the-type Laws'7.the-laws (m .1 .0))) (Make'.whole-is 𝓤 H A W E (Declared'.row Station.the-type) Path'.refl
               (Laws'11.val Station.the-type Laws'7.the-laws) (Laws'11.tells Station.the-type Laws'7.the-laws) ρ 1 (m .1 .0)))) (λ m q. Signed.made-val
-              (Apart.apartT Answer.the-type) Laws'4.the-laws ((Laws'9.val Reply.the-type Laws'6.the-laws (m .1 .1 .1 .1 .1 .1 .1 .1 .1 .1 .1 .1 .1 .1
+              (Apart.apartT Answer.the-type) Laws'5.the-laws ((Laws'9.val Reply.the-type Laws'6.the-laws (m .1 .1 .1 .1 .1 .1 .1 .1 .1 .1 .1 .1 .1 .1
               .1 .1 .1 .1 .1 .1 .1 .1 .0)) ∷ (Laws'11.val Station.the-type Laws'7.the-laws (m .1 .0)) ∷ []) (
                 m .1 .1 .1 .1 .1 .1 .1 .1 .1 .1 .1 .1 .1
                     .1 .1 .1 .1 .1 .1 .1 .1 .1 .0,
@@ -2184,7 +2184,7 @@ module _ (claims· : Claims) where
                       .1),
                   tt,
                 ),
-              )) λ m q. Signed.made-is (Apart.apartT Answer.the-type) Laws'4.the-laws ((Laws'9.val Reply.the-type Laws'6.the-laws (m .1 .1 .1
+              )) λ m q. Signed.made-is (Apart.apartT Answer.the-type) Laws'5.the-laws ((Laws'9.val Reply.the-type Laws'6.the-laws (m .1 .1 .1
               .1 .1 .1 .1 .1 .1 .1 .1 .1 .1 .1 .1 .1 .1 .1 .1 .1 .1 .1 .0)) ∷ (Laws'11.val Station.the-type Laws'7.the-laws (m .1 .0)) ∷ []) (
                 m .1 .1
                     .1 .1 .1 .1 .1 .1 .1 .1 .1 .1 .1 .1 .1 .1 .1 .1 .1 .1 .1 .1 .0,
@@ -2200,18 +2200,18 @@ module _ (claims· : Claims) where
               )) d7
 
           d9 : Typed.Typed 𝓤 H A 𝓣 E G26 b9 Δ1 (at9 bs)
-          d9 = Typed.g-pre 𝓤 H A W 𝓣 E G26 G27 b9 Δ1 (Typed.pass T26 T27 (s24 bs)) (at8 bs) (Scalar.g-room 𝓤 H A W E G26 12 mirs.sched_core-Refusal
-              (Local.room-whole 𝓤 H A W (Declared.row Refusal.the-type) mirs.sched_core-Refusal Path'.refl)) d8
+          d9 = Typed.g-pre 𝓤 H A W 𝓣 E G26 G27 b9 Δ1 (Typed.pass T26 T27 (s24 bs)) (at8 bs) (Scalar.g-room 𝓤 H A W E G26 12 mirs.questions-Refusal
+              (Local.room-whole 𝓤 H A W (Declared.row Refusal.the-type) mirs.questions-Refusal Path'.refl)) d8
 
           d10 : Typed.Typed 𝓤 H A 𝓣 E G25 b10 Δ1 (at10 bs)
           d10 = Typed.s-seq 𝓤 H A W 𝓣 E G25 G26 b6 b9 Δ1 (Typed.pass T25 T26 (s23 bs)) (at9 bs) (Make.t-enum-make-wt 𝓤 H A W E 𝓣 Reply.the-type
-              Laws'6.the-laws Laws'6.the-plain tt G25 22 ((Scalar.oInt Syntax.w8 1) ∷ (Scalar.oAt 12 mirs.sched_core-Refusal (Laws'9.val
-              Refusal.the-type Laws'5.the-laws)) ∷ []) (λ m. Reply.enum .make (Logic.inr (Logic.inl (m .1 .1 .1 .1 .1 .1 .1 .1 .1 .1 .1 .1 .0, tt))))
-              (Reads'.room-gone 𝓤 H A mirs.sched_core-Reply) (tt, ((Whole.reads-enum 𝓤 H A W Refusal.the-type Laws'5.the-laws, Path'.refl), tt))
-              Path'.refl (λ m wa. Make.made-val Reply.the-type Laws'6.the-laws ((Laws'9.val Refusal.the-type Laws'5.the-laws (m .1 .1 .1 .1 .1 .1 .1
+              Laws'6.the-laws Laws'6.the-plain tt G25 22 ((Scalar.oInt Syntax.w8 1) ∷ (Scalar.oAt 12 mirs.questions-Refusal (Laws'9.val
+              Refusal.the-type Laws'4.the-laws)) ∷ []) (λ m. Reply.enum .make (Logic.inr (Logic.inl (m .1 .1 .1 .1 .1 .1 .1 .1 .1 .1 .1 .1 .0, tt))))
+              (Reads'.room-gone 𝓤 H A mirs.sched_core-Reply) (tt, ((Whole.reads-enum 𝓤 H A W Refusal.the-type Laws'4.the-laws, Path'.refl), tt))
+              Path'.refl (λ m wa. Make.made-val Reply.the-type Laws'6.the-laws ((Laws'9.val Refusal.the-type Laws'4.the-laws (m .1 .1 .1 .1 .1 .1 .1
               .1 .1 .1 .1 .1 .0)) ∷ []) (Reply.enum .make (Logic.inr (Logic.inl (m .1 .1 .1 .1 .1 .1 .1 .1 .1 .1 .1 .1 .0, tt)))) (
                 Signed.made-wt
-                    Refusal.the-field Laws'5.the-field-laws (Whole.enum-wt Refusal.the-type Laws'5.the-laws (
+                    Refusal.the-field Laws'4.the-field-laws (Whole.enum-wt Refusal.the-type Laws'4.the-laws (
                       tt,
                       (
                         tt,
@@ -2229,7 +2229,7 @@ module _ (claims· : Claims) where
                                     tt,
                                     (
                                       tt,
-                                      (tt, tt),
+                                      (tt, (tt, (tt, tt))),
                                     ),
                                   ),
                                 ),
@@ -2240,12 +2240,47 @@ module _ (claims· : Claims) where
                       ),
                     )) (Refusal.the-type .to (m .1 .1 .1 .1 .1 .1 .1 .1 .1 .1 .1 .1 .0)),
                 tt,
-              ) (wa .1)) λ m wa. Make.made-is Reply.the-type
-              Laws'6.the-laws ((Laws'9.val Refusal.the-type Laws'5.the-laws (m .1 .1 .1 .1 .1 .1 .1 .1 .1 .1 .1 .1 .0)) ∷ []) (Reply.enum .make
-              (Logic.inr (Logic.inl (m .1 .1 .1 .1 .1 .1 .1 .1 .1 .1 .1 .1 .0, tt)))) (
-                Signed.made-wt Refusal.the-field Laws'5.the-field-laws
-                    (Whole.enum-wt Refusal.the-type Laws'5.the-laws (tt, (tt, (tt, (tt, (tt, (tt, (tt, (tt, (tt, (tt, tt))))))))))) (Refusal.the-type .to (m
-                    .1 .1 .1 .1 .1 .1 .1 .1 .1 .1 .1 .1 .0)),
+              ) (wa .1)) λ m wa. Make.made-is
+              Reply.the-type Laws'6.the-laws ((Laws'9.val Refusal.the-type Laws'4.the-laws (m .1 .1 .1 .1 .1 .1 .1 .1 .1 .1 .1 .1 .0)) ∷ [])
+              (Reply.enum .make (Logic.inr (Logic.inl (m .1 .1 .1 .1 .1 .1 .1 .1 .1 .1 .1 .1 .0, tt)))) (
+                Signed.made-wt Refusal.the-field
+                    Laws'4.the-field-laws (Whole.enum-wt Refusal.the-type Laws'4.the-laws (
+                      tt,
+                      (
+                        tt,
+                        (
+                          tt,
+                          (
+                            tt,
+                            (
+                              tt,
+                              (
+                                tt,
+                                (
+                                  tt,
+                                  (
+                                    tt,
+                                    (
+                                      tt,
+                                      (
+                                        tt,
+                                        (
+                                          tt,
+                                          (
+                                            tt,
+                                            tt,
+                                          ),
+                                        ),
+                                      ),
+                                    ),
+                                  ),
+                                ),
+                              ),
+                            ),
+                          ),
+                        ),
+                      ),
+                    )) (Refusal.the-type .to (m .1 .1 .1 .1 .1 .1 .1 .1 .1 .1 .1 .1 .0)),
                 tt,
               ) (wa .1)) d9
 
@@ -2255,19 +2290,19 @@ module _ (claims· : Claims) where
 
           d12 : Typed.Typed 𝓤 H A 𝓣 E G23 b11 Δ1 (at12 bs)
           d12 = Typed.s-seq 𝓤 H A W 𝓣 E G23 G24 b5 b10 Δ1 (Typed.pass T23 T24 (s21 bs)) (at11 bs) (CopyOut.t-copy-told 𝓤 H A W E 𝓣 (Declared.row
-              Refusal.the-type) Path'.refl (Laws'9.val Refusal.the-type Laws'5.the-laws) (Laws'9.lawful Refusal.the-type Laws'5.the-laws 𝓤 H A W tt)
-              (Laws'9.makes Refusal.the-type Laws'5.the-plain 𝓤 H A) G23 12 (Scalar.oFld 11 ((Syntax.variant 1) ∷ (Syntax.field 1) ∷ [])
-              mirs.sched_core-Refusal 1 λ v. Laws'9.val Refusal.the-type Laws'5.the-laws (v .0)) (λ m. m .1 .1 .1 .1 .1 .1 .1 .1 .1 .1 .1 .0 .0) (λ m.
+              Refusal.the-type) Path'.refl (Laws'9.val Refusal.the-type Laws'4.the-laws) (Laws'9.lawful Refusal.the-type Laws'4.the-laws 𝓤 H A W tt)
+              (Laws'9.makes Refusal.the-type Laws'4.the-plain 𝓤 H A) G23 12 (Scalar.oFld 11 ((Syntax.variant 1) ∷ (Syntax.field 1) ∷ [])
+              mirs.questions-Refusal 1 λ v. Laws'9.val Refusal.the-type Laws'4.the-laws (v .0)) (λ m. m .1 .1 .1 .1 .1 .1 .1 .1 .1 .1 .1 .0 .0) (λ m.
               Laws'9.Fields (Declared.variants Verdict.the-type) (Laws'9.spellss (Verdict.enum .parts) Laws'8.the-laws) (Verdict.the-type .to
-              (Known.at Verdict.enum 1 (m .1 .1 .1 .1 .1 .1 .1 .1 .1 .1 .1 .0)))) (Reads'.room-gone 𝓤 H A mirs.sched_core-Refusal) (
-                Match.reads-payload 𝓤 H A W Verdict.enum Laws'8.the-laws 1 Path'.refl Path'.refl (λ v. Val.vcons (Laws'9.val Refusal.the-type
-                    Laws'5.the-laws (v .0)) Val.vnil) (λ v. Path'.refl) 0 mirs.sched_core-Refusal 1 Path'.refl,
+              (Known.at Verdict.enum 1 (m .1 .1 .1 .1 .1 .1 .1 .1 .1 .1 .1 .0)))) (Reads'.room-gone 𝓤 H A mirs.questions-Refusal) (
+                Match.reads-payload
+                    𝓤 H A W Verdict.enum Laws'8.the-laws 1 Path'.refl Path'.refl (λ v. Val.vcons (Laws'9.val Refusal.the-type Laws'4.the-laws (v .0))
+                    Val.vnil) (λ v. Path'.refl) 0 mirs.questions-Refusal 1 Path'.refl,
                 Path'.refl,
-              ) Path'.refl (λ ρ m.
-              Make'.tells-row 𝓤 H A W E ρ (Row.out 12 (G23 .locals)) m 11 (Laws'9.Fields (Declared.variants Verdict.the-type) (Laws'9.spellss
-              (Verdict.enum .parts) Laws'8.the-laws) (Verdict.the-type .to (Known.at Verdict.enum 1 (m .1 .1 .1 .1 .1 .1 .1 .1 .1 .1 .1 .0))))
-              (Known.known-is 𝓤 H A W E Verdict.enum 1 Laws'8.the-laws ρ 11 (m .1 .1 .1 .1 .1 .1 .1 .1 .1 .1 .1 .0))) (λ m k wa. Path'.refl) λ m k wa.
-              k .0) d11
+              ) Path'.refl (λ ρ m. Make'.tells-row 𝓤 H A W E ρ (Row.out
+              12 (G23 .locals)) m 11 (Laws'9.Fields (Declared.variants Verdict.the-type) (Laws'9.spellss (Verdict.enum .parts) Laws'8.the-laws)
+              (Verdict.the-type .to (Known.at Verdict.enum 1 (m .1 .1 .1 .1 .1 .1 .1 .1 .1 .1 .1 .0)))) (Known.known-is 𝓤 H A W E Verdict.enum 1
+              Laws'8.the-laws ρ 11 (m .1 .1 .1 .1 .1 .1 .1 .1 .1 .1 .1 .0))) (λ m k wa. Path'.refl) λ m k wa. k .0) d11
 
           d13 : Typed.Typed 𝓤 H A 𝓣 E G22 b11 Δ1 (at13 bs)
           d13 = Typed.g-pre 𝓤 H A W 𝓣 E G22 G23 b11 Δ1 (Typed.pass T22 T23 (s20 bs)) (at12 bs) (Scalar.g-room 𝓤 H A W E G22 8
@@ -2373,8 +2408,8 @@ module _ (claims· : Claims) where
 
           d38 : Typed.Typed 𝓤 H A 𝓣 E G62 b26 Δ0 (at38 bs)
           d38 = Typed.s-seq 𝓤 H A W 𝓣 E G62 G63 b24 b25 Δ0 (Typed.pass T62 T63 (s60 bs)) (at37 bs) (Make'.t-make-told 𝓤 H A W E 𝓣 (Declared'.row
-              (Apart.apartT Answer.the-type)) Path'.refl (Laws'11.val (Apart.apartT Answer.the-type) Laws'4.the-laws) (Laws'11.lawful (Apart.apartT
-              Answer.the-type) Laws'4.the-laws 𝓤 H A W) (Laws'11.makes (Apart.apartT Answer.the-type) Laws'4.the-plain 𝓤 H A) G62 0 ((Scalar.oAt 16
+              (Apart.apartT Answer.the-type)) Path'.refl (Laws'11.val (Apart.apartT Answer.the-type) Laws'5.the-laws) (Laws'11.lawful (Apart.apartT
+              Answer.the-type) Laws'5.the-laws 𝓤 H A W) (Laws'11.makes (Apart.apartT Answer.the-type) Laws'5.the-plain 𝓤 H A) G62 0 ((Scalar.oAt 16
               mirs.sched_core-Reply (Laws'9.val Reply.the-type Laws'6.the-laws)) ∷ (Scalar.oAt 17 mirs.sched_core-Station (Laws'11.val
               Station.the-type Laws'7.the-laws)) ∷ []) (λ m. (
                 m .1 .1 .1 .1 .1 .1 .1 .1 .1 .1 .1 .1 .1 .1 .1 .1 .0,
@@ -2405,7 +2440,7 @@ module _ (claims· : Claims) where
               .1 .1 .1 .1 .1 .1 .1 .1 .1 .1 .1 .1 .1 .1 .1 .1 .1 .0) (Laws'11.vals Station.the-type Laws'7.the-laws (m .1 .1 .1 .1 .1 .1 .1 .1 .1 .1
               .1 .1 .1 .1 .1 .1 .1 .0))) (Make'.whole-is 𝓤 H A W E (Declared'.row Station.the-type) Path'.refl (Laws'11.val Station.the-type
               Laws'7.the-laws) (Laws'11.tells Station.the-type Laws'7.the-laws) ρ 17 (m .1 .1 .1 .1 .1 .1 .1 .1 .1 .1 .1 .1 .1 .1 .1 .1 .1 .0)))) (λ m
-              q. Signed.made-val (Apart.apartT Answer.the-type) Laws'4.the-laws ((Laws'9.val Reply.the-type Laws'6.the-laws (m .1 .1 .1 .1 .1 .1 .1 .1
+              q. Signed.made-val (Apart.apartT Answer.the-type) Laws'5.the-laws ((Laws'9.val Reply.the-type Laws'6.the-laws (m .1 .1 .1 .1 .1 .1 .1 .1
               .1 .1 .1 .1 .1 .1 .1 .1 .0)) ∷ (Laws'11.val Station.the-type Laws'7.the-laws (m .1 .1 .1 .1 .1 .1 .1 .1 .1 .1 .1 .1 .1 .1 .1 .1 .1 .0))
               ∷ []) (m .1 .1 .1 .1 .1 .1 .1 .1 .1 .1 .1 .1 .1 .1 .1 .1 .0, (m .1 .1 .1 .1 .1 .1 .1 .1 .1 .1 .1 .1 .1 .1 .1 .1 .1 .0, tt)) (
                 Make.made-enum Reply.the-type Laws'6.the-laws tt Laws'6.lowers (m .1 .1 .1 .1 .1 .1 .1 .1 .1 .1 .1 .1 .1 .1 .1 .1 .0) (q .0),
@@ -2413,7 +2448,7 @@ module _ (claims· : Claims) where
                   Signed.made-struct Station.the-type Laws'7.the-laws Laws'7.lowers (m .1 .1 .1 .1 .1 .1 .1 .1 .1 .1 .1 .1 .1 .1 .1 .1 .1 .0) (q .1),
                   tt,
                 ),
-              )) λ m q. Signed.made-is (Apart.apartT Answer.the-type) Laws'4.the-laws ((Laws'9.val Reply.the-type Laws'6.the-laws (m .1 .1 .1 .1 .1
+              )) λ m q. Signed.made-is (Apart.apartT Answer.the-type) Laws'5.the-laws ((Laws'9.val Reply.the-type Laws'6.the-laws (m .1 .1 .1 .1 .1
               .1 .1 .1 .1 .1 .1 .1 .1 .1 .1 .1 .0)) ∷ (Laws'11.val Station.the-type Laws'7.the-laws (m .1 .1 .1 .1 .1 .1 .1 .1 .1 .1 .1 .1 .1 .1 .1 .1
               .1 .0)) ∷ []) (m .1 .1 .1 .1 .1 .1 .1 .1 .1 .1 .1 .1 .1 .1 .1 .1 .0, (m .1 .1 .1 .1 .1 .1 .1 .1 .1 .1 .1 .1 .1 .1 .1 .1 .1 .0, tt)) (
                 Make.made-enum Reply.the-type Laws'6.the-laws tt Laws'6.lowers (m .1 .1 .1 .1 .1 .1 .1 .1 .1 .1 .1 .1 .1 .1 .1 .1 .0) (q .0),

@@ -7,10 +7,10 @@ use Rattle.bs_sched.proofs.Verdict
 use Rattle.bs_sched.proofs.Verdict.Laws as Laws'6
 use Rattle.dl_record.proofs.Record
 use Rattle.dl_record.proofs.Record.Laws
+use Rattle.questions.proofs.Refusal
+use Rattle.questions.proofs.Refusal.Laws as Laws'
 use Rattle.request_core.proofs.RequestPlan
-use Rattle.request_core.proofs.RequestPlan.Laws as Laws'
-use Rattle.sched_core.proofs.Refusal
-use Rattle.sched_core.proofs.Refusal.Laws as Laws''
+use Rattle.request_core.proofs.RequestPlan.Laws as Laws''
 use Rattle.sched_core.proofs.RequestAnswer
 use Rattle.sched_core.proofs.RequestAnswer.Laws as Laws'3
 use Rattle.sched_core.proofs.RequestReply
@@ -195,10 +195,10 @@ abbrev ε18 : Row.Entry
 ε18 = (11, Rows.sc-here (Row.sInt Syntax.w64))
 
 abbrev ε19 : Row.Entry
-ε19 = (12, Rows.any-gone mirs.dl_record-Record)
+ε19 = (9, Rows.any-gone mirs.questions-Refusal)
 
 abbrev ε20 : Row.Entry
-ε20 = (9, Rows.any-gone mirs.sched_core-Refusal)
+ε20 = (12, Rows.any-gone mirs.dl_record-Record)
 
 abbrev ε21 : Row.Entry
 ε21 = (1, Rows.any-gone mirs.sched_core-Station)
@@ -302,7 +302,7 @@ r = Value.rVal record {
 }
 
 abbrev pub xs : List.List Syntax.Ty
-xs = mirs.Verdict ∷ mirs.sched_core-Refusal ∷ mirs.request_core-RequestPlan ∷ τ1 ∷ mirs.dl_record-Record ∷ mirs.sched_core-RequestReply ∷
+xs = mirs.Verdict ∷ mirs.questions-Refusal ∷ mirs.request_core-RequestPlan ∷ τ1 ∷ mirs.dl_record-Record ∷ mirs.sched_core-RequestReply ∷
     mirs.sched_core-Station ∷ τ3 ∷ τ6 ∷ mirs.sched_core-RequestReply ∷ Syntax.tyUnit ∷ τ4 ∷ τ7 ∷ []
 
 abbrev pub m : Nat.ℕ
@@ -380,21 +380,20 @@ abbrev pub r·1 : Kinds.RK 0
 r·1 = Value.rVal record {
   ty = Declared'.row RequestPlan.the-type;
   one = Path'.refl;
-  val = Laws'9.val RequestPlan.the-type Laws'.the-laws;
+  val = Laws'9.val RequestPlan.the-type Laws''.the-laws;
   tells =
-      Laws'9.tells RequestPlan.the-type Laws'.the-laws;
-  still = Laws'9.still RequestPlan.the-type Laws'.the-copy Exit.yes;
+      Laws'9.tells RequestPlan.the-type Laws''.the-laws;
+  still = Laws'9.still RequestPlan.the-type Laws''.the-copy Exit.yes;
   row = Rows.whole
       (Declared'.row RequestPlan.the-type);
   rd = λ x. x;
   mk = λ x. x;
 } λ M 𝓤 H A W. record {
-  copies = Laws'9.copy RequestPlan.the-type Laws'.the-copy 𝓤
+  copies = Laws'9.copy RequestPlan.the-type Laws''.the-copy 𝓤
       H A W;
-  lawful = Laws'9.lawful RequestPlan.the-type Laws'.the-laws 𝓤 H A W;
-  makes = Laws'9.makes RequestPlan.the-type Laws'.the-plain 𝓤 H A;
-  in-mem
-      = Local.mem-whole 𝓤 H A W (Declared'.row RequestPlan.the-type);
+  lawful = Laws'9.lawful RequestPlan.the-type Laws''.the-laws 𝓤 H A W;
+  makes = Laws'9.makes RequestPlan.the-type Laws''.the-plain 𝓤 H A;
+  in-mem = Local.mem-whole 𝓤 H A W (Declared'.row RequestPlan.the-type);
   of-mem = Local.whole-mem 𝓤 H A W (Declared'.row RequestPlan.the-type);
 }
 
@@ -545,73 +544,73 @@ abbrev pub Claims : Type 1
 Claims = Kinds.In 2 ps·0 × Kinds.Out 2 ps·0 r·0 × Kinds.In 0 ps·1 × Kinds.Out 0 ps·1 r·1 × Kinds.In 1 ps·2 × Kinds.Out 1 ps·2 r·2
 
 abbrev pub t0 : List.List Row.Entry
-t0 = ε26 ∷ ε27 ∷ ε12 ∷ ε37 ∷ ε14 ∷ ε15 ∷ ε16 ∷ ε17 ∷ ε9 ∷ ε20 ∷ ε31 ∷ ε4 ∷ ε19 ∷ ε28 ∷ ε22 ∷ ε5 ∷ []
+t0 = ε26 ∷ ε27 ∷ ε12 ∷ ε37 ∷ ε14 ∷ ε15 ∷ ε16 ∷ ε17 ∷ ε9 ∷ ε19 ∷ ε31 ∷ ε4 ∷ ε20 ∷ ε28 ∷ ε22 ∷ ε5 ∷ []
 
 abbrev pub t1 : List.List Row.Entry
 t1 = ε6 ∷ ε29 ∷ ε10 ∷ ε7 ∷ ε8 ∷ []
 
 abbrev pub t2 : List.List Row.Entry
-t2 = (0, Rows.whole (Declared'.row RequestAnswer.the-type)) ∷ ε21 ∷ ε12 ∷ ε37 ∷ ε0 ∷ ε1 ∷ ε2 ∷ ε3 ∷ ε9 ∷ ε20 ∷ ε31 ∷ ε4 ∷ ε19 ∷ ε28 ∷ ε22 ∷ ε5 ∷ []
+t2 = (0, Rows.whole (Declared'.row RequestAnswer.the-type)) ∷ ε21 ∷ ε12 ∷ ε37 ∷ ε0 ∷ ε1 ∷ ε2 ∷ ε3 ∷ ε9 ∷ ε19 ∷ ε31 ∷ ε4 ∷ ε20 ∷ ε28 ∷ ε22 ∷ ε5 ∷ []
 
 abbrev pub t3 : List.List Row.Entry
-t3 = ε26 ∷ ε27 ∷ ε36 ∷ ε37 ∷ ε14 ∷ ε15 ∷ ε16 ∷ ε17 ∷ ε9 ∷ ε20 ∷ ε31 ∷ ε4 ∷ ε19 ∷ ε28 ∷ ε22 ∷ ε13 ∷ []
+t3 = ε26 ∷ ε27 ∷ ε36 ∷ ε37 ∷ ε14 ∷ ε15 ∷ ε16 ∷ ε17 ∷ ε9 ∷ ε19 ∷ ε31 ∷ ε4 ∷ ε20 ∷ ε28 ∷ ε22 ∷ ε13 ∷ []
 
 abbrev pub t4 : List.List Row.Entry
-t4 = ε26 ∷ ε27 ∷ ε36 ∷ ε37 ∷ ε14 ∷ ε15 ∷ ε16 ∷ ε17 ∷ ε9 ∷ ε20 ∷ ε31 ∷ ε4 ∷ ε19 ∷ ε28 ∷ ε22 ∷ ε5 ∷ []
+t4 = ε26 ∷ ε27 ∷ ε36 ∷ ε37 ∷ ε14 ∷ ε15 ∷ ε16 ∷ ε17 ∷ ε9 ∷ ε19 ∷ ε31 ∷ ε4 ∷ ε20 ∷ ε28 ∷ ε22 ∷ ε5 ∷ []
 
 abbrev pub t5 : List.List Row.Entry
 t5 = (16, Rows.sslice in-Record.row τ3 2) ∷ ε29 ∷ ε10 ∷ ε7 ∷ ε8 ∷ []
 
 abbrev pub t6 : List.List Row.Entry
-t6 = ε26 ∷ ε27 ∷ ε36 ∷ ε37 ∷ ε14 ∷ ε15 ∷ ε16 ∷ ε17 ∷ ε24 ∷ ε20 ∷ ε31 ∷ ε4 ∷ ε19 ∷ ε28 ∷ ε22 ∷ ε5 ∷ []
+t6 = ε26 ∷ ε27 ∷ ε36 ∷ ε37 ∷ ε14 ∷ ε15 ∷ ε16 ∷ ε17 ∷ ε24 ∷ ε19 ∷ ε31 ∷ ε4 ∷ ε20 ∷ ε28 ∷ ε22 ∷ ε5 ∷ []
 
 abbrev pub t7 : List.List Row.Entry
-t7 = ε26 ∷ ε27 ∷ ε12 ∷ ε37 ∷ ε14 ∷ ε15 ∷ ε16 ∷ ε17 ∷ ε24 ∷ ε20 ∷ ε31 ∷ ε4 ∷ ε19 ∷ ε28 ∷ ε22 ∷ ε5 ∷ []
+t7 = ε26 ∷ ε27 ∷ ε12 ∷ ε37 ∷ ε14 ∷ ε15 ∷ ε16 ∷ ε17 ∷ ε24 ∷ ε19 ∷ ε31 ∷ ε4 ∷ ε20 ∷ ε28 ∷ ε22 ∷ ε5 ∷ []
 
 abbrev pub t8 : List.List Row.Entry
-t8 = ε26 ∷ ε27 ∷ ε12 ∷ ε37 ∷ ε14 ∷ ε15 ∷ ε16 ∷ ε17 ∷ ε23 ∷ ε20 ∷ ε31 ∷ ε4 ∷ ε19 ∷ ε28 ∷ ε22 ∷ ε5 ∷ []
+t8 = ε26 ∷ ε27 ∷ ε12 ∷ ε37 ∷ ε14 ∷ ε15 ∷ ε16 ∷ ε17 ∷ ε23 ∷ ε19 ∷ ε31 ∷ ε4 ∷ ε20 ∷ ε28 ∷ ε22 ∷ ε5 ∷ []
 
 abbrev pub t9 : List.List Row.Entry
-t9 = ε26 ∷ ε27 ∷ ε12 ∷ ε37 ∷ ε14 ∷ ε15 ∷ ε16 ∷ ε17 ∷ ε23 ∷ ε25 ∷ ε31 ∷ ε4 ∷ ε19 ∷ ε28 ∷ ε22 ∷ ε5 ∷ []
+t9 = ε26 ∷ ε27 ∷ ε12 ∷ ε37 ∷ ε14 ∷ ε15 ∷ ε16 ∷ ε17 ∷ ε23 ∷ ε25 ∷ ε31 ∷ ε4 ∷ ε20 ∷ ε28 ∷ ε22 ∷ ε5 ∷ []
 
 abbrev pub t10 : List.List Row.Entry
-t10 = ε26 ∷ ε27 ∷ ε12 ∷ ε37 ∷ ε14 ∷ ε15 ∷ ε16 ∷ ε17 ∷ ε9 ∷ ε25 ∷ ε31 ∷ ε4 ∷ ε19 ∷ ε28 ∷ ε22 ∷ ε5 ∷ []
+t10 = ε26 ∷ ε27 ∷ ε12 ∷ ε37 ∷ ε14 ∷ ε15 ∷ ε16 ∷ ε17 ∷ ε9 ∷ ε25 ∷ ε31 ∷ ε4 ∷ ε20 ∷ ε28 ∷ ε22 ∷ ε5 ∷ []
 
 abbrev pub t11 : List.List Row.Entry
 t11 = ε6 ∷ (17, Rows.whole (Declared.row RequestReply.the-type)) ∷ ε10 ∷ ε7 ∷ ε8 ∷ []
 
 abbrev pub t12 : List.List Row.Entry
-t12 = ε38 ∷ ε27 ∷ ε12 ∷ ε37 ∷ ε14 ∷ ε15 ∷ ε16 ∷ ε17 ∷ ε9 ∷ ε20 ∷ ε31 ∷ ε4 ∷ ε19 ∷ ε28 ∷ ε22 ∷ ε5 ∷ []
+t12 = ε38 ∷ ε27 ∷ ε12 ∷ ε37 ∷ ε14 ∷ ε15 ∷ ε16 ∷ ε17 ∷ ε9 ∷ ε19 ∷ ε31 ∷ ε4 ∷ ε20 ∷ ε28 ∷ ε22 ∷ ε5 ∷ []
 
 abbrev pub t13 : List.List Row.Entry
-t13 = ε38 ∷ ε21 ∷ ε12 ∷ ε37 ∷ ε14 ∷ ε15 ∷ ε16 ∷ ε17 ∷ ε9 ∷ ε20 ∷ ε31 ∷ ε4 ∷ ε19 ∷ ε28 ∷ ε22 ∷ ε5 ∷ []
+t13 = ε38 ∷ ε21 ∷ ε12 ∷ ε37 ∷ ε14 ∷ ε15 ∷ ε16 ∷ ε17 ∷ ε9 ∷ ε19 ∷ ε31 ∷ ε4 ∷ ε20 ∷ ε28 ∷ ε22 ∷ ε5 ∷ []
 
 abbrev pub t14 : List.List Row.Entry
-t14 = ε38 ∷ ε21 ∷ ε12 ∷ ε37 ∷ ε0 ∷ ε15 ∷ ε16 ∷ ε17 ∷ ε9 ∷ ε20 ∷ ε31 ∷ ε4 ∷ ε19 ∷ ε28 ∷ ε22 ∷ ε5 ∷ []
+t14 = ε38 ∷ ε21 ∷ ε12 ∷ ε37 ∷ ε0 ∷ ε15 ∷ ε16 ∷ ε17 ∷ ε9 ∷ ε19 ∷ ε31 ∷ ε4 ∷ ε20 ∷ ε28 ∷ ε22 ∷ ε5 ∷ []
 
 abbrev pub t15 : List.List Row.Entry
-t15 = ε38 ∷ ε21 ∷ ε12 ∷ ε37 ∷ ε0 ∷ ε1 ∷ ε16 ∷ ε17 ∷ ε9 ∷ ε20 ∷ ε31 ∷ ε4 ∷ ε19 ∷ ε28 ∷ ε22 ∷ ε5 ∷ []
+t15 = ε38 ∷ ε21 ∷ ε12 ∷ ε37 ∷ ε0 ∷ ε1 ∷ ε16 ∷ ε17 ∷ ε9 ∷ ε19 ∷ ε31 ∷ ε4 ∷ ε20 ∷ ε28 ∷ ε22 ∷ ε5 ∷ []
 
 abbrev pub t16 : List.List Row.Entry
-t16 = ε38 ∷ ε21 ∷ ε12 ∷ ε37 ∷ ε0 ∷ ε1 ∷ ε2 ∷ ε17 ∷ ε9 ∷ ε20 ∷ ε31 ∷ ε4 ∷ ε19 ∷ ε28 ∷ ε22 ∷ ε5 ∷ []
+t16 = ε38 ∷ ε21 ∷ ε12 ∷ ε37 ∷ ε0 ∷ ε1 ∷ ε2 ∷ ε17 ∷ ε9 ∷ ε19 ∷ ε31 ∷ ε4 ∷ ε20 ∷ ε28 ∷ ε22 ∷ ε5 ∷ []
 
 abbrev pub t17 : List.List Row.Entry
-t17 = ε38 ∷ ε21 ∷ ε12 ∷ ε37 ∷ ε0 ∷ ε1 ∷ ε2 ∷ ε3 ∷ ε9 ∷ ε20 ∷ ε31 ∷ ε4 ∷ ε19 ∷ ε28 ∷ ε22 ∷ ε5 ∷ []
+t17 = ε38 ∷ ε21 ∷ ε12 ∷ ε37 ∷ ε0 ∷ ε1 ∷ ε2 ∷ ε3 ∷ ε9 ∷ ε19 ∷ ε31 ∷ ε4 ∷ ε20 ∷ ε28 ∷ ε22 ∷ ε5 ∷ []
 
 abbrev pub t18 : List.List Row.Entry
-t18 = ε26 ∷ ε27 ∷ ε12 ∷ ε37 ∷ ε14 ∷ ε15 ∷ ε16 ∷ ε17 ∷ ε9 ∷ ε20 ∷ ε34 ∷ ε4 ∷ ε19 ∷ ε28 ∷ ε22 ∷ ε5 ∷ []
+t18 = ε26 ∷ ε27 ∷ ε12 ∷ ε37 ∷ ε14 ∷ ε15 ∷ ε16 ∷ ε17 ∷ ε9 ∷ ε19 ∷ ε34 ∷ ε4 ∷ ε20 ∷ ε28 ∷ ε22 ∷ ε5 ∷ []
 
 abbrev pub t19 : List.List Row.Entry
-t19 = ε26 ∷ ε21 ∷ ε12 ∷ ε37 ∷ ε14 ∷ ε15 ∷ ε16 ∷ ε17 ∷ ε9 ∷ ε20 ∷ ε34 ∷ ε4 ∷ ε19 ∷ ε28 ∷ ε22 ∷ ε5 ∷ []
+t19 = ε26 ∷ ε21 ∷ ε12 ∷ ε37 ∷ ε14 ∷ ε15 ∷ ε16 ∷ ε17 ∷ ε9 ∷ ε19 ∷ ε34 ∷ ε4 ∷ ε20 ∷ ε28 ∷ ε22 ∷ ε5 ∷ []
 
 abbrev pub t20 : List.List Row.Entry
-t20 = ε26 ∷ ε21 ∷ ε12 ∷ ε37 ∷ ε14 ∷ ε15 ∷ ε16 ∷ ε17 ∷ ε9 ∷ ε20 ∷ ε34 ∷ ε18 ∷ ε19 ∷ ε28 ∷ ε22 ∷ ε5 ∷ []
+t20 = ε26 ∷ ε21 ∷ ε12 ∷ ε37 ∷ ε14 ∷ ε15 ∷ ε16 ∷ ε17 ∷ ε9 ∷ ε19 ∷ ε34 ∷ ε18 ∷ ε20 ∷ ε28 ∷ ε22 ∷ ε5 ∷ []
 
 abbrev pub t21 : List.List Row.Entry
-t21 = ε26 ∷ ε21 ∷ ε12 ∷ ε37 ∷ ε14 ∷ ε15 ∷ ε16 ∷ ε17 ∷ ε9 ∷ ε20 ∷ ε34 ∷ ε18 ∷ ε30 ∷ ε28 ∷ ε22 ∷ ε5 ∷ []
+t21 = ε26 ∷ ε21 ∷ ε12 ∷ ε37 ∷ ε14 ∷ ε15 ∷ ε16 ∷ ε17 ∷ ε9 ∷ ε19 ∷ ε34 ∷ ε18 ∷ ε30 ∷ ε28 ∷ ε22 ∷ ε5 ∷ []
 
 abbrev pub t22 : List.List Row.Entry
-t22 = ε26 ∷ ε21 ∷ ε33 ∷ ε37 ∷ ε14 ∷ ε15 ∷ ε16 ∷ ε17 ∷ ε9 ∷ ε20 ∷ ε34 ∷ ε18 ∷ ε30 ∷ ε28 ∷ ε22 ∷ ε5 ∷ []
+t22 = ε26 ∷ ε21 ∷ ε33 ∷ ε37 ∷ ε14 ∷ ε15 ∷ ε16 ∷ ε17 ∷ ε9 ∷ ε19 ∷ ε34 ∷ ε18 ∷ ε30 ∷ ε28 ∷ ε22 ∷ ε5 ∷ []
 
 abbrev pub t23 : List.List Row.Entry
 t23 = ε6 ∷ ε29 ∷ ε10 ∷ (19, Relend.msptr in-Record.row τ4 3) ∷ ε8 ∷ []
@@ -623,28 +622,28 @@ abbrev pub t25 : List.List Row.Entry
 t25 = ε6 ∷ ε29 ∷ (18, Rows.sc-here Row.sUnit) ∷ ε7 ∷ ε11 ∷ []
 
 abbrev pub t26 : List.List Row.Entry
-t26 = ε26 ∷ ε21 ∷ ε33 ∷ ε37 ∷ ε14 ∷ ε15 ∷ ε16 ∷ ε17 ∷ ε9 ∷ ε20 ∷ ε34 ∷ ε18 ∷ ε19 ∷ ε28 ∷ ε22 ∷ ε5 ∷ []
+t26 = ε26 ∷ ε21 ∷ ε33 ∷ ε37 ∷ ε14 ∷ ε15 ∷ ε16 ∷ ε17 ∷ ε9 ∷ ε19 ∷ ε34 ∷ ε18 ∷ ε20 ∷ ε28 ∷ ε22 ∷ ε5 ∷ []
 
 abbrev pub t27 : List.List Row.Entry
 t27 = ε6 ∷ ε29 ∷ ε10 ∷ ε7 ∷ ε11 ∷ []
 
 abbrev pub t28 : List.List Row.Entry
-t28 = ε26 ∷ ε21 ∷ ε12 ∷ ε37 ∷ ε14 ∷ ε15 ∷ ε16 ∷ ε17 ∷ ε9 ∷ ε20 ∷ ε34 ∷ ε18 ∷ ε19 ∷ ε35 ∷ ε22 ∷ ε5 ∷ []
+t28 = ε26 ∷ ε21 ∷ ε12 ∷ ε37 ∷ ε14 ∷ ε15 ∷ ε16 ∷ ε17 ∷ ε9 ∷ ε19 ∷ ε34 ∷ ε18 ∷ ε20 ∷ ε35 ∷ ε22 ∷ ε5 ∷ []
 
 abbrev pub t29 : List.List Row.Entry
-t29 = ε26 ∷ ε21 ∷ ε12 ∷ ε37 ∷ ε14 ∷ ε15 ∷ ε16 ∷ ε17 ∷ ε9 ∷ ε20 ∷ ε34 ∷ ε18 ∷ ε19 ∷ ε35 ∷ ε32 ∷ ε5 ∷ []
+t29 = ε26 ∷ ε21 ∷ ε12 ∷ ε37 ∷ ε14 ∷ ε15 ∷ ε16 ∷ ε17 ∷ ε9 ∷ ε19 ∷ ε34 ∷ ε18 ∷ ε20 ∷ ε35 ∷ ε32 ∷ ε5 ∷ []
 
 abbrev pub t30 : List.List Row.Entry
-t30 = ε26 ∷ ε21 ∷ ε12 ∷ ε37 ∷ ε14 ∷ ε15 ∷ ε16 ∷ ε17 ∷ ε9 ∷ ε20 ∷ ε31 ∷ ε18 ∷ ε19 ∷ ε35 ∷ ε32 ∷ ε5 ∷ []
+t30 = ε26 ∷ ε21 ∷ ε12 ∷ ε37 ∷ ε14 ∷ ε15 ∷ ε16 ∷ ε17 ∷ ε9 ∷ ε19 ∷ ε31 ∷ ε18 ∷ ε20 ∷ ε35 ∷ ε32 ∷ ε5 ∷ []
 
 abbrev pub t31 : List.List Row.Entry
-t31 = ε38 ∷ ε21 ∷ ε12 ∷ ε37 ∷ ε14 ∷ ε15 ∷ ε16 ∷ ε17 ∷ ε9 ∷ ε20 ∷ ε31 ∷ ε18 ∷ ε19 ∷ ε35 ∷ ε32 ∷ ε5 ∷ []
+t31 = ε38 ∷ ε21 ∷ ε12 ∷ ε37 ∷ ε14 ∷ ε15 ∷ ε16 ∷ ε17 ∷ ε9 ∷ ε19 ∷ ε31 ∷ ε18 ∷ ε20 ∷ ε35 ∷ ε32 ∷ ε5 ∷ []
 
 abbrev pub t32 : List.List Row.Entry
-t32 = ε38 ∷ ε21 ∷ ε12 ∷ ε37 ∷ ε14 ∷ ε15 ∷ ε16 ∷ ε17 ∷ ε9 ∷ ε20 ∷ ε31 ∷ ε4 ∷ ε19 ∷ ε35 ∷ ε32 ∷ ε5 ∷ []
+t32 = ε38 ∷ ε21 ∷ ε12 ∷ ε37 ∷ ε14 ∷ ε15 ∷ ε16 ∷ ε17 ∷ ε9 ∷ ε19 ∷ ε31 ∷ ε4 ∷ ε20 ∷ ε35 ∷ ε32 ∷ ε5 ∷ []
 
 abbrev pub t33 : List.List Row.Entry
-t33 = ε38 ∷ ε21 ∷ ε12 ∷ ε37 ∷ ε14 ∷ ε15 ∷ ε16 ∷ ε17 ∷ ε9 ∷ ε20 ∷ ε31 ∷ ε4 ∷ ε19 ∷ ε28 ∷ ε32 ∷ ε5 ∷ []
+t33 = ε38 ∷ ε21 ∷ ε12 ∷ ε37 ∷ ε14 ∷ ε15 ∷ ε16 ∷ ε17 ∷ ε9 ∷ ε19 ∷ ε31 ∷ ε4 ∷ ε20 ∷ ε28 ∷ ε32 ∷ ε5 ∷ []
 
 abbrev pub T0 : Row.Cx
 T0 = record { locals = List._++_ t0 t1; slots = [] }
@@ -843,7 +842,7 @@ module _ (claims· : Claims) where
   s13 = λ bs. Make.n-enum-make RequestReply.the-type T15 17 λ m. RequestReply.enum .make (Logic.inr (Logic.inl (m .1 .1 .1 .1 .1 .1 .1 .1 .1 .0, tt)))
 
   abbrev s14 : (bs : List.List Nat.ℕ) → Typed.Mo T16 → Typed.Mo T17
-  s14 = λ bs. Scalar.n-room T16 9 mirs.sched_core-Refusal
+  s14 = λ bs. Scalar.n-room T16 9 mirs.questions-Refusal
 
   abbrev s15 : (bs : List.List Nat.ℕ) → Typed.Mo T17 → Typed.Mo T18
   s15 = λ bs. Make'.n-make (Declared'.row (Apart.apartT RequestAnswer.the-type)) T17 0 λ m. (
@@ -894,7 +893,7 @@ module _ (claims· : Claims) where
   s26 = λ bs. Scalar.n-room T28 1 mirs.sched_core-Station
 
   abbrev s27 : (bs : List.List Nat.ℕ) → Typed.Mo T29 → Typed.Mo T30
-  s27 = λ bs. Scalar.n-use T29 (Scalar.oFld 10 ((Syntax.field 2) ∷ []) τ1 1464 (Reads.fieldV RequestPlan.the-type Laws'.the-laws 2)) 11 ρ1 (Row.sInt
+  s27 = λ bs. Scalar.n-use T29 (Scalar.oFld 10 ((Syntax.field 2) ∷ []) τ1 1464 (Reads.fieldV RequestPlan.the-type Laws''.the-laws 2)) 11 ρ1 (Row.sInt
       Syntax.w64 .of)
 
   abbrev s28 : (bs : List.List Nat.ℕ) → Typed.Both T30 T31
@@ -1160,24 +1159,24 @@ module _ (claims· : Claims) where
 
       module _ (κs : Lifetimes.Lfts 2) (qs : Lifetimes.Shares 2) where
         abbrev g3 : List.List Row.Entry
-        g3 = ε26 ∷ ε27 ∷ (2, Reshare.mslice-owedS in-Record.row τ5 0 2 (Row.lease (κs .0) (qs .0))) ∷ ε37 ∷ ε14 ∷ ε15 ∷ ε16 ∷ ε17 ∷ ε9 ∷ ε20 ∷ ε31 ∷
-            ε4 ∷ ε19 ∷ ε28 ∷ ε22 ∷ ε13 ∷ []
+        g3 = ε26 ∷ ε27 ∷ (2, Reshare.mslice-owedS in-Record.row τ5 0 2 (Row.lease (κs .0) (qs .0))) ∷ ε37 ∷ ε14 ∷ ε15 ∷ ε16 ∷ ε17 ∷ ε9 ∷ ε19 ∷ ε31 ∷
+            ε4 ∷ ε20 ∷ ε28 ∷ ε22 ∷ ε13 ∷ []
 
         abbrev g4 : List.List Row.Entry
-        g4 = ε26 ∷ ε27 ∷ (2, Reshare.mslice-owedS in-Record.row τ5 0 2 (Row.lease (κs .0) (qs .0))) ∷ ε37 ∷ ε14 ∷ ε15 ∷ ε16 ∷ ε17 ∷ ε9 ∷ ε20 ∷ ε31 ∷
-            ε4 ∷ ε19 ∷ ε28 ∷ ε22 ∷ ε5 ∷ []
+        g4 = ε26 ∷ ε27 ∷ (2, Reshare.mslice-owedS in-Record.row τ5 0 2 (Row.lease (κs .0) (qs .0))) ∷ ε37 ∷ ε14 ∷ ε15 ∷ ε16 ∷ ε17 ∷ ε9 ∷ ε19 ∷ ε31 ∷
+            ε4 ∷ ε20 ∷ ε28 ∷ ε22 ∷ ε5 ∷ []
 
         abbrev g6 : List.List Row.Entry
-        g6 = ε26 ∷ ε27 ∷ (2, Reshare.mslice-owedS in-Record.row τ5 0 2 (Row.lease (κs .0) (qs .0))) ∷ ε37 ∷ ε14 ∷ ε15 ∷ ε16 ∷ ε17 ∷ ε24 ∷ ε20 ∷ ε31 ∷
-            ε4 ∷ ε19 ∷ ε28 ∷ ε22 ∷ ε5 ∷ []
+        g6 = ε26 ∷ ε27 ∷ (2, Reshare.mslice-owedS in-Record.row τ5 0 2 (Row.lease (κs .0) (qs .0))) ∷ ε37 ∷ ε14 ∷ ε15 ∷ ε16 ∷ ε17 ∷ ε24 ∷ ε19 ∷ ε31 ∷
+            ε4 ∷ ε20 ∷ ε28 ∷ ε22 ∷ ε5 ∷ []
 
         abbrev g22 : List.List Row.Entry
-        g22 = ε26 ∷ ε21 ∷ (2, Relend.mslice-owed in-Record.row τ5 0 3 (Row.lease (κs .0) (qs .0))) ∷ ε37 ∷ ε14 ∷ ε15 ∷ ε16 ∷ ε17 ∷ ε9 ∷ ε20 ∷ ε34 ∷
+        g22 = ε26 ∷ ε21 ∷ (2, Relend.mslice-owed in-Record.row τ5 0 3 (Row.lease (κs .0) (qs .0))) ∷ ε37 ∷ ε14 ∷ ε15 ∷ ε16 ∷ ε17 ∷ ε9 ∷ ε19 ∷ ε34 ∷
             ε18 ∷ ε30 ∷ ε28 ∷ ε22 ∷ ε5 ∷ []
 
         abbrev g26 : List.List Row.Entry
-        g26 = ε26 ∷ ε21 ∷ (2, Relend.mslice-owed in-Record.row τ5 0 3 (Row.lease (κs .0) (qs .0))) ∷ ε37 ∷ ε14 ∷ ε15 ∷ ε16 ∷ ε17 ∷ ε9 ∷ ε20 ∷ ε34 ∷
-            ε18 ∷ ε19 ∷ ε28 ∷ ε22 ∷ ε5 ∷ []
+        g26 = ε26 ∷ ε21 ∷ (2, Relend.mslice-owed in-Record.row τ5 0 3 (Row.lease (κs .0) (qs .0))) ∷ ε37 ∷ ε14 ∷ ε15 ∷ ε16 ∷ ε17 ∷ ε9 ∷ ε19 ∷ ε34 ∷
+            ε18 ∷ ε20 ∷ ε28 ∷ ε22 ∷ ε5 ∷ []
 
         abbrev G0 : Row.Cx
         G0 = record { locals = List._++_ t0 t1; slots = (Row.lease (κs .0) (qs .0)) ∷ (Row.lease (κs .1 .0) (qs .1 .0)) ∷ Row.off ∷ Row.off ∷ [] }
@@ -1431,23 +1430,18 @@ module _ (claims· : Claims) where
               )) d7
 
           d9 : Typed.Typed 𝓤 H A 𝓣 E G16 b7 Δ1 (at9 bs)
-          d9 = Typed.g-pre 𝓤 H A W 𝓣 E G16 G17 b7 Δ1 (Typed.pass T16 T17 (s14 bs)) (at8 bs) (Scalar.g-room 𝓤 H A W E G16 9 mirs.sched_core-Refusal
-              (Local.room-whole 𝓤 H A W (Declared.row Refusal.the-type) mirs.sched_core-Refusal Path'.refl)) d8
+          d9 = Typed.g-pre 𝓤 H A W 𝓣 E G16 G17 b7 Δ1 (Typed.pass T16 T17 (s14 bs)) (at8 bs) (Scalar.g-room 𝓤 H A W E G16 9 mirs.questions-Refusal
+              (Local.room-whole 𝓤 H A W (Declared.row Refusal.the-type) mirs.questions-Refusal Path'.refl)) d8
 
           d10 : Typed.Typed 𝓤 H A 𝓣 E G15 b8 Δ1 (at10 bs)
           d10 = Typed.s-seq 𝓤 H A W 𝓣 E G15 G16 b4 b7 Δ1 (Typed.pass T15 T16 (s13 bs)) (at9 bs) (Make.t-enum-make-wt 𝓤 H A W E 𝓣 RequestReply.the-type
-              Laws'4.the-laws Laws'4.the-plain tt G15 17 ((Scalar.oInt Syntax.w8 1) ∷ (Scalar.oAt 9 mirs.sched_core-Refusal (Laws'7.val
-              Refusal.the-type Laws''.the-laws)) ∷ []) (λ m. RequestReply.enum .make (Logic.inr (Logic.inl (m .1 .1 .1 .1 .1 .1 .1 .1 .1 .0, tt))))
-              (Reads'.room-gone 𝓤 H A mirs.sched_core-RequestReply) (
-                tt,
-                (
-                  (Whole.reads-enum 𝓤 H A W Refusal.the-type Laws''.the-laws, Path'.refl),
-                  tt,
-                ),
-              ) Path'.refl (λ m wa. Make.made-val RequestReply.the-type Laws'4.the-laws ((Laws'7.val Refusal.the-type Laws''.the-laws (m .1 .1 .1
-              .1 .1 .1 .1 .1 .1 .0)) ∷ []) (RequestReply.enum .make (Logic.inr (Logic.inl (m .1 .1 .1 .1 .1 .1 .1 .1 .1 .0, tt)))) (
+              Laws'4.the-laws Laws'4.the-plain tt G15 17 ((Scalar.oInt Syntax.w8 1) ∷ (Scalar.oAt 9 mirs.questions-Refusal (Laws'7.val
+              Refusal.the-type Laws'.the-laws)) ∷ []) (λ m. RequestReply.enum .make (Logic.inr (Logic.inl (m .1 .1 .1 .1 .1 .1 .1 .1 .1 .0, tt))))
+              (Reads'.room-gone 𝓤 H A mirs.sched_core-RequestReply) (tt, ((Whole.reads-enum 𝓤 H A W Refusal.the-type Laws'.the-laws, Path'.refl), tt))
+              Path'.refl (λ m wa. Make.made-val RequestReply.the-type Laws'4.the-laws ((Laws'7.val Refusal.the-type Laws'.the-laws (m .1 .1 .1 .1 .1
+              .1 .1 .1 .1 .0)) ∷ []) (RequestReply.enum .make (Logic.inr (Logic.inl (m .1 .1 .1 .1 .1 .1 .1 .1 .1 .0, tt)))) (
                 Signed.made-wt
-                    Refusal.the-field Laws''.the-field-laws (Whole.enum-wt Refusal.the-type Laws''.the-laws (
+                    Refusal.the-field Laws'.the-field-laws (Whole.enum-wt Refusal.the-type Laws'.the-laws (
                       tt,
                       (
                         tt,
@@ -1465,7 +1459,10 @@ module _ (claims· : Claims) where
                                     tt,
                                     (
                                       tt,
-                                      (tt, tt),
+                                      (
+                                        tt,
+                                        (tt, (tt, tt)),
+                                      ),
                                     ),
                                   ),
                                 ),
@@ -1476,12 +1473,47 @@ module _ (claims· : Claims) where
                       ),
                     )) (Refusal.the-type .to (m .1 .1 .1 .1 .1 .1 .1 .1 .1 .0)),
                 tt,
-              ) (wa .1)) λ m wa. Make.made-is RequestReply.the-type
-              Laws'4.the-laws ((Laws'7.val Refusal.the-type Laws''.the-laws (m .1 .1 .1 .1 .1 .1 .1 .1 .1 .0)) ∷ []) (RequestReply.enum .make
-              (Logic.inr (Logic.inl (m .1 .1 .1 .1 .1 .1 .1 .1 .1 .0, tt)))) (
-                Signed.made-wt Refusal.the-field Laws''.the-field-laws (Whole.enum-wt
-                    Refusal.the-type Laws''.the-laws (tt, (tt, (tt, (tt, (tt, (tt, (tt, (tt, (tt, (tt, tt))))))))))) (Refusal.the-type .to (m .1 .1 .1 .1 .1
-                    .1 .1 .1 .1 .0)),
+              ) (wa .1)) λ m wa. Make.made-is
+              RequestReply.the-type Laws'4.the-laws ((Laws'7.val Refusal.the-type Laws'.the-laws (m .1 .1 .1 .1 .1 .1 .1 .1 .1 .0)) ∷ [])
+              (RequestReply.enum .make (Logic.inr (Logic.inl (m .1 .1 .1 .1 .1 .1 .1 .1 .1 .0, tt)))) (
+                Signed.made-wt Refusal.the-field
+                    Laws'.the-field-laws (Whole.enum-wt Refusal.the-type Laws'.the-laws (
+                      tt,
+                      (
+                        tt,
+                        (
+                          tt,
+                          (
+                            tt,
+                            (
+                              tt,
+                              (
+                                tt,
+                                (
+                                  tt,
+                                  (
+                                    tt,
+                                    (
+                                      tt,
+                                      (
+                                        tt,
+                                        (
+                                          tt,
+                                          (
+                                            tt,
+                                            tt,
+                                          ),
+                                        ),
+                                      ),
+                                    ),
+                                  ),
+                                ),
+                              ),
+                            ),
+                          ),
+                        ),
+                      ),
+                    )) (Refusal.the-type .to (m .1 .1 .1 .1 .1 .1 .1 .1 .1 .0)),
                 tt,
               ) (wa .1)) d9
 
@@ -1491,19 +1523,19 @@ module _ (claims· : Claims) where
 
           d12 : Typed.Typed 𝓤 H A 𝓣 E G13 b9 Δ1 (at12 bs)
           d12 = Typed.s-seq 𝓤 H A W 𝓣 E G13 G14 b3 b8 Δ1 (Typed.pass T13 T14 (s11 bs)) (at11 bs) (CopyOut.t-copy-told 𝓤 H A W E 𝓣 (Declared.row
-              Refusal.the-type) Path'.refl (Laws'7.val Refusal.the-type Laws''.the-laws) (Laws'7.lawful Refusal.the-type Laws''.the-laws 𝓤 H A W tt)
-              (Laws'7.makes Refusal.the-type Laws''.the-plain 𝓤 H A) G13 9 (Scalar.oFld 8 ((Syntax.variant 1) ∷ (Syntax.field 1) ∷ [])
-              mirs.sched_core-Refusal 1 λ v. Laws'7.val Refusal.the-type Laws''.the-laws (v .0)) (λ m. m .1 .1 .1 .1 .1 .1 .1 .1 .0 .0) (λ m.
+              Refusal.the-type) Path'.refl (Laws'7.val Refusal.the-type Laws'.the-laws) (Laws'7.lawful Refusal.the-type Laws'.the-laws 𝓤 H A W tt)
+              (Laws'7.makes Refusal.the-type Laws'.the-plain 𝓤 H A) G13 9 (Scalar.oFld 8 ((Syntax.variant 1) ∷ (Syntax.field 1) ∷ [])
+              mirs.questions-Refusal 1 λ v. Laws'7.val Refusal.the-type Laws'.the-laws (v .0)) (λ m. m .1 .1 .1 .1 .1 .1 .1 .1 .0 .0) (λ m.
               Laws'7.Fields (Declared.variants Verdict.the-type) (Laws'7.spellss (Verdict.enum .parts) Laws'6.the-laws) (Verdict.the-type .to
-              (Known.at Verdict.enum 1 (m .1 .1 .1 .1 .1 .1 .1 .1 .0)))) (Reads'.room-gone 𝓤 H A mirs.sched_core-Refusal) (
+              (Known.at Verdict.enum 1 (m .1 .1 .1 .1 .1 .1 .1 .1 .0)))) (Reads'.room-gone 𝓤 H A mirs.questions-Refusal) (
                 Match.reads-payload 𝓤 H A W
-                    Verdict.enum Laws'6.the-laws 1 Path'.refl Path'.refl (λ v. Val.vcons (Laws'7.val Refusal.the-type Laws''.the-laws (v .0)) Val.vnil) (λ
-                    v. Path'.refl) 0 mirs.sched_core-Refusal 1 Path'.refl,
+                    Verdict.enum Laws'6.the-laws 1 Path'.refl Path'.refl (λ v. Val.vcons (Laws'7.val Refusal.the-type Laws'.the-laws (v .0)) Val.vnil) (λ v.
+                    Path'.refl) 0 mirs.questions-Refusal 1 Path'.refl,
                 Path'.refl,
-              ) Path'.refl (λ ρ m. Make'.tells-row 𝓤 H A W E ρ (Row.out 9 (G13
-              .locals)) m 8 (Laws'7.Fields (Declared.variants Verdict.the-type) (Laws'7.spellss (Verdict.enum .parts) Laws'6.the-laws)
-              (Verdict.the-type .to (Known.at Verdict.enum 1 (m .1 .1 .1 .1 .1 .1 .1 .1 .0)))) (Known.known-is 𝓤 H A W E Verdict.enum 1
-              Laws'6.the-laws ρ 8 (m .1 .1 .1 .1 .1 .1 .1 .1 .0))) (λ m k wa. Path'.refl) λ m k wa. k .0) d11
+              ) Path'.refl (λ ρ m. Make'.tells-row 𝓤 H A W E ρ (Row.out 9 (G13 .locals))
+              m 8 (Laws'7.Fields (Declared.variants Verdict.the-type) (Laws'7.spellss (Verdict.enum .parts) Laws'6.the-laws) (Verdict.the-type .to
+              (Known.at Verdict.enum 1 (m .1 .1 .1 .1 .1 .1 .1 .1 .0)))) (Known.known-is 𝓤 H A W E Verdict.enum 1 Laws'6.the-laws ρ 8 (m .1 .1 .1 .1
+              .1 .1 .1 .1 .0))) (λ m k wa. Path'.refl) λ m k wa. k .0) d11
 
           d13 : Typed.Typed 𝓤 H A 𝓣 E G12 b9 Δ1 (at13 bs)
           d13 = Typed.g-pre 𝓤 H A W 𝓣 E G12 G13 b9 Δ1 (Typed.give (s10 bs)) (at12 bs) (Known.g-known-told 𝓤 H A W E Verdict.enum 1 G12 8
@@ -1680,7 +1712,7 @@ module _ (claims· : Claims) where
                     (Row.tl (Row.tl (Row.tl (Row.tl (Row.tl (Row.tl (Row.tl (Row.tl (Row.tl bs)))))))))),
                 0,
               ) (Behind.look-at 𝓤 H A W q RequestPlan.the-type
-              Laws'.the-laws 1 8 Path'.refl Path'.refl (
+              Laws''.the-laws 1 8 Path'.refl Path'.refl (
                 Row.hd 0 (Row.tl (Row.tl (Row.tl (Row.tl (Row.tl (Row.tl (Row.tl (Row.tl (Row.tl (Row.tl
                     bs)))))))))),
                 0,
@@ -1694,17 +1726,17 @@ module _ (claims· : Claims) where
               Laws'4.the-laws 𝓤 H A W tt) (Laws'7.makes RequestReply.the-type Laws'4.the-plain 𝓤 H A) G40 13 (Scalar.oFld 10 ((Syntax.field 0) ∷ [])
               mirs.sched_core-RequestReply 0 λ x. Laws'7.val RequestReply.the-type Laws'4.the-laws (RequestPlan.struct .as-values x .0)) (λ m.
               RequestPlan.struct .as-values (m .1 .1 .1 .1 .1 .1 .1 .1 .1 .1 .0) .0) (λ m. Laws'8.Is (Declared'.row RequestPlan.the-type) (m .1 .1 .1
-              .1 .1 .1 .1 .1 .1 .1 .0) (Laws'9.vals RequestPlan.the-type Laws'.the-laws (m .1 .1 .1 .1 .1 .1 .1 .1 .1 .1 .0))) (Reads'.room-gone 𝓤 H A
-              mirs.sched_core-RequestReply) (
-                Reads.reads-field 𝓤 H A W RequestPlan.the-type Laws'.the-laws 0 mirs.sched_core-RequestReply 0
+              .1 .1 .1 .1 .1 .1 .1 .0) (Laws'9.vals RequestPlan.the-type Laws''.the-laws (m .1 .1 .1 .1 .1 .1 .1 .1 .1 .1 .0))) (Reads'.room-gone 𝓤 H
+              A mirs.sched_core-RequestReply) (
+                Reads.reads-field 𝓤 H A W RequestPlan.the-type Laws''.the-laws 0 mirs.sched_core-RequestReply 0
                     Path'.refl,
                 Path'.refl,
               ) Path'.refl (λ ρ m. Make'.tells-row 𝓤 H A W E ρ (Row.out 13 (G40 .locals)) m 10 (Laws'8.Is (Declared'.row
-              RequestPlan.the-type) (m .1 .1 .1 .1 .1 .1 .1 .1 .1 .1 .0) (Laws'9.vals RequestPlan.the-type Laws'.the-laws (m .1 .1 .1 .1 .1 .1 .1 .1
-              .1 .1 .0))) (Make'.whole-is 𝓤 H A W E (Declared'.row RequestPlan.the-type) Path'.refl (Laws'9.val RequestPlan.the-type Laws'.the-laws)
-              (Laws'9.tells RequestPlan.the-type Laws'.the-laws) ρ 10 (m .1 .1 .1 .1 .1 .1 .1 .1 .1 .1 .0))) (λ m k wa. Path'.refl) λ m k wa.
-              Laws'9.owed RequestPlan.the-type Laws'.the-laws (m .1 .1 .1 .1 .1 .1 .1 .1 .1 .1 .0) (Laws'9.vals RequestPlan.the-type Laws'.the-laws (m
-              .1 .1 .1 .1 .1 .1 .1 .1 .1 .1 .0)) k .0) d34
+              RequestPlan.the-type) (m .1 .1 .1 .1 .1 .1 .1 .1 .1 .1 .0) (Laws'9.vals RequestPlan.the-type Laws''.the-laws (m .1 .1 .1 .1 .1 .1 .1 .1
+              .1 .1 .0))) (Make'.whole-is 𝓤 H A W E (Declared'.row RequestPlan.the-type) Path'.refl (Laws'9.val RequestPlan.the-type Laws''.the-laws)
+              (Laws'9.tells RequestPlan.the-type Laws''.the-laws) ρ 10 (m .1 .1 .1 .1 .1 .1 .1 .1 .1 .1 .0))) (λ m k wa. Path'.refl) λ m k wa.
+              Laws'9.owed RequestPlan.the-type Laws''.the-laws (m .1 .1 .1 .1 .1 .1 .1 .1 .1 .1 .0) (Laws'9.vals RequestPlan.the-type Laws''.the-laws
+              (m .1 .1 .1 .1 .1 .1 .1 .1 .1 .1 .0)) k .0) d34
 
           d36 : Typed.Typed 𝓤 H A 𝓣 E G39 b24 Δ0 (at36 bs)
           d36 = Typed.g-pre 𝓤 H A W 𝓣 E G39 G40 b24 Δ0 (λ Ψ. Ψ) (at35 bs) (Lifetime.g-forget 𝓤 H A W E G39 3 Row.dead Path'.refl) d35
@@ -1821,16 +1853,16 @@ module _ (claims· : Claims) where
                 Row.hd 0 (Row.tl (Row.tl (Row.tl (Row.tl (Row.tl
                     (Row.tl (Row.tl (Row.tl (Row.tl (Row.tl bs)))))))))),
                 0,
-              ) (Behind.look-at 𝓤 H A W q RequestPlan.the-type Laws'.the-laws 3 1472 Path'.refl
-              Path'.refl (Row.hd 0 (Row.tl (Row.tl (Row.tl (Row.tl (Row.tl (Row.tl (Row.tl (Row.tl (Row.tl (Row.tl bs)))))))))), 0) (u .1 .1 .1 .1 .1
-              .1 .1 .1 .1 .1 .0) (RequestPlan.struct .as-values (u .1 .1 .1 .1 .1 .1 .1 .1 .1 .1 .0)) Path'.refl)) (Reads'.room-gone 𝓤 H A
+              ) (Behind.look-at 𝓤 H A W q RequestPlan.the-type Laws''.the-laws 3 1472
+              Path'.refl Path'.refl (Row.hd 0 (Row.tl (Row.tl (Row.tl (Row.tl (Row.tl (Row.tl (Row.tl (Row.tl (Row.tl (Row.tl bs)))))))))), 0) (u .1
+              .1 .1 .1 .1 .1 .1 .1 .1 .1 .0) (RequestPlan.struct .as-values (u .1 .1 .1 .1 .1 .1 .1 .1 .1 .1 .0)) Path'.refl)) (Reads'.room-gone 𝓤 H A
               mirs.dl_record-Record) (Yields.makes-mem 𝓤 H A W (λ ρ. Unit) (Declared'.row Record.the-type) Path'.refl ρ2 (λ x. x) λ ρ told.
               Local.whole-mem 𝓤 H A W (Declared'.row Record.the-type) ρ) Path'.refl Path'.refl Path'.refl) d44
 
           d46 : Typed.Typed 𝓤 H A 𝓣 E G29 b29 Δ0 (at46 bs)
           d46 = Typed.s-seq 𝓤 H A W 𝓣 E G29 G30 b13 b28 Δ0 (Typed.pass T29 T30 (s27 bs)) (at45 bs) (Scalar.t-use 𝓤 H A W E 𝓣 G29 (Scalar.oFld 10
-              ((Syntax.field 2) ∷ []) τ1 1464 (Reads.fieldV RequestPlan.the-type Laws'.the-laws 2)) 11 ρ1 τ1 (Row.valS (Row.sInt Syntax.w64))
-              (Row.sInt Syntax.w64 .of) (Reads.reads-field 𝓤 H A W RequestPlan.the-type Laws'.the-laws 2 τ1 1464 Path'.refl, Path'.refl)
+              ((Syntax.field 2) ∷ []) τ1 1464 (Reads.fieldV RequestPlan.the-type Laws''.the-laws 2)) 11 ρ1 τ1 (Row.valS (Row.sInt Syntax.w64))
+              (Row.sInt Syntax.w64 .of) (Reads.reads-field 𝓤 H A W RequestPlan.the-type Laws''.the-laws 2 τ1 1464 Path'.refl, Path'.refl)
               (Reads'.room-gone 𝓤 H A τ1) (Scalar.holds-sc 𝓤 H A W (Row.sInt Syntax.w64)) Path'.refl (λ u. Path'.refl) λ u. tt) d45
 
           d47 : Typed.Typed 𝓤 H A 𝓣 E G28 b29 Δ0 (at47 bs)

@@ -1,6 +1,6 @@
 -- A refusal changes nothing; a new station has an empty queue and store. Assumes nothing.
 use borrow.Author.Needs.{needs}
-use Rattle.sched_core.proofs.AskLaws.{said-no, said-yes}
+use Rattle.questions.proofs.AskLaws.{said-no, said-yes}
 use Rattle.interpreter.proofs.StepLaws.{new-refused, new-done}
 use Rattle.interpreter.proofs.steps.new_step.Statement.{statement}
 use Rattle.interpreter.proofs.steps.new_step.Tie as tie

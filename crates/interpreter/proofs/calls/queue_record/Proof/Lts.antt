@@ -5,14 +5,14 @@ use Rattle.bs_sched.proofs.Rows_Record as in-Record
 use Rattle.dl_record.proofs.QueuedHeader
 use Rattle.dl_record.proofs.QueuedHeader.Laws
 use Rattle.interpreter.proofs.Mirs as mirs
+use Rattle.interpreter.proofs.calls.QueueLeft
+use Rattle.interpreter.proofs.calls.QueueLeft.Laws as Laws'4
 use Rattle.optional.proofs.OptU16
 use Rattle.optional.proofs.OptU16.Laws as Laws'
 use Rattle.sched_core.proofs.Answer
 use Rattle.sched_core.proofs.Answer.Laws as Laws''
-use Rattle.sched_core.proofs.CoreAnswer
-use Rattle.sched_core.proofs.CoreAnswer.Laws as Laws'3
 use Rattle.sched_core.proofs.Station
-use Rattle.sched_core.proofs.Station.Laws as Laws'4
+use Rattle.sched_core.proofs.Station.Laws as Laws'3
 use borrow.Author.Called
 use borrow.Enum.Make
 use borrow.Fn.Any
@@ -172,25 +172,25 @@ abbrev ε17 : Row.Entry
 ε17 = (5, Rows'.sc-here (Row.sInt Syntax.w8))
 
 abbrev ε18 : Row.Entry
-ε18 = (6, Rows'.sc-here (Row.sInt Syntax.w32))
+ε18 = (0, Rows'.any-gone mirs.calls-QueueLeft)
 
 abbrev ε19 : Row.Entry
-ε19 = (7, Rows'.sc-here (Row.sInt Syntax.w16))
+ε19 = (6, Rows'.sc-here (Row.sInt Syntax.w32))
 
 abbrev ε20 : Row.Entry
-ε20 = (8, Rows'.sc-here (Row.sInt Syntax.w16))
+ε20 = (7, Rows'.sc-here (Row.sInt Syntax.w16))
 
 abbrev ε21 : Row.Entry
-ε21 = (17, Rows'.any-gone mirs.optional-OptU16)
+ε21 = (8, Rows'.sc-here (Row.sInt Syntax.w16))
 
 abbrev ε22 : Row.Entry
-ε22 = (12, Rows'.any-gone mirs.sched_core-Answer)
+ε22 = (17, Rows'.any-gone mirs.optional-OptU16)
 
 abbrev ε23 : Row.Entry
-ε23 = (1, Rows'.any-gone mirs.sched_core-Station)
+ε23 = (12, Rows'.any-gone mirs.sched_core-Answer)
 
 abbrev ε24 : Row.Entry
-ε24 = (0, Rows'.any-gone mirs.sched_core-CoreAnswer)
+ε24 = (1, Rows'.any-gone mirs.sched_core-Station)
 
 abbrev ε25 : Row.Entry
 ε25 = (11, Rows'.any-gone mirs.dl_record-QueuedHeader)
@@ -205,7 +205,7 @@ abbrev ε28 : Row.Entry
 ε28 = (12, Rows'.whole (Declared'.row Answer.the-type))
 
 abbrev ε29 : Row.Entry
-ε29 = (0, Rows'.whole (Declared'.row CoreAnswer.the-type))
+ε29 = (0, Rows'.whole (Declared'.row QueueLeft.the-type))
 
 abbrev ε30 : Row.Entry
 ε30 = (11, Rows'.whole (Declared'.row QueuedHeader.the-type))
@@ -232,19 +232,19 @@ abbrev pub ps : List.List (Kinds.PK 2)
 ps = (Value.pVal record {
   ty = Declared'.row Station.the-type;
   one = Path'.refl;
-  val = Laws'6.val Station.the-type Laws'4.the-laws;
+  val = Laws'6.val Station.the-type Laws'3.the-laws;
   tells =
-      Laws'6.tells Station.the-type Laws'4.the-laws;
-  still = Laws'6.still Station.the-type Laws'4.the-copy Exit.yes;
+      Laws'6.tells Station.the-type Laws'3.the-laws;
+  still = Laws'6.still Station.the-type Laws'3.the-copy Exit.yes;
   row = Rows'.whole (Declared'.row
       Station.the-type);
   rd = λ x. x;
   mk = λ x. x;
 } λ M 𝓤 H A W. record {
-  copies = Laws'6.copy Station.the-type Laws'4.the-copy 𝓤 H A W;
+  copies = Laws'6.copy Station.the-type Laws'3.the-copy 𝓤 H A W;
   lawful =
-      Laws'6.lawful Station.the-type Laws'4.the-laws 𝓤 H A W;
-  makes = Laws'6.makes Station.the-type Laws'4.the-plain 𝓤 H A;
+      Laws'6.lawful Station.the-type Laws'3.the-laws 𝓤 H A W;
+  makes = Laws'6.makes Station.the-type Laws'3.the-plain 𝓤 H A;
   in-mem = Local.mem-whole 𝓤 H
       A W (Declared'.row Station.the-type);
   of-mem = Local.whole-mem 𝓤 H A W (Declared'.row Station.the-type);
@@ -254,24 +254,24 @@ ps = (Value.pVal record {
 
 abbrev pub r : Kinds.RK 2
 r = Value.rVal record {
-  ty = Declared'.row CoreAnswer.the-type;
+  ty = Declared'.row QueueLeft.the-type;
   one = Path'.refl;
-  val = Laws'6.val CoreAnswer.the-type Laws'3.the-laws;
+  val = Laws'6.val QueueLeft.the-type Laws'4.the-laws;
   tells =
-      Laws'6.tells CoreAnswer.the-type Laws'3.the-laws;
-  still = Laws'6.still CoreAnswer.the-type Laws'3.the-copy Exit.yes;
+      Laws'6.tells QueueLeft.the-type Laws'4.the-laws;
+  still = Laws'6.still QueueLeft.the-type Laws'4.the-copy Exit.yes;
   row = Rows'.whole
-      (Declared'.row CoreAnswer.the-type);
+      (Declared'.row QueueLeft.the-type);
   rd = λ x. x;
   mk = λ x. x;
 } λ M 𝓤 H A W. record {
-  copies = Laws'6.copy CoreAnswer.the-type Laws'3.the-copy 𝓤 H
-      A W;
-  lawful = Laws'6.lawful CoreAnswer.the-type Laws'3.the-laws 𝓤 H A W;
-  makes = Laws'6.makes CoreAnswer.the-type Laws'3.the-plain 𝓤 H A;
+  copies = Laws'6.copy QueueLeft.the-type Laws'4.the-copy 𝓤 H A
+      W;
+  lawful = Laws'6.lawful QueueLeft.the-type Laws'4.the-laws 𝓤 H A W;
+  makes = Laws'6.makes QueueLeft.the-type Laws'4.the-plain 𝓤 H A;
   in-mem =
-      Local.mem-whole 𝓤 H A W (Declared'.row CoreAnswer.the-type);
-  of-mem = Local.whole-mem 𝓤 H A W (Declared'.row CoreAnswer.the-type);
+      Local.mem-whole 𝓤 H A W (Declared'.row QueueLeft.the-type);
+  of-mem = Local.whole-mem 𝓤 H A W (Declared'.row QueueLeft.the-type);
 }
 
 abbrev pub xs : List.List Syntax.Ty
@@ -309,19 +309,19 @@ abbrev pub ps·1 : List.List (Kinds.PK 3)
 ps·1 = (Value.pVal record {
   ty = Declared'.row Station.the-type;
   one = Path'.refl;
-  val = Laws'6.val Station.the-type Laws'4.the-laws;
+  val = Laws'6.val Station.the-type Laws'3.the-laws;
   tells =
-      Laws'6.tells Station.the-type Laws'4.the-laws;
-  still = Laws'6.still Station.the-type Laws'4.the-copy Exit.yes;
+      Laws'6.tells Station.the-type Laws'3.the-laws;
+  still = Laws'6.still Station.the-type Laws'3.the-copy Exit.yes;
   row = Rows'.whole (Declared'.row
       Station.the-type);
   rd = λ x. x;
   mk = λ x. x;
 } λ M 𝓤 H A W. record {
-  copies = Laws'6.copy Station.the-type Laws'4.the-copy 𝓤 H A W;
+  copies = Laws'6.copy Station.the-type Laws'3.the-copy 𝓤 H A W;
   lawful =
-      Laws'6.lawful Station.the-type Laws'4.the-laws 𝓤 H A W;
-  makes = Laws'6.makes Station.the-type Laws'4.the-plain 𝓤 H A;
+      Laws'6.lawful Station.the-type Laws'3.the-laws 𝓤 H A W;
+  makes = Laws'6.makes Station.the-type Laws'3.the-plain 𝓤 H A;
   in-mem = Local.mem-whole 𝓤 H
       A W (Declared'.row Station.the-type);
   of-mem = Local.whole-mem 𝓤 H A W (Declared'.row Station.the-type);
@@ -415,24 +415,24 @@ ps·2 = (Value.pVal record {
 
 abbrev pub r·2 : Kinds.RK 0
 r·2 = Value.rVal record {
-  ty = Declared'.row CoreAnswer.the-type;
+  ty = Declared'.row QueueLeft.the-type;
   one = Path'.refl;
-  val = Laws'6.val CoreAnswer.the-type Laws'3.the-laws;
+  val = Laws'6.val QueueLeft.the-type Laws'4.the-laws;
   tells =
-      Laws'6.tells CoreAnswer.the-type Laws'3.the-laws;
-  still = Laws'6.still CoreAnswer.the-type Laws'3.the-copy Exit.yes;
+      Laws'6.tells QueueLeft.the-type Laws'4.the-laws;
+  still = Laws'6.still QueueLeft.the-type Laws'4.the-copy Exit.yes;
   row = Rows'.whole
-      (Declared'.row CoreAnswer.the-type);
+      (Declared'.row QueueLeft.the-type);
   rd = λ x. x;
   mk = λ x. x;
 } λ M 𝓤 H A W. record {
-  copies = Laws'6.copy CoreAnswer.the-type Laws'3.the-copy 𝓤 H
-      A W;
-  lawful = Laws'6.lawful CoreAnswer.the-type Laws'3.the-laws 𝓤 H A W;
-  makes = Laws'6.makes CoreAnswer.the-type Laws'3.the-plain 𝓤 H A;
+  copies = Laws'6.copy QueueLeft.the-type Laws'4.the-copy 𝓤 H A
+      W;
+  lawful = Laws'6.lawful QueueLeft.the-type Laws'4.the-laws 𝓤 H A W;
+  makes = Laws'6.makes QueueLeft.the-type Laws'4.the-plain 𝓤 H A;
   in-mem =
-      Local.mem-whole 𝓤 H A W (Declared'.row CoreAnswer.the-type);
-  of-mem = Local.whole-mem 𝓤 H A W (Declared'.row CoreAnswer.the-type);
+      Local.mem-whole 𝓤 H A W (Declared'.row QueueLeft.the-type);
+  of-mem = Local.whole-mem 𝓤 H A W (Declared'.row QueueLeft.the-type);
 }
 
 abbrev pub hs : List.List Syntax.Home
@@ -513,85 +513,85 @@ abbrev pub Claims : Type 1
 Claims = Kinds.In 0 ps·0 × Kinds.Out 0 ps·0 r·0 × Kinds.In 3 ps·1 × Kinds.Out 3 ps·1 r·1 × Kinds.In 0 ps·2 × Kinds.Out 0 ps·2 r·2
 
 abbrev pub t0 : List.List Row.Entry
-t0 = ε24 ∷ ε27 ∷ ε11 ∷ ε32 ∷ ε16 ∷ ε17 ∷ ε18 ∷ ε19 ∷ ε20 ∷ ε34 ∷ ε5 ∷ ε25 ∷ ε22 ∷ ε9 ∷ ε6 ∷ ε7 ∷ []
+t0 = ε18 ∷ ε27 ∷ ε11 ∷ ε32 ∷ ε16 ∷ ε17 ∷ ε19 ∷ ε20 ∷ ε21 ∷ ε34 ∷ ε5 ∷ ε25 ∷ ε23 ∷ ε9 ∷ ε6 ∷ ε7 ∷ []
 
 abbrev pub t1 : List.List Row.Entry
-t1 = ε10 ∷ ε21 ∷ ε8 ∷ []
+t1 = ε10 ∷ ε22 ∷ ε8 ∷ []
 
 abbrev pub t2 : List.List Row.Entry
-t2 = ε29 ∷ ε23 ∷ ε0 ∷ ε32 ∷ ε1 ∷ ε2 ∷ ε3 ∷ ε4 ∷ (8, Rows'.any-gone τ2) ∷ ε34 ∷ ε5 ∷ ε25 ∷ ε22 ∷ ε9 ∷ ε6 ∷ ε7 ∷ []
+t2 = ε29 ∷ ε24 ∷ ε0 ∷ ε32 ∷ ε1 ∷ ε2 ∷ ε3 ∷ ε4 ∷ (8, Rows'.any-gone τ2) ∷ ε34 ∷ ε5 ∷ ε25 ∷ ε23 ∷ ε9 ∷ ε6 ∷ ε7 ∷ []
 
 abbrev pub t3 : List.List Row.Entry
-t3 = ε24 ∷ ε27 ∷ ε11 ∷ ε32 ∷ ε16 ∷ ε17 ∷ ε18 ∷ ε19 ∷ ε20 ∷ ε34 ∷ ε13 ∷ ε25 ∷ ε22 ∷ ε9 ∷ ε6 ∷ ε7 ∷ []
+t3 = ε18 ∷ ε27 ∷ ε11 ∷ ε32 ∷ ε16 ∷ ε17 ∷ ε19 ∷ ε20 ∷ ε21 ∷ ε34 ∷ ε13 ∷ ε25 ∷ ε23 ∷ ε9 ∷ ε6 ∷ ε7 ∷ []
 
 abbrev pub t4 : List.List Row.Entry
-t4 = ε24 ∷ ε27 ∷ ε0 ∷ ε32 ∷ ε16 ∷ ε17 ∷ ε18 ∷ ε19 ∷ ε20 ∷ ε34 ∷ ε13 ∷ ε25 ∷ ε22 ∷ ε9 ∷ ε6 ∷ ε7 ∷ []
+t4 = ε18 ∷ ε27 ∷ ε0 ∷ ε32 ∷ ε16 ∷ ε17 ∷ ε19 ∷ ε20 ∷ ε21 ∷ ε34 ∷ ε13 ∷ ε25 ∷ ε23 ∷ ε9 ∷ ε6 ∷ ε7 ∷ []
 
 abbrev pub t5 : List.List Row.Entry
-t5 = ε24 ∷ ε27 ∷ ε0 ∷ ε32 ∷ ε16 ∷ ε17 ∷ ε18 ∷ ε19 ∷ ε20 ∷ ε34 ∷ ε13 ∷ ε30 ∷ ε22 ∷ ε9 ∷ ε6 ∷ ε7 ∷ []
+t5 = ε18 ∷ ε27 ∷ ε0 ∷ ε32 ∷ ε16 ∷ ε17 ∷ ε19 ∷ ε20 ∷ ε21 ∷ ε34 ∷ ε13 ∷ ε30 ∷ ε23 ∷ ε9 ∷ ε6 ∷ ε7 ∷ []
 
 abbrev pub t6 : List.List Row.Entry
-t6 = ε24 ∷ ε27 ∷ ε0 ∷ ε32 ∷ ε16 ∷ ε17 ∷ ε18 ∷ ε19 ∷ ε20 ∷ ε34 ∷ ε15 ∷ ε30 ∷ ε22 ∷ (13, Relend.msptr in-Record.row τ11 2) ∷ ε6 ∷ ε7 ∷ []
+t6 = ε18 ∷ ε27 ∷ ε0 ∷ ε32 ∷ ε16 ∷ ε17 ∷ ε19 ∷ ε20 ∷ ε21 ∷ ε34 ∷ ε15 ∷ ε30 ∷ ε23 ∷ (13, Relend.msptr in-Record.row τ11 2) ∷ ε6 ∷ ε7 ∷ []
 
 abbrev pub t7 : List.List Row.Entry
-t7 = ε24 ∷ ε27 ∷ ε0 ∷ ε32 ∷ ε16 ∷ ε17 ∷ ε18 ∷ ε19 ∷ ε20 ∷ ε34 ∷ ε15 ∷ ε30 ∷ ε22 ∷ ε9 ∷ ε14 ∷ ε7 ∷ []
+t7 = ε18 ∷ ε27 ∷ ε0 ∷ ε32 ∷ ε16 ∷ ε17 ∷ ε19 ∷ ε20 ∷ ε21 ∷ ε34 ∷ ε15 ∷ ε30 ∷ ε23 ∷ ε9 ∷ ε14 ∷ ε7 ∷ []
 
 abbrev pub t8 : List.List Row.Entry
-t8 = ε24 ∷ ε27 ∷ ε0 ∷ ε36 ∷ ε16 ∷ ε17 ∷ ε18 ∷ ε19 ∷ ε20 ∷ ε34 ∷ ε15 ∷ ε30 ∷ ε22 ∷ ε9 ∷ ε14 ∷ ε35 ∷ []
+t8 = ε18 ∷ ε27 ∷ ε0 ∷ ε36 ∷ ε16 ∷ ε17 ∷ ε19 ∷ ε20 ∷ ε21 ∷ ε34 ∷ ε15 ∷ ε30 ∷ ε23 ∷ ε9 ∷ ε14 ∷ ε35 ∷ []
 
 abbrev pub t9 : List.List Row.Entry
-t9 = ε24 ∷ ε27 ∷ ε0 ∷ ε36 ∷ ε16 ∷ ε17 ∷ ε18 ∷ ε19 ∷ ε20 ∷ ε34 ∷ ε15 ∷ ε30 ∷ ε22 ∷ ε9 ∷ ε14 ∷ ε7 ∷ []
+t9 = ε18 ∷ ε27 ∷ ε0 ∷ ε36 ∷ ε16 ∷ ε17 ∷ ε19 ∷ ε20 ∷ ε21 ∷ ε34 ∷ ε15 ∷ ε30 ∷ ε23 ∷ ε9 ∷ ε14 ∷ ε7 ∷ []
 
 abbrev pub t10 : List.List Row.Entry
-t10 = ε33 ∷ ε21 ∷ ε8 ∷ []
+t10 = ε33 ∷ ε22 ∷ ε8 ∷ []
 
 abbrev pub t11 : List.List Row.Entry
 t11 = ε33 ∷ ε26 ∷ ε8 ∷ []
 
 abbrev pub t12 : List.List Row.Entry
-t12 = ε24 ∷ ε27 ∷ ε0 ∷ ε36 ∷ ε16 ∷ ε17 ∷ ε18 ∷ ε19 ∷ ε20 ∷ ε34 ∷ ε15 ∷ ε30 ∷ ε28 ∷ ε9 ∷ ε12 ∷ ε7 ∷ []
+t12 = ε18 ∷ ε27 ∷ ε0 ∷ ε36 ∷ ε16 ∷ ε17 ∷ ε19 ∷ ε20 ∷ ε21 ∷ ε34 ∷ ε15 ∷ ε30 ∷ ε28 ∷ ε9 ∷ ε12 ∷ ε7 ∷ []
 
 abbrev pub t13 : List.List Row.Entry
 t13 = ε31 ∷ ε26 ∷ ε8 ∷ []
 
 abbrev pub t14 : List.List Row.Entry
-t14 = ε24 ∷ ε23 ∷ ε0 ∷ ε36 ∷ ε16 ∷ ε17 ∷ ε18 ∷ ε19 ∷ ε20 ∷ ε34 ∷ ε15 ∷ ε30 ∷ ε28 ∷ ε9 ∷ ε12 ∷ ε7 ∷ []
+t14 = ε18 ∷ ε24 ∷ ε0 ∷ ε36 ∷ ε16 ∷ ε17 ∷ ε19 ∷ ε20 ∷ ε21 ∷ ε34 ∷ ε15 ∷ ε30 ∷ ε28 ∷ ε9 ∷ ε12 ∷ ε7 ∷ []
 
 abbrev pub t15 : List.List Row.Entry
-t15 = ε24 ∷ ε23 ∷ ε0 ∷ ε36 ∷ ε16 ∷ ε17 ∷ ε18 ∷ ε19 ∷ ε20 ∷ ε34 ∷ ε15 ∷ ε25 ∷ ε28 ∷ ε9 ∷ ε12 ∷ ε7 ∷ []
+t15 = ε18 ∷ ε24 ∷ ε0 ∷ ε36 ∷ ε16 ∷ ε17 ∷ ε19 ∷ ε20 ∷ ε21 ∷ ε34 ∷ ε15 ∷ ε25 ∷ ε28 ∷ ε9 ∷ ε12 ∷ ε7 ∷ []
 
 abbrev pub t16 : List.List Row.Entry
-t16 = ε31 ∷ ε21 ∷ ε8 ∷ []
+t16 = ε31 ∷ ε22 ∷ ε8 ∷ []
 
 abbrev pub t17 : List.List Row.Entry
-t17 = ε24 ∷ ε23 ∷ ε0 ∷ ε36 ∷ ε16 ∷ ε17 ∷ ε18 ∷ ε19 ∷ ε20 ∷ ε34 ∷ ε13 ∷ ε25 ∷ ε28 ∷ ε9 ∷ ε6 ∷ ε7 ∷ []
+t17 = ε18 ∷ ε24 ∷ ε0 ∷ ε36 ∷ ε16 ∷ ε17 ∷ ε19 ∷ ε20 ∷ ε21 ∷ ε34 ∷ ε13 ∷ ε25 ∷ ε28 ∷ ε9 ∷ ε6 ∷ ε7 ∷ []
 
 abbrev pub t18 : List.List Row.Entry
-t18 = ε24 ∷ ε23 ∷ ε0 ∷ ε32 ∷ ε16 ∷ ε17 ∷ ε18 ∷ ε19 ∷ ε20 ∷ ε34 ∷ ε13 ∷ ε25 ∷ ε28 ∷ ε9 ∷ ε6 ∷ ε7 ∷ []
+t18 = ε18 ∷ ε24 ∷ ε0 ∷ ε32 ∷ ε16 ∷ ε17 ∷ ε19 ∷ ε20 ∷ ε21 ∷ ε34 ∷ ε13 ∷ ε25 ∷ ε28 ∷ ε9 ∷ ε6 ∷ ε7 ∷ []
 
 abbrev pub t19 : List.List Row.Entry
-t19 = ε10 ∷ ε21 ∷ (18, Rows.arrF in-Record.row 64 0) ∷ []
+t19 = ε10 ∷ ε22 ∷ (18, Rows.arrF in-Record.row 64 0) ∷ []
 
 abbrev pub t20 : List.List Row.Entry
-t20 = ε24 ∷ ε23 ∷ ε0 ∷ ε32 ∷ ε16 ∷ ε17 ∷ ε18 ∷ ε19 ∷ ε20 ∷ ε34 ∷ ε5 ∷ ε25 ∷ ε28 ∷ ε9 ∷ ε6 ∷ ε7 ∷ []
+t20 = ε18 ∷ ε24 ∷ ε0 ∷ ε32 ∷ ε16 ∷ ε17 ∷ ε19 ∷ ε20 ∷ ε21 ∷ ε34 ∷ ε5 ∷ ε25 ∷ ε28 ∷ ε9 ∷ ε6 ∷ ε7 ∷ []
 
 abbrev pub t21 : List.List Row.Entry
-t21 = ε29 ∷ ε23 ∷ ε0 ∷ ε32 ∷ ε16 ∷ ε17 ∷ ε18 ∷ ε19 ∷ ε20 ∷ ε34 ∷ ε5 ∷ ε25 ∷ ε28 ∷ ε9 ∷ ε6 ∷ ε7 ∷ []
+t21 = ε29 ∷ ε24 ∷ ε0 ∷ ε32 ∷ ε16 ∷ ε17 ∷ ε19 ∷ ε20 ∷ ε21 ∷ ε34 ∷ ε5 ∷ ε25 ∷ ε28 ∷ ε9 ∷ ε6 ∷ ε7 ∷ []
 
 abbrev pub t22 : List.List Row.Entry
-t22 = ε29 ∷ ε23 ∷ ε0 ∷ ε32 ∷ ε16 ∷ ε17 ∷ ε18 ∷ ε19 ∷ ε20 ∷ ε34 ∷ ε5 ∷ ε25 ∷ ε22 ∷ ε9 ∷ ε6 ∷ ε7 ∷ []
+t22 = ε29 ∷ ε24 ∷ ε0 ∷ ε32 ∷ ε16 ∷ ε17 ∷ ε19 ∷ ε20 ∷ ε21 ∷ ε34 ∷ ε5 ∷ ε25 ∷ ε23 ∷ ε9 ∷ ε6 ∷ ε7 ∷ []
 
 abbrev pub t23 : List.List Row.Entry
-t23 = ε29 ∷ ε23 ∷ ε0 ∷ ε32 ∷ ε1 ∷ ε17 ∷ ε18 ∷ ε19 ∷ ε20 ∷ ε34 ∷ ε5 ∷ ε25 ∷ ε22 ∷ ε9 ∷ ε6 ∷ ε7 ∷ []
+t23 = ε29 ∷ ε24 ∷ ε0 ∷ ε32 ∷ ε1 ∷ ε17 ∷ ε19 ∷ ε20 ∷ ε21 ∷ ε34 ∷ ε5 ∷ ε25 ∷ ε23 ∷ ε9 ∷ ε6 ∷ ε7 ∷ []
 
 abbrev pub t24 : List.List Row.Entry
-t24 = ε29 ∷ ε23 ∷ ε0 ∷ ε32 ∷ ε1 ∷ ε2 ∷ ε18 ∷ ε19 ∷ ε20 ∷ ε34 ∷ ε5 ∷ ε25 ∷ ε22 ∷ ε9 ∷ ε6 ∷ ε7 ∷ []
+t24 = ε29 ∷ ε24 ∷ ε0 ∷ ε32 ∷ ε1 ∷ ε2 ∷ ε19 ∷ ε20 ∷ ε21 ∷ ε34 ∷ ε5 ∷ ε25 ∷ ε23 ∷ ε9 ∷ ε6 ∷ ε7 ∷ []
 
 abbrev pub t25 : List.List Row.Entry
-t25 = ε29 ∷ ε23 ∷ ε0 ∷ ε32 ∷ ε1 ∷ ε2 ∷ ε3 ∷ ε19 ∷ ε20 ∷ ε34 ∷ ε5 ∷ ε25 ∷ ε22 ∷ ε9 ∷ ε6 ∷ ε7 ∷ []
+t25 = ε29 ∷ ε24 ∷ ε0 ∷ ε32 ∷ ε1 ∷ ε2 ∷ ε3 ∷ ε20 ∷ ε21 ∷ ε34 ∷ ε5 ∷ ε25 ∷ ε23 ∷ ε9 ∷ ε6 ∷ ε7 ∷ []
 
 abbrev pub t26 : List.List Row.Entry
-t26 = ε29 ∷ ε23 ∷ ε0 ∷ ε32 ∷ ε1 ∷ ε2 ∷ ε3 ∷ ε4 ∷ ε20 ∷ ε34 ∷ ε5 ∷ ε25 ∷ ε22 ∷ ε9 ∷ ε6 ∷ ε7 ∷ []
+t26 = ε29 ∷ ε24 ∷ ε0 ∷ ε32 ∷ ε1 ∷ ε2 ∷ ε3 ∷ ε4 ∷ ε21 ∷ ε34 ∷ ε5 ∷ ε25 ∷ ε23 ∷ ε9 ∷ ε6 ∷ ε7 ∷ []
 
 abbrev pub T0 : Row.Cx
 T0 = record { locals = List._++_ t0 t1; slots = [] }
@@ -795,7 +795,7 @@ module _ (claims· : Claims) where
       },
       tt,
     ),
-  ) 0 [] mirs.sched_core-CoreAnswer
+  ) 0 [] mirs.calls-QueueLeft
 
   abbrev s26 : (bs : List.List Nat.ℕ) → Typed.Mo T27 → Typed.Mo T28
   s26 = λ bs. Scalar.n-room T27 12 mirs.sched_core-Answer
@@ -941,28 +941,28 @@ module _ (claims· : Claims) where
 
       module _ (κs : Lifetimes.Lfts 2) (qs : Lifetimes.Shares 2) where
         abbrev g8 : List.List Row.Entry
-        g8 = ε24 ∷ ε27 ∷ ε0 ∷ (3, Relend.mslice-owed (Referent.rtF (Referent.fInt Syntax.w8)) τ9 0 3 (Row.lease (κs .0) (qs .0))) ∷ ε16 ∷ ε17 ∷ ε18 ∷
-            ε19 ∷ ε20 ∷ ε34 ∷ ε15 ∷ ε30 ∷ ε22 ∷ ε9 ∷ ε14 ∷ ε35 ∷ []
+        g8 = ε18 ∷ ε27 ∷ ε0 ∷ (3, Relend.mslice-owed (Referent.rtF (Referent.fInt Syntax.w8)) τ9 0 3 (Row.lease (κs .0) (qs .0))) ∷ ε16 ∷ ε17 ∷ ε19 ∷
+            ε20 ∷ ε21 ∷ ε34 ∷ ε15 ∷ ε30 ∷ ε23 ∷ ε9 ∷ ε14 ∷ ε35 ∷ []
 
         abbrev g9 : List.List Row.Entry
-        g9 = ε24 ∷ ε27 ∷ ε0 ∷ (3, Relend.mslice-owed (Referent.rtF (Referent.fInt Syntax.w8)) τ9 0 3 (Row.lease (κs .0) (qs .0))) ∷ ε16 ∷ ε17 ∷ ε18 ∷
-            ε19 ∷ ε20 ∷ ε34 ∷ ε15 ∷ ε30 ∷ ε22 ∷ ε9 ∷ ε14 ∷ ε7 ∷ []
+        g9 = ε18 ∷ ε27 ∷ ε0 ∷ (3, Relend.mslice-owed (Referent.rtF (Referent.fInt Syntax.w8)) τ9 0 3 (Row.lease (κs .0) (qs .0))) ∷ ε16 ∷ ε17 ∷ ε19 ∷
+            ε20 ∷ ε21 ∷ ε34 ∷ ε15 ∷ ε30 ∷ ε23 ∷ ε9 ∷ ε14 ∷ ε7 ∷ []
 
         abbrev g12 : List.List Row.Entry
-        g12 = ε24 ∷ ε27 ∷ ε0 ∷ (3, Relend.mslice-owed (Referent.rtF (Referent.fInt Syntax.w8)) τ9 0 3 (Row.lease (κs .0) (qs .0))) ∷ ε16 ∷ ε17 ∷ ε18 ∷
-            ε19 ∷ ε20 ∷ ε34 ∷ ε15 ∷ ε30 ∷ ε28 ∷ ε9 ∷ ε12 ∷ ε7 ∷ []
+        g12 = ε18 ∷ ε27 ∷ ε0 ∷ (3, Relend.mslice-owed (Referent.rtF (Referent.fInt Syntax.w8)) τ9 0 3 (Row.lease (κs .0) (qs .0))) ∷ ε16 ∷ ε17 ∷ ε19 ∷
+            ε20 ∷ ε21 ∷ ε34 ∷ ε15 ∷ ε30 ∷ ε28 ∷ ε9 ∷ ε12 ∷ ε7 ∷ []
 
         abbrev g14 : List.List Row.Entry
-        g14 = ε24 ∷ ε23 ∷ ε0 ∷ (3, Relend.mslice-owed (Referent.rtF (Referent.fInt Syntax.w8)) τ9 0 3 (Row.lease (κs .0) (qs .0))) ∷ ε16 ∷ ε17 ∷ ε18 ∷
-            ε19 ∷ ε20 ∷ ε34 ∷ ε15 ∷ ε30 ∷ ε28 ∷ ε9 ∷ ε12 ∷ ε7 ∷ []
+        g14 = ε18 ∷ ε24 ∷ ε0 ∷ (3, Relend.mslice-owed (Referent.rtF (Referent.fInt Syntax.w8)) τ9 0 3 (Row.lease (κs .0) (qs .0))) ∷ ε16 ∷ ε17 ∷ ε19 ∷
+            ε20 ∷ ε21 ∷ ε34 ∷ ε15 ∷ ε30 ∷ ε28 ∷ ε9 ∷ ε12 ∷ ε7 ∷ []
 
         abbrev g15 : List.List Row.Entry
-        g15 = ε24 ∷ ε23 ∷ ε0 ∷ (3, Relend.mslice-owed (Referent.rtF (Referent.fInt Syntax.w8)) τ9 0 3 (Row.lease (κs .0) (qs .0))) ∷ ε16 ∷ ε17 ∷ ε18 ∷
-            ε19 ∷ ε20 ∷ ε34 ∷ ε15 ∷ ε25 ∷ ε28 ∷ ε9 ∷ ε12 ∷ ε7 ∷ []
+        g15 = ε18 ∷ ε24 ∷ ε0 ∷ (3, Relend.mslice-owed (Referent.rtF (Referent.fInt Syntax.w8)) τ9 0 3 (Row.lease (κs .0) (qs .0))) ∷ ε16 ∷ ε17 ∷ ε19 ∷
+            ε20 ∷ ε21 ∷ ε34 ∷ ε15 ∷ ε25 ∷ ε28 ∷ ε9 ∷ ε12 ∷ ε7 ∷ []
 
         abbrev g17 : List.List Row.Entry
-        g17 = ε24 ∷ ε23 ∷ ε0 ∷ (3, Relend.mslice-owed (Referent.rtF (Referent.fInt Syntax.w8)) τ9 0 3 (Row.lease (κs .0) (qs .0))) ∷ ε16 ∷ ε17 ∷ ε18 ∷
-            ε19 ∷ ε20 ∷ ε34 ∷ ε13 ∷ ε25 ∷ ε28 ∷ ε9 ∷ ε6 ∷ ε7 ∷ []
+        g17 = ε18 ∷ ε24 ∷ ε0 ∷ (3, Relend.mslice-owed (Referent.rtF (Referent.fInt Syntax.w8)) τ9 0 3 (Row.lease (κs .0) (qs .0))) ∷ ε16 ∷ ε17 ∷ ε19 ∷
+            ε20 ∷ ε21 ∷ ε34 ∷ ε13 ∷ ε25 ∷ ε28 ∷ ε9 ∷ ε6 ∷ ε7 ∷ []
 
         abbrev G0 : Row.Cx
         G0 = record { locals = List._++_ t0 t1; slots = (Row.lease (κs .0) (qs .0)) ∷ (Row.lease (κs .1 .0) (qs .1 .0)) ∷ Row.off ∷ Row.off ∷ [] }
@@ -1137,7 +1137,7 @@ module _ (claims· : Claims) where
                   (Array.arr-yields 𝓤 H A W in-Record.element in-Record.element-laws 64, Path'.refl),
                   tt,
                 ),
-              ) (Reads.room-gone 𝓤 H A mirs.sched_core-CoreAnswer) tt Path'.refl) d7
+              ) (Reads.room-gone 𝓤 H A mirs.calls-QueueLeft) tt Path'.refl) d7
 
           d9 : Typed.Typed 𝓤 H A 𝓣 E G25 b11 Δ0 (at9 bs)
           d9 = Typed.g-pre 𝓤 H A W 𝓣 E G25 G26 b11 Δ0 (Typed.pass T25 T26 (s24 bs)) (at8 bs) (Scalar.g-room 𝓤 H A W E G25 10 τ5 (Init.room-arr 𝓤 H A W
@@ -1244,7 +1244,7 @@ module _ (claims· : Claims) where
               ) 12 (2 ∷ 3 ∷ 1 ∷ []) (Call.sub-id 𝓤 H A W (G13 .slots)) (
                 (
                   Yields.yields-copy 𝓤 H A W (λ ρ.
-                      Unit) (Declared'.row Station.the-type) Path'.refl (Copies.cStruct Station.the-type Laws'4.the-laws Laws'4.the-copy .copy 𝓤 H A W)
+                      Unit) (Declared'.row Station.the-type) Path'.refl (Copies.cStruct Station.the-type Laws'3.the-laws Laws'3.the-copy .copy 𝓤 H A W)
                       (Rows'.whole (Declared'.row Station.the-type)) (λ x. x) (λ x. x) (λ ρ told. Local.mem-whole 𝓤 H A W (Declared'.row Station.the-type) ρ)
                       λ ρ told. Local.whole-mem 𝓤 H A W (Declared'.row Station.the-type) ρ,
                   Path'.refl,
@@ -1440,18 +1440,18 @@ module _ (claims· : Claims) where
             ty = Declared'.row Station.the-type;
             one = Path'.refl;
             val = Laws'6.val Station.the-type
-                Laws'4.the-laws;
-            tells = Laws'6.tells Station.the-type Laws'4.the-laws;
-            still = Laws'6.still Station.the-type Laws'4.the-copy Exit.yes;
+                Laws'3.the-laws;
+            tells = Laws'6.tells Station.the-type Laws'3.the-laws;
+            still = Laws'6.still Station.the-type Laws'3.the-copy Exit.yes;
             row = Rows'.whole (Declared'.row Station.the-type);
             rd = λ x. x;
             mk = λ x. x;
           } λ M 𝓤 H A W. record {
             copies = Laws'6.copy
-                Station.the-type Laws'4.the-copy 𝓤 H A W;
-            lawful = Laws'6.lawful Station.the-type Laws'4.the-laws 𝓤 H A W;
+                Station.the-type Laws'3.the-copy 𝓤 H A W;
+            lawful = Laws'6.lawful Station.the-type Laws'3.the-laws 𝓤 H A W;
             makes = Laws'6.makes
-                Station.the-type Laws'4.the-plain 𝓤 H A;
+                Station.the-type Laws'3.the-plain 𝓤 H A;
             in-mem = Local.mem-whole 𝓤 H A W (Declared'.row Station.the-type);
             of-mem = Local.whole-mem 𝓤 H
                 A W (Declared'.row Station.the-type);

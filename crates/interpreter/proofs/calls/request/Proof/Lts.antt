@@ -3,12 +3,12 @@
 use Prim.Native.Nat
 use Rattle.bs_sched.proofs.Rows_Record as in-Record
 use Rattle.interpreter.proofs.Mirs as mirs
+use Rattle.interpreter.proofs.calls.RequestLeft
+use Rattle.interpreter.proofs.calls.RequestLeft.Laws as Laws''
 use Rattle.sched_core.proofs.RequestAnswer
 use Rattle.sched_core.proofs.RequestAnswer.Laws
-use Rattle.sched_core.proofs.RequestCoreAnswer
-use Rattle.sched_core.proofs.RequestCoreAnswer.Laws as Laws'
 use Rattle.sched_core.proofs.Station
-use Rattle.sched_core.proofs.Station.Laws as Laws''
+use Rattle.sched_core.proofs.Station.Laws as Laws'
 use borrow.Author.Called
 use borrow.Fn.Any
 use borrow.Fn.Call
@@ -140,22 +140,22 @@ abbrev ε16 : Row.Entry
 ε16 = (7, Rows'.sc-here (Row.sInt Syntax.w32))
 
 abbrev ε17 : Row.Entry
-ε17 = (1, Rows'.any-gone mirs.sched_core-Station)
+ε17 = (0, Rows'.any-gone mirs.calls-RequestLeft)
 
 abbrev ε18 : Row.Entry
-ε18 = (1, Rows'.whole (Declared.row Station.the-type))
+ε18 = (1, Rows'.any-gone mirs.sched_core-Station)
 
 abbrev ε19 : Row.Entry
-ε19 = (9, Rows'.any-gone mirs.sched_core-RequestAnswer)
+ε19 = (1, Rows'.whole (Declared.row Station.the-type))
 
 abbrev ε20 : Row.Entry
-ε20 = (0, Rows'.any-gone mirs.sched_core-RequestCoreAnswer)
+ε20 = (9, Rows'.any-gone mirs.sched_core-RequestAnswer)
 
 abbrev ε21 : Row.Entry
-ε21 = (9, Rows'.whole (Declared.row RequestAnswer.the-type))
+ε21 = (0, Rows'.whole (Declared.row RequestLeft.the-type))
 
 abbrev ε22 : Row.Entry
-ε22 = (0, Rows'.whole (Declared.row RequestCoreAnswer.the-type))
+ε22 = (9, Rows'.whole (Declared.row RequestAnswer.the-type))
 
 abbrev ε23 : Row.Entry
 ε23 = (3, Rows'.sslice (Referent.rtF (Referent.fInt Syntax.w8)) τ6 0)
@@ -164,21 +164,20 @@ abbrev pub ps : List.List (Kinds.PK 1)
 ps = (Value.pVal record {
   ty = Declared.row Station.the-type;
   one = Path'.refl;
-  val = Laws'3.val Station.the-type Laws''.the-laws;
-  tells =
-      Laws'3.tells Station.the-type Laws''.the-laws;
-  still = Laws'3.still Station.the-type Laws''.the-copy Exit.yes;
-  row = Rows'.whole (Declared.row
-      Station.the-type);
+  val = Laws'3.val Station.the-type Laws'.the-laws;
+  tells = Laws'3.tells
+      Station.the-type Laws'.the-laws;
+  still = Laws'3.still Station.the-type Laws'.the-copy Exit.yes;
+  row = Rows'.whole (Declared.row Station.the-type);
   rd = λ x. x;
   mk = λ x. x;
 } λ M 𝓤 H A W. record {
-  copies = Laws'3.copy Station.the-type Laws''.the-copy 𝓤 H A W;
-  lawful =
-      Laws'3.lawful Station.the-type Laws''.the-laws 𝓤 H A W;
-  makes = Laws'3.makes Station.the-type Laws''.the-plain 𝓤 H A;
-  in-mem = Local.mem-whole 𝓤 H
-      A W (Declared.row Station.the-type);
+  copies = Laws'3.copy Station.the-type Laws'.the-copy 𝓤 H A W;
+  lawful = Laws'3.lawful
+      Station.the-type Laws'.the-laws 𝓤 H A W;
+  makes = Laws'3.makes Station.the-type Laws'.the-plain 𝓤 H A;
+  in-mem = Local.mem-whole 𝓤 H A W
+      (Declared.row Station.the-type);
   of-mem = Local.whole-mem 𝓤 H A W (Declared.row Station.the-type);
 }) ∷ (Array.pArr in-Record.element
     in-Record.element-laws 64) ∷ (ShrSlice.pShrS (Referent.rtF (Referent.fInt Syntax.w8)) 0 tt) ∷ (Num.pNum Syntax.w8) ∷ (Num.pNum Syntax.w8) ∷
@@ -186,24 +185,23 @@ ps = (Value.pVal record {
 
 abbrev pub r : Kinds.RK 1
 r = Value.rVal record {
-  ty = Declared.row RequestCoreAnswer.the-type;
+  ty = Declared.row RequestLeft.the-type;
   one = Path'.refl;
-  val = Laws'3.val RequestCoreAnswer.the-type Laws'.the-laws;
-  tells = Laws'3.tells RequestCoreAnswer.the-type Laws'.the-laws;
-  still = Laws'3.still RequestCoreAnswer.the-type Laws'.the-copy Exit.yes;
-  row =
-      Rows'.whole (Declared.row RequestCoreAnswer.the-type);
+  val = Laws'3.val RequestLeft.the-type Laws''.the-laws;
+  tells =
+      Laws'3.tells RequestLeft.the-type Laws''.the-laws;
+  still = Laws'3.still RequestLeft.the-type Laws''.the-copy Exit.yes;
+  row = Rows'.whole
+      (Declared.row RequestLeft.the-type);
   rd = λ x. x;
   mk = λ x. x;
 } λ M 𝓤 H A W. record {
-  copies = Laws'3.copy
-      RequestCoreAnswer.the-type Laws'.the-copy 𝓤 H A W;
-  lawful = Laws'3.lawful RequestCoreAnswer.the-type Laws'.the-laws 𝓤 H A W;
-  makes = Laws'3.makes
-      RequestCoreAnswer.the-type Laws'.the-plain 𝓤 H A;
-  in-mem = Local.mem-whole 𝓤 H A W (Declared.row RequestCoreAnswer.the-type);
-  of-mem =
-      Local.whole-mem 𝓤 H A W (Declared.row RequestCoreAnswer.the-type);
+  copies = Laws'3.copy RequestLeft.the-type Laws''.the-copy 𝓤
+      H A W;
+  lawful = Laws'3.lawful RequestLeft.the-type Laws''.the-laws 𝓤 H A W;
+  makes = Laws'3.makes RequestLeft.the-type Laws''.the-plain 𝓤 H A;
+  in-mem = Local.mem-whole 𝓤 H A W (Declared.row RequestLeft.the-type);
+  of-mem = Local.whole-mem 𝓤 H A W (Declared.row RequestLeft.the-type);
 }
 
 abbrev pub xs : List.List Syntax.Ty
@@ -216,21 +214,21 @@ abbrev pub ps·0 : List.List (Kinds.PK 2)
 ps·0 = (Value.pVal record {
   ty = Declared.row Station.the-type;
   one = Path'.refl;
-  val = Laws'3.val Station.the-type Laws''.the-laws;
+  val = Laws'3.val Station.the-type Laws'.the-laws;
   tells =
-      Laws'3.tells Station.the-type Laws''.the-laws;
-  still = Laws'3.still Station.the-type Laws''.the-copy Exit.yes;
+      Laws'3.tells Station.the-type Laws'.the-laws;
+  still = Laws'3.still Station.the-type Laws'.the-copy Exit.yes;
   row = Rows'.whole (Declared.row
       Station.the-type);
   rd = λ x. x;
   mk = λ x. x;
 } λ M 𝓤 H A W. record {
-  copies = Laws'3.copy Station.the-type Laws''.the-copy 𝓤 H A W;
+  copies = Laws'3.copy Station.the-type Laws'.the-copy 𝓤 H A W;
   lawful =
-      Laws'3.lawful Station.the-type Laws''.the-laws 𝓤 H A W;
-  makes = Laws'3.makes Station.the-type Laws''.the-plain 𝓤 H A;
-  in-mem = Local.mem-whole 𝓤 H
-      A W (Declared.row Station.the-type);
+      Laws'3.lawful Station.the-type Laws'.the-laws 𝓤 H A W;
+  makes = Laws'3.makes Station.the-type Laws'.the-plain 𝓤 H A;
+  in-mem = Local.mem-whole 𝓤 H A
+      W (Declared.row Station.the-type);
   of-mem = Local.whole-mem 𝓤 H A W (Declared.row Station.the-type);
 }) ∷ (MutSlice.pMutS in-Record.row 0 tt) ∷
     (ShrSlice.pShrS (Referent.rtF (Referent.fInt Syntax.w8)) 1 tt) ∷ (Num.pNum Syntax.w8) ∷ (Num.pNum Syntax.w8) ∷ (Num.pNum Syntax.w8) ∷ (Num.pNum
@@ -281,24 +279,23 @@ ps·1 = (Value.pVal record {
 
 abbrev pub r·1 : Kinds.RK 0
 r·1 = Value.rVal record {
-  ty = Declared.row RequestCoreAnswer.the-type;
+  ty = Declared.row RequestLeft.the-type;
   one = Path'.refl;
-  val = Laws'3.val RequestCoreAnswer.the-type Laws'.the-laws;
-  tells = Laws'3.tells RequestCoreAnswer.the-type Laws'.the-laws;
-  still = Laws'3.still RequestCoreAnswer.the-type Laws'.the-copy Exit.yes;
-  row =
-      Rows'.whole (Declared.row RequestCoreAnswer.the-type);
+  val = Laws'3.val RequestLeft.the-type Laws''.the-laws;
+  tells =
+      Laws'3.tells RequestLeft.the-type Laws''.the-laws;
+  still = Laws'3.still RequestLeft.the-type Laws''.the-copy Exit.yes;
+  row = Rows'.whole
+      (Declared.row RequestLeft.the-type);
   rd = λ x. x;
   mk = λ x. x;
 } λ M 𝓤 H A W. record {
-  copies = Laws'3.copy
-      RequestCoreAnswer.the-type Laws'.the-copy 𝓤 H A W;
-  lawful = Laws'3.lawful RequestCoreAnswer.the-type Laws'.the-laws 𝓤 H A W;
-  makes = Laws'3.makes
-      RequestCoreAnswer.the-type Laws'.the-plain 𝓤 H A;
-  in-mem = Local.mem-whole 𝓤 H A W (Declared.row RequestCoreAnswer.the-type);
-  of-mem =
-      Local.whole-mem 𝓤 H A W (Declared.row RequestCoreAnswer.the-type);
+  copies = Laws'3.copy RequestLeft.the-type Laws''.the-copy 𝓤
+      H A W;
+  lawful = Laws'3.lawful RequestLeft.the-type Laws''.the-laws 𝓤 H A W;
+  makes = Laws'3.makes RequestLeft.the-type Laws''.the-plain 𝓤 H A;
+  in-mem = Local.mem-whole 𝓤 H A W (Declared.row RequestLeft.the-type);
+  of-mem = Local.whole-mem 𝓤 H A W (Declared.row RequestLeft.the-type);
 }
 
 abbrev pub hs : List.List Syntax.Home
@@ -353,55 +350,55 @@ abbrev pub Claims : Type 1
 Claims = Kinds.In 2 ps·0 × Kinds.Out 2 ps·0 r·0 × Kinds.In 0 ps·1 × Kinds.Out 0 ps·1 r·1
 
 abbrev pub t0 : List.List Row.Entry
-t0 = ε20 ∷ ε18 ∷ ε8 ∷ ε23 ∷ ε13 ∷ ε14 ∷ ε15 ∷ ε16 ∷ ε0 ∷ ε19 ∷ ε5 ∷ ε6 ∷ ε7 ∷ []
+t0 = ε17 ∷ ε19 ∷ ε8 ∷ ε23 ∷ ε13 ∷ ε14 ∷ ε15 ∷ ε16 ∷ ε0 ∷ ε20 ∷ ε5 ∷ ε6 ∷ ε7 ∷ []
 
 abbrev pub t1 : List.List Row.Entry
-t1 = ε22 ∷ ε17 ∷ ε1 ∷ ε23 ∷ ε2 ∷ ε3 ∷ ε4 ∷ (7, Rows'.any-gone τ1) ∷ ε0 ∷ ε19 ∷ ε5 ∷ ε6 ∷ ε7 ∷ []
+t1 = ε21 ∷ ε18 ∷ ε1 ∷ ε23 ∷ ε2 ∷ ε3 ∷ ε4 ∷ (7, Rows'.any-gone τ1) ∷ ε0 ∷ ε20 ∷ ε5 ∷ ε6 ∷ ε7 ∷ []
 
 abbrev pub t2 : List.List Row.Entry
-t2 = ε20 ∷ ε18 ∷ ε8 ∷ ε23 ∷ ε13 ∷ ε14 ∷ ε15 ∷ ε16 ∷ ε9 ∷ ε19 ∷ ε5 ∷ ε6 ∷ ε7 ∷ []
+t2 = ε17 ∷ ε19 ∷ ε8 ∷ ε23 ∷ ε13 ∷ ε14 ∷ ε15 ∷ ε16 ∷ ε9 ∷ ε20 ∷ ε5 ∷ ε6 ∷ ε7 ∷ []
 
 abbrev pub t3 : List.List Row.Entry
-t3 = ε20 ∷ ε18 ∷ ε1 ∷ ε23 ∷ ε13 ∷ ε14 ∷ ε15 ∷ ε16 ∷ ε9 ∷ ε19 ∷ ε5 ∷ ε6 ∷ ε7 ∷ []
+t3 = ε17 ∷ ε19 ∷ ε1 ∷ ε23 ∷ ε13 ∷ ε14 ∷ ε15 ∷ ε16 ∷ ε9 ∷ ε20 ∷ ε5 ∷ ε6 ∷ ε7 ∷ []
 
 abbrev pub t4 : List.List Row.Entry
-t4 = ε20 ∷ ε18 ∷ ε1 ∷ ε23 ∷ ε13 ∷ ε14 ∷ ε15 ∷ ε16 ∷ ε12 ∷ ε19 ∷ (10, Relend.msptr in-Record.row τ7 1) ∷ ε6 ∷ ε7 ∷ []
+t4 = ε17 ∷ ε19 ∷ ε1 ∷ ε23 ∷ ε13 ∷ ε14 ∷ ε15 ∷ ε16 ∷ ε12 ∷ ε20 ∷ (10, Relend.msptr in-Record.row τ7 1) ∷ ε6 ∷ ε7 ∷ []
 
 abbrev pub t5 : List.List Row.Entry
-t5 = ε20 ∷ ε18 ∷ ε1 ∷ ε23 ∷ ε13 ∷ ε14 ∷ ε15 ∷ ε16 ∷ ε12 ∷ ε19 ∷ ε5 ∷ (11, Mut.mslice in-Record.row τ4 1) ∷ ε7 ∷ []
+t5 = ε17 ∷ ε19 ∷ ε1 ∷ ε23 ∷ ε13 ∷ ε14 ∷ ε15 ∷ ε16 ∷ ε12 ∷ ε20 ∷ ε5 ∷ (11, Mut.mslice in-Record.row τ4 1) ∷ ε7 ∷ []
 
 abbrev pub t6 : List.List Row.Entry
-t6 = ε20 ∷ ε18 ∷ ε1 ∷ ε23 ∷ ε13 ∷ ε14 ∷ ε15 ∷ ε16 ∷ ε12 ∷ ε21 ∷ ε5 ∷ ε10 ∷ ε7 ∷ []
+t6 = ε17 ∷ ε19 ∷ ε1 ∷ ε23 ∷ ε13 ∷ ε14 ∷ ε15 ∷ ε16 ∷ ε12 ∷ ε22 ∷ ε5 ∷ ε10 ∷ ε7 ∷ []
 
 abbrev pub t7 : List.List Row.Entry
-t7 = ε20 ∷ ε17 ∷ ε1 ∷ ε23 ∷ ε13 ∷ ε14 ∷ ε15 ∷ ε16 ∷ ε12 ∷ ε21 ∷ ε5 ∷ ε10 ∷ ε7 ∷ []
+t7 = ε17 ∷ ε18 ∷ ε1 ∷ ε23 ∷ ε13 ∷ ε14 ∷ ε15 ∷ ε16 ∷ ε12 ∷ ε22 ∷ ε5 ∷ ε10 ∷ ε7 ∷ []
 
 abbrev pub t8 : List.List Row.Entry
-t8 = ε20 ∷ ε17 ∷ ε1 ∷ ε23 ∷ ε13 ∷ ε14 ∷ ε15 ∷ ε16 ∷ ε9 ∷ ε21 ∷ ε5 ∷ ε6 ∷ ε7 ∷ []
+t8 = ε17 ∷ ε18 ∷ ε1 ∷ ε23 ∷ ε13 ∷ ε14 ∷ ε15 ∷ ε16 ∷ ε9 ∷ ε22 ∷ ε5 ∷ ε6 ∷ ε7 ∷ []
 
 abbrev pub t9 : List.List Row.Entry
-t9 = ε20 ∷ ε17 ∷ ε1 ∷ ε23 ∷ ε13 ∷ ε14 ∷ ε15 ∷ ε16 ∷ ε9 ∷ ε21 ∷ ε5 ∷ ε6 ∷ ε11 ∷ []
+t9 = ε17 ∷ ε18 ∷ ε1 ∷ ε23 ∷ ε13 ∷ ε14 ∷ ε15 ∷ ε16 ∷ ε9 ∷ ε22 ∷ ε5 ∷ ε6 ∷ ε11 ∷ []
 
 abbrev pub t10 : List.List Row.Entry
-t10 = ε20 ∷ ε17 ∷ ε1 ∷ ε23 ∷ ε13 ∷ ε14 ∷ ε15 ∷ ε16 ∷ ε0 ∷ ε21 ∷ ε5 ∷ ε6 ∷ ε11 ∷ []
+t10 = ε17 ∷ ε18 ∷ ε1 ∷ ε23 ∷ ε13 ∷ ε14 ∷ ε15 ∷ ε16 ∷ ε0 ∷ ε22 ∷ ε5 ∷ ε6 ∷ ε11 ∷ []
 
 abbrev pub t11 : List.List Row.Entry
-t11 = ε22 ∷ ε17 ∷ ε1 ∷ ε23 ∷ ε13 ∷ ε14 ∷ ε15 ∷ ε16 ∷ ε0 ∷ ε21 ∷ ε5 ∷ ε6 ∷ ε11 ∷ []
+t11 = ε21 ∷ ε18 ∷ ε1 ∷ ε23 ∷ ε13 ∷ ε14 ∷ ε15 ∷ ε16 ∷ ε0 ∷ ε22 ∷ ε5 ∷ ε6 ∷ ε11 ∷ []
 
 abbrev pub t12 : List.List Row.Entry
-t12 = ε22 ∷ ε17 ∷ ε1 ∷ ε23 ∷ ε13 ∷ ε14 ∷ ε15 ∷ ε16 ∷ ε0 ∷ ε19 ∷ ε5 ∷ ε6 ∷ ε11 ∷ []
+t12 = ε21 ∷ ε18 ∷ ε1 ∷ ε23 ∷ ε13 ∷ ε14 ∷ ε15 ∷ ε16 ∷ ε0 ∷ ε20 ∷ ε5 ∷ ε6 ∷ ε11 ∷ []
 
 abbrev pub t13 : List.List Row.Entry
-t13 = ε22 ∷ ε17 ∷ ε1 ∷ ε23 ∷ ε13 ∷ ε14 ∷ ε15 ∷ ε16 ∷ ε0 ∷ ε19 ∷ ε5 ∷ ε6 ∷ ε7 ∷ []
+t13 = ε21 ∷ ε18 ∷ ε1 ∷ ε23 ∷ ε13 ∷ ε14 ∷ ε15 ∷ ε16 ∷ ε0 ∷ ε20 ∷ ε5 ∷ ε6 ∷ ε7 ∷ []
 
 abbrev pub t14 : List.List Row.Entry
-t14 = ε22 ∷ ε17 ∷ ε1 ∷ ε23 ∷ ε2 ∷ ε14 ∷ ε15 ∷ ε16 ∷ ε0 ∷ ε19 ∷ ε5 ∷ ε6 ∷ ε7 ∷ []
+t14 = ε21 ∷ ε18 ∷ ε1 ∷ ε23 ∷ ε2 ∷ ε14 ∷ ε15 ∷ ε16 ∷ ε0 ∷ ε20 ∷ ε5 ∷ ε6 ∷ ε7 ∷ []
 
 abbrev pub t15 : List.List Row.Entry
-t15 = ε22 ∷ ε17 ∷ ε1 ∷ ε23 ∷ ε2 ∷ ε3 ∷ ε15 ∷ ε16 ∷ ε0 ∷ ε19 ∷ ε5 ∷ ε6 ∷ ε7 ∷ []
+t15 = ε21 ∷ ε18 ∷ ε1 ∷ ε23 ∷ ε2 ∷ ε3 ∷ ε15 ∷ ε16 ∷ ε0 ∷ ε20 ∷ ε5 ∷ ε6 ∷ ε7 ∷ []
 
 abbrev pub t16 : List.List Row.Entry
-t16 = ε22 ∷ ε17 ∷ ε1 ∷ ε23 ∷ ε2 ∷ ε3 ∷ ε4 ∷ ε16 ∷ ε0 ∷ ε19 ∷ ε5 ∷ ε6 ∷ ε7 ∷ []
+t16 = ε21 ∷ ε18 ∷ ε1 ∷ ε23 ∷ ε2 ∷ ε3 ∷ ε4 ∷ ε16 ∷ ε0 ∷ ε20 ∷ ε5 ∷ ε6 ∷ ε7 ∷ []
 
 abbrev pub T0 : Row.Cx
 T0 = record { locals = t0; slots = [] }
@@ -521,7 +518,7 @@ module _ (claims· : Claims) where
       },
       tt,
     ),
-  ) 0 [] mirs.sched_core-RequestCoreAnswer
+  ) 0 [] mirs.calls-RequestLeft
 
   abbrev s14 : (bs : List.List Nat.ℕ) → Typed.Mo T15 → Typed.Mo T16
   s14 = λ bs. Scalar.n-room T15 9 mirs.sched_core-RequestAnswer
@@ -755,7 +752,7 @@ module _ (claims· : Claims) where
                   ),
                   tt,
                 ),
-              ) (Reads.room-gone 𝓤 H A mirs.sched_core-RequestCoreAnswer) tt Path'.refl) d6
+              ) (Reads.room-gone 𝓤 H A mirs.calls-RequestLeft) tt Path'.refl) d6
 
           d8 : Typed.Typed 𝓤 H A 𝓣 E G13 b7 Δ0 (at8 bs)
           d8 = Typed.g-pre 𝓤 H A W 𝓣 E G13 G14 b7 Δ0 (Typed.pass T13 T14 (s12 bs)) (at7 bs) (Scalar.g-room 𝓤 H A W E G13 8 τ3 (Init.room-arr 𝓤 H A W
@@ -808,8 +805,8 @@ module _ (claims· : Claims) where
               H A W (G7 .slots)) (
                 (
                   Yields.yields-copy 𝓤 H A W (λ ρ. Unit) (Declared.row Station.the-type) Path'.refl (Copies.cStruct Station.the-type
-                      Laws''.the-laws Laws''.the-copy .copy 𝓤 H A W) (Rows'.whole (Declared.row Station.the-type)) (λ x. x) (λ x. x) (λ ρ told.
-                      Local.mem-whole 𝓤 H A W (Declared.row Station.the-type) ρ) λ ρ told. Local.whole-mem 𝓤 H A W (Declared.row Station.the-type) ρ,
+                      Laws'.the-laws Laws'.the-copy .copy 𝓤 H A W) (Rows'.whole (Declared.row Station.the-type)) (λ x. x) (λ x. x) (λ ρ told. Local.mem-whole
+                      𝓤 H A W (Declared.row Station.the-type) ρ) λ ρ told. Local.whole-mem 𝓤 H A W (Declared.row Station.the-type) ρ,
                   Path'.refl,
                 ),
                 (
@@ -817,33 +814,21 @@ module _ (claims· : Claims) where
                   Mut.reads-mslice 𝓤 H A W in-Record.row τ4 1,
                   Path'.refl,
                   (
-                    ShrSlice.spares-sslice 𝓤 H A W (Referent.rtF (Referent.fInt Syntax.w8)) τ6 0,
-                    Shared.reads-sslice 𝓤 H A W (Referent.rtF (Referent.fInt
-                        Syntax.w8)) τ6 0,
+                    ShrSlice.spares-sslice 𝓤 H
+                        A W (Referent.rtF (Referent.fInt Syntax.w8)) τ6 0,
+                    Shared.reads-sslice 𝓤 H A W (Referent.rtF (Referent.fInt Syntax.w8)) τ6 0,
                     Path'.refl,
                     (
                       (Scalar.reads-sc 𝓤 H A W (Row.sInt Syntax.w8), Path'.refl),
                       (
-                        (
-                          Scalar.reads-sc 𝓤 H A W (Row.sInt
-                              Syntax.w8),
-                          Path'.refl,
-                        ),
-                        (
-                          (Scalar.reads-sc 𝓤 H A W (Row.sInt Syntax.w8), Path'.refl),
-                          (
-                            (
-                              Scalar.reads-sc 𝓤 H A W (Row.sInt Syntax.w32),
-                              Path'.refl,
-                            ),
-                            tt,
-                          ),
-                        ),
+                        (Scalar.reads-sc 𝓤 H A W (Row.sInt Syntax.w8), Path'.refl),
+                        ((Scalar.reads-sc 𝓤 H A W (Row.sInt Syntax.w8), Path'.refl), ((Scalar.reads-sc 𝓤 H A W (Row.sInt Syntax.w32), Path'.refl), tt)),
                       ),
                     ),
                   ),
                 ),
-              ) (Reads.room-gone 𝓤 H A mirs.sched_core-RequestAnswer) (tt, (tt, tt)) Path'.refl) d13
+              )
+              (Reads.room-gone 𝓤 H A mirs.sched_core-RequestAnswer) (tt, (tt, tt)) Path'.refl) d13
 
           d15 : Typed.Typed 𝓤 H A 𝓣 E G6 b10 Δ0 (at15 bs)
           d15 = Typed.s-seq 𝓤 H A W 𝓣 E G6 G7 b2 b9 Δ0 (Typed.ask (s5 bs)) (at14 bs) (Relend.t-sl-aggregate 𝓤 H A W E in-Record.row 𝓣 (Relend.asMut
@@ -910,21 +895,22 @@ module _ (claims· : Claims) where
             ty = Declared.row Station.the-type;
             one = Path'.refl;
             val = Laws'3.val Station.the-type
-                Laws''.the-laws;
-            tells = Laws'3.tells Station.the-type Laws''.the-laws;
-            still = Laws'3.still Station.the-type Laws''.the-copy Exit.yes;
-            row = Rows'.whole (Declared.row Station.the-type);
+                Laws'.the-laws;
+            tells = Laws'3.tells Station.the-type Laws'.the-laws;
+            still = Laws'3.still Station.the-type Laws'.the-copy Exit.yes;
+            row
+                = Rows'.whole (Declared.row Station.the-type);
             rd = λ x. x;
             mk = λ x. x;
           } λ M 𝓤 H A W. record {
-            copies = Laws'3.copy
-                Station.the-type Laws''.the-copy 𝓤 H A W;
-            lawful = Laws'3.lawful Station.the-type Laws''.the-laws 𝓤 H A W;
-            makes = Laws'3.makes
-                Station.the-type Laws''.the-plain 𝓤 H A;
+            copies = Laws'3.copy Station.the-type
+                Laws'.the-copy 𝓤 H A W;
+            lawful = Laws'3.lawful Station.the-type Laws'.the-laws 𝓤 H A W;
+            makes = Laws'3.makes Station.the-type
+                Laws'.the-plain 𝓤 H A;
             in-mem = Local.mem-whole 𝓤 H A W (Declared.row Station.the-type);
-            of-mem = Local.whole-mem 𝓤 H
-                A W (Declared.row Station.the-type);
+            of-mem = Local.whole-mem 𝓤 H A W (Declared.row
+                Station.the-type);
           })
           pub records : Kinds.Den {n = 1} κs (Array.pArr in-Record.element in-Record.element-laws 64)
           pub store : Kinds.Den {n = 1} κs (ShrSlice.pShrS (Referent.rtF (Referent.fInt Syntax.w8)) 0 tt)
