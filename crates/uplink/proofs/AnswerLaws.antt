@@ -7,6 +7,7 @@ use Prim.Native.Nat.{ℕ, _+_, _-_, _*_, _/_, _%_, _≤_, _<_}
 use native.Mathlib.Omega.{arith}
 use lib.ListN.{getD}
 use borrow.Author.Tests.{le-leb, lt-leb}
+use Rattle.sizes.specs.Sizes.{timeslots, framesSearched, latestDelay}
 use Rattle.optional.specs.declared.OptU8.{OptU8}
 use Rattle.optional.specs.declared.OptU32.{OptU32}
 use Rattle.tdma_time.specs.declared.TdmaTime.{TdmaTime}
@@ -16,10 +17,12 @@ use Rattle.slot_codes.specs.Codes.{slotsWanted, wantsHalf, capacityFor}
 use Rattle.uplink.specs.declared.CapReply.{CapReply}
 use Rattle.uplink.specs.declared.Opportunity.{Opportunity}
 use Rattle.uplink.specs.declared.PhyBlockNum.{PhyBlockNum}
+use Rattle.uplink.specs.declared.Uplink.{Uplink}
 use Rattle.uplink.specs.HalfSlot.{vacant}
 use Rattle.uplink.specs.Search.{Run}
 use Rattle.uplink.specs.UplinkEntry.{Table, emptyEntry, entryAt, tableView, reserve}
-use Rattle.uplink.specs.Request.{Request, candidates, fits, earliestRun, grant, settle, verdict, capacity, drawn, markerOf, markersAfter, replyTo, tableAfter, countersAfter, answerOf, given, answer}
+use Rattle.uplink.specs.Uplink.{withTable}
+use Rattle.uplink.specs.Request.{Request, candidates, fits, earliestRun, grant, settle, verdict, capacity, drawn, markerOf, markersAfter, replyTo, tableAfter, countersAfter, given, answer}
 use Rattle.uplink.specs.Functions.{asOpportunity, opportunity, slotsFrom, blockOf, blockHalves, grantedAt}
 use Rattle.uplink.proofs.FrameWalk.{rest-next, first-at, on-entry}
 use Rattle.uplink.proofs.RequestLaws.{wanted-pos, getD-take-first, Begins, begins, capacity-halves}
@@ -44,25 +47,34 @@ module _ (ms : List ℕ) (r : Request) where
 
 -- ---- a grant
 
-module _ (tb : Table) (ms : List ℕ) (now : TdmaTime) (r : Request) (start skips : ℕ) where
-  abbrev u : ℕ
-  u = firstOf (r .timeslot) (slotOf now)
+module _ (u : Uplink) (r : Request) (start skips : ℕ) where
+  abbrev tb : Table
+  tb = u .rows
+
+  abbrev ms : List ℕ
+  ms = u .«next_usage_marker»
+
+  abbrev now : TdmaTime
+  now = u .time
+
+  abbrev first : ℕ
+  first = firstOf (r .timeslot) (slotOf now)
 
   abbrev slots : List ℕ
   slots = slotsFrom now (r .timeslot) start (slotsWanted (r .code))
 
-  module _ (low : start < 17) (can : usable (u + start * 4) ≡ true) where
-    capacity-at : capacity (tableView tb) (r .code) slots ≡ capacityFor (r .code) (not (vacant (entryAt tb (u + start * 4) .ul1)))
+  module _ (low : start < framesSearched) (can : usable (first + start * timeslots) ≡ true) where
+    capacity-at : capacity (tableView tb) (r .code) slots ≡ capacityFor (r .code) (not (vacant (entryAt tb (first + start * timeslots) .ul1)))
     unfolding capacity
     capacity-at = rw (slots-head now (r .timeslot) start (slotsWanted (r .code)) (wanted-pos (r .code)) low can)
 
     pub granted-by : (n cap : ℕ) (o : OptU32) (block : PhyBlockNum) (m : OptU8) (counters : List ℕ) (out : Table)
-        → n ≡ slotsWanted (r .code) → o ≡ entryAt tb (u + start * 4) .ul1 → cap ≡ capacityFor (r .code) (not (vacant o)) → block ≡ blockOf (wantsHalf (r .code)) o
+        → n ≡ slotsWanted (r .code) → o ≡ entryAt tb (first + start * timeslots) .ul1 → cap ≡ capacityFor (r .code) (not (vacant o)) → block ≡ blockOf (wantsHalf (r .code)) o
         → m ≡ markerOf ms r → counters ≡ markersAfter ms r → out ≡ reserve tb (blockHalves block) (r .number) m (slotsFrom now (r .timeslot) start n)
-        → answerOf (CapReply.Granted cap skips m) out counters ≡ grantedAt tb ms now r start skips
+        → record { reply = CapReply.Granted cap skips m; uplink = withTable u out counters } ≡ grantedAt u r start skips
     unfolding grantedAt given replyTo tableAfter countersAfter
     granted-by n cap o block m counters out en eo ec eb em et er =
-        rw (er, et, em, eb, ec, en, eo, capacity-at, capacity-halves (r .code) (entryAt tb (u + start * 4) .ul1))
+        rw (er, et, em, eb, ec, en, eo, capacity-at, capacity-halves (r .code) (entryAt tb (first + start * timeslots) .ul1))
 
 -- the entry that the code reads for it
 pub entry-read : (tb : Table) (now : TdmaTime) (t start : ℕ) (x : TdmaTime) → 1 ≤ t → t ≤ 4 → x ≡ forwardTime now t
@@ -71,21 +83,21 @@ entry-read tb now t start x h g e = on-entry tb (firstOf t (slotOf now)) (t - 1)
 
 -- ---- the verdict
 
-module _ (tb : Table) (ms : List ℕ) (now : TdmaTime) (r : Request) where
+module _ (u : Uplink) (r : Request) where
   abbrev run : Option Run
-  run = earliestRun (tableView tb) (slotOf now) (r .timeslot) (slotsWanted (r .code)) (wantsHalf (r .code))
+  run = earliestRun (tableView (u .rows)) (slotOf (u .time)) (r .timeslot) (slotsWanted (r .code)) (wantsHalf (r .code))
 
-  abbrev first : ℕ
-  first = firstOf (r .timeslot) (slotOf now)
+  abbrev from : ℕ
+  from = firstOf (r .timeslot) (slotOf (u .time))
 
   abbrev op : Opportunity
-  op = opportunity tb now (r .timeslot) (slotsWanted (r .code)) (wantsHalf (r .code))
+  op = opportunity (u .rows) (u .time) (r .timeslot) (slotsWanted (r .code)) (wantsHalf (r .code))
 
-  nothing : (o : Option Run) → asOpportunity first o ≡ Opportunity.Nothing → o ≡ none
+  nothing : (o : Option Run) → asOpportunity from o ≡ Opportunity.Nothing → o ≡ none
   nothing none e = refl
   nothing (some g) e = absurd (let z : _≡_ {A = ℕ} 0 1 = cc in omega arith)
 
-  pub answer-nothing : op ≡ Opportunity.Nothing → answerOf CapReply.NoRun tb ms ≡ answer tb ms now r
+  pub answer-nothing : op ≡ Opportunity.Nothing → record { reply = CapReply.NoRun; uplink = u } ≡ answer u r
   unfolding opportunity answer verdict settle given replyTo tableAfter countersAfter
   answer-nothing e = rw (nothing run e)
 
@@ -94,31 +106,31 @@ module _ (tb : Table) (ms : List ℕ) (now : TdmaTime) (r : Request) where
     pub g : Run
     pub is : run ≡ some g
     pub delay : g .delay ≡ skips
-    pub low : start < 17
-    pub can : usable (first + start * 4) ≡ true
-    pub slots : g .slots ≡ slotsFrom now (r .timeslot) start (slotsWanted (r .code))
+    pub low : start < framesSearched
+    pub can : usable (from + start * timeslots) ≡ true
+    pub slots : g .slots ≡ slotsFrom (u .time) (r .timeslot) start (slotsWanted (r .code))
 
   pub found-at : (start skips : ℕ) → op ≡ Opportunity.At start skips → FoundAt start skips
   unfolding opportunity earliestRun candidates slotsFrom
   found-at start skips e = go run refl e
     where
-      go : (o : Option Run) → run ≡ o → asOpportunity first o ≡ Opportunity.At start skips → FoundAt start skips
+      go : (o : Option Run) → run ≡ o → asOpportunity from o ≡ Opportunity.At start skips → FoundAt start skips
       go none q e = absurd (let z : _≡_ {A = ℕ} 0 1 = cc in omega arith)
       go (some g) q e =
-          let b : Begins first (slotsWanted (r .code)) g = begins (fits (wantsHalf (r .code)) (tableView tb)) (slotsWanted (r .code)) first g (wanted-pos (r .code)) q in
-          let es : (getD (g .slots) 0 0 - first) / 4 ≡ start = cc in
+          let b : Begins from (slotsWanted (r .code)) g = begins (fits (wantsHalf (r .code)) (tableView (u .rows))) (slotsWanted (r .code)) from g (wanted-pos (r .code)) q in
+          let es : (getD (g .slots) 0 0 - from) / timeslots ≡ start = cc in
           let ek : g .delay ≡ skips = cc in
           let same : b .start ≡ start = omega (arith, es, b .first) in
           record { g = g; is = q; delay = ek; low = rw (← same) (b .below); can = rw (← same) (b .can); slots = rw (← same) (b .slots) }
 
   module _ (start skips : ℕ) (e : op ≡ Opportunity.At start skips) where
-    pub answer-late : 13 < skips → answerOf CapReply.TooLate tb ms ≡ answer tb ms now r
+    pub answer-late : latestDelay < skips → record { reply = CapReply.TooLate; uplink = u } ≡ answer u r
     unfolding answer verdict settle given replyTo tableAfter countersAfter
-    answer-late h = let f = found-at start skips e in rw (f .is, f .delay, lt-leb skips 13 h)
+    answer-late h = let f = found-at start skips e in rw (f .is, f .delay, lt-leb skips latestDelay h)
 
-    pub answer-granted : skips ≤ 13 → grantedAt tb ms now r start skips ≡ answer tb ms now r
+    pub answer-granted : skips ≤ latestDelay → grantedAt u r start skips ≡ answer u r
     unfolding answer verdict settle grantedAt
     answer-granted h =
         let f = found-at start skips e in
-        let same : f .g ≡ record { delay = skips; slots = slotsFrom now (r .timeslot) start (slotsWanted (r .code)) } = λ i. record { delay = f .delay i; slots = f .slots i } in
-        rw (f .is, f .delay, le-leb skips 13 h) (ap (λ (x : Run). given tb ms r (grant x)) (sym same))
+        let same : f .g ≡ record { delay = skips; slots = slotsFrom (u .time) (r .timeslot) start (slotsWanted (r .code)) } = λ i. record { delay = f .delay i; slots = f .slots i } in
+        rw (f .is, f .delay, le-leb skips latestDelay h) (ap (λ (x : Run). given u r (grant x)) (sym same))

@@ -20,19 +20,20 @@ use Rattle.slot_codes.specs.Codes.{slotsWanted, wantsHalf, capacityFor}
 use Rattle.uplink.specs.declared.CapAnswer.{CapAnswer}
 use Rattle.uplink.specs.declared.CapReply.{CapReply}
 use Rattle.uplink.specs.declared.Entry.{Entry}
+use Rattle.uplink.specs.declared.Uplink.{Uplink}
 use Rattle.uplink.specs.HalfSlot.{Half, firstHalf, secondHalf, vacant, freeFor}
 use Rattle.uplink.specs.Search.{Run, earliest, found, runAt}
 use Rattle.uplink.specs.UplinkEntry.{Table, emptyEntry, SameEntry, entryAt, tableView, withMarker, withHalves, reserve, soundTable, soundCounters, soundCounter, soundMarker}
-use Rattle.uplink.specs.Request.{Request, candidates, fits, earliestRun, Verdict, noRun, tooLate, grant, settle, verdict, capacity, halvesOf, draws, drawn, markerOf, markersAfter, replyTo, replyNumber, tableAfter, countersAfter, tableOf, given, answer}
+use Rattle.uplink.specs.Uplink.{soundUplink}
+use Rattle.uplink.specs.Request.{Request, candidates, fits, earliestRun, Verdict, noRun, tooLate, grant, settle, verdict, capacity, halvesOf, draws, drawn, markerOf, markersAfter, replyTo, replyNumber, tableAfter, countersAfter, given, answer}
 use Rattle.uplink.specs.GrantedExactly.{FreeFrom, EarliestFrom, slotOfRun, Reserved, Proper, Demand2}
-use Rattle.uplink.proofs.Basics.{four}
 use Rattle.uplink.proofs.Everywhere.{all-at}
 use Rattle.uplink.proofs.TableLaws.{cell-same}
 use Rattle.uplink.proofs.RequestLaws.{wanted-pos, whole-halves}
 use Rattle.uplink.proofs.AnswerLaws.{marker-none}
 use Rattle.uplink.proofs.StretchLaws.{earliest-iff, none-iff}
-use Rattle.uplink.proofs.ReserveLaws.{Window, run-window, reserve-shape, reserve-other, reserve-at}
-use Rattle.uplink.proofs.SoundLaws.{SoundParts, sound-parts, first-sound, both-sound, second-sound, Whole, sound-whole, whole-sound, reserve-whole, store-whole, drawn-sound}
+use Rattle.uplink.proofs.ReserveLaws.{Window, run-window, reserve-other, reserve-at}
+use Rattle.uplink.proofs.SoundLaws.{SoundParts, sound-parts, first-sound, both-sound, second-sound, Whole, sound-whole, whole-sound, reserve-whole, store-whole, drawn-sound, SoundUplink, uplink-parts, parts-uplink}
 
 -- ---- codes
 
@@ -64,7 +65,19 @@ all-places : (P : ℕ → Type 0) (cs : List ℕ) → ((j : ℕ) → j < length 
 all-places P [] h = tt
 all-places P (c ∷ cs) h = (h 0 (omega arith), all-places P cs (λ j l. h (suc j) (omega arith)))
 
-module _ (tb : Table) (ms : List ℕ) (now : TdmaTime) (r : Request) (q : Proper tb ms now r) where
+module _ (u : Uplink) (r : Request) (q : Proper u r) where
+  abbrev tb : Table
+  tb = u .rows
+
+  abbrev ms : List ℕ
+  ms = u .«next_usage_marker»
+
+  abbrev now : TdmaTime
+  now = u .time
+
+  abbrev sound : SoundUplink u
+  sound = uplink-parts u (q .sound)
+
   abbrev n : ℕ
   n = slotsWanted (r .code)
 
@@ -78,25 +91,25 @@ module _ (tb : Table) (ms : List ℕ) (now : TdmaTime) (r : Request) (q : Proper
   abbrev run : ℕ → Run
   run i = record { delay = i; slots = take n (drop i cs) }
 
-  earliest-at : (i : ℕ) → (earliest p n cs ≡ some i) ↔ EarliestFrom tb now r i
+  earliest-at : (i : ℕ) → (earliest p n cs ≡ some i) ↔ EarliestFrom u r i
   earliest-at i = earliest-iff p n (wanted-pos (r .code)) cs i
 
   -- ---- the three verdicts
 
   pub data Outcome : Type 0 where
-    found-none : ((i : ℕ) → FreeFrom tb now r i → ⊥) → answer tb ms now r ≡ given tb ms r noRun → Outcome
-    found-late : (i : ℕ) → EarliestFrom tb now r i → 13 < i → answer tb ms now r ≡ given tb ms r tooLate → Outcome
-    found-run : (i : ℕ) → EarliestFrom tb now r i → i ≤ 13 → answer tb ms now r ≡ given tb ms r (grant (run i)) → Outcome
+    found-none : ((i : ℕ) → FreeFrom u r i → ⊥) → answer u r ≡ given u r noRun → Outcome
+    found-late : (i : ℕ) → EarliestFrom u r i → 13 < i → answer u r ≡ given u r tooLate → Outcome
+    found-run : (i : ℕ) → EarliestFrom u r i → i ≤ 13 → answer u r ≡ given u r (grant (run i)) → Outcome
 
-  if-none : earliest p n cs ≡ none → answer tb ms now r ≡ given tb ms r noRun
+  if-none : earliest p n cs ≡ none → answer u r ≡ given u r noRun
   unfolding answer verdict earliestRun found runAt settle
   if-none e = rw e
 
-  if-late : (i : ℕ) → earliest p n cs ≡ some i → 13 < i → answer tb ms now r ≡ given tb ms r tooLate
+  if-late : (i : ℕ) → earliest p n cs ≡ some i → 13 < i → answer u r ≡ given u r tooLate
   unfolding answer verdict earliestRun found runAt settle
   if-late i e h = rw (e, lt-leb i 13 h)
 
-  if-run : (i : ℕ) → earliest p n cs ≡ some i → i ≤ 13 → answer tb ms now r ≡ given tb ms r (grant (run i))
+  if-run : (i : ℕ) → earliest p n cs ≡ some i → i ≤ 13 → answer u r ≡ given u r (grant (run i))
   unfolding answer verdict earliestRun found runAt settle
   if-run i e h = rw (e, le-leb i 13 h)
 
@@ -111,17 +124,12 @@ module _ (tb : Table) (ms : List ℕ) (now : TdmaTime) (r : Request) (q : Proper
       go none e = found-none (none-iff p n (wanted-pos (r .code)) cs .0 e) (if-none e)
       go (some i) e = some-at i e (leb i 13) refl
 
-  earliest-one : (i j : ℕ) → EarliestFrom tb now r i → EarliestFrom tb now r j → i ≡ j
+  earliest-one : (i j : ℕ) → EarliestFrom u r i → EarliestFrom u r j → i ≡ j
   earliest-one i j a b = let e : _≡_ {A = Option ℕ} (some i) (some j) = sym (earliest-at i .1 a) ∙ earliest-at j .1 b in cc
-
-  -- a refusal leaves table and counters
-  same-table : (w : Verdict) → tableAfter tb ms r w ≡ tb → tableOf (given tb ms r w) ≡ tb
-  unfolding given
-  same-table w e = rw e (four tb [] (q .shape .rows))
 
   -- ---- a grant
 
-  module _ (i : ℕ) (at : EarliestFrom tb now r i) (low : i ≤ 13) where
+  module _ (i : ℕ) (at : EarliestFrom u r i) (low : i ≤ 13) where
     abbrev slots : List ℕ
     slots = take n (drop i cs)
 
@@ -134,14 +142,14 @@ module _ (tb : Table) (ms : List ℕ) (now : TdmaTime) (r : Request) (q : Proper
     abbrev after : Table
     after = reserve tb hs (r .number) m slots
 
-    is-given : answer tb ms now r ≡ given tb ms r (grant (run i))
+    is-given : answer u r ≡ given u r (grant (run i))
     is-given = if-run i (earliest-at i .1 at) low
 
-    table-is : tableOf (answer tb ms now r) ≡ after
+    table-is : answer u r .uplink .rows ≡ after
     unfolding given tableAfter
-    table-is = ap tableOf is-given ∙ four after [] (reserve-shape hs (r .number) m slots tb (q .shape) .rows)
+    table-is = ap (λ (a : CapAnswer). a .uplink .rows) is-given
 
-    reply-is : answer tb ms now r .reply ≡ CapReply.Granted (capacity (tableView tb) (r .code) slots) i m
+    reply-is : answer u r .reply ≡ CapReply.Granted (capacity (tableView tb) (r .code) slots) i m
     unfolding given replyTo
     reply-is = ap (λ (a : CapAnswer). a .reply) is-given
 
@@ -151,32 +159,32 @@ module _ (tb : Table) (ms : List ℕ) (now : TdmaTime) (r : Request) (q : Proper
     long : length slots ≡ n
     long = length-take-le n (drop i cs) (omega (arith, length-drop i cs, at .stretch .room, wanted-pos (r .code)))
 
-    slot-at : (j : ℕ) → j < n → getD slots j 0 ≡ slotOfRun now r i j
+    slot-at : (j : ℕ) → j < n → getD slots j 0 ≡ slotOfRun u r i j
     slot-at j l = getD-take n (drop i cs) j 0 l ∙ getD-drop i cs j 0
 
-    taken-at : (j : ℕ) → j < n → entryAt (tableOf (answer tb ms now r)) (slotOfRun now r i j) ≡ withHalves (withMarker (entryAt tb (slotOfRun now r i j)) m) hs (r .number)
+    taken-at : (j : ℕ) → j < n → entryAt (answer u r .uplink .rows) (slotOfRun u r i j) ≡ withHalves (withMarker (entryAt tb (slotOfRun u r i j)) m) hs (r .number)
     taken-at j l = rw (table-is, ← slot-at j l) (reserve-at hs (r .number) m (slotOf now) slots tb (q .shape) window j (rw long l))
 
     whole-table : Whole tb
-    whole-table = sound-whole tb (q .shape) (q .entries)
+    whole-table = sound-whole tb (q .shape) (sound .table)
 
     parts : (c : ℕ) → SoundParts (entryAt tb c)
     parts c = sound-parts (entryAt tb c) (whole-table .entries c)
 
-    first-slot : slotOfRun now r i 0 ≡ getD slots 0 0
+    first-slot : slotOfRun u r i 0 ≡ getD slots 0 0
     first-slot = sym (slot-at 0 (wanted-pos (r .code)))
 
     whole-is : wantsHalf (r .code) ≡ false → (j : ℕ) → j < n
-        → entryAt (tableOf (answer tb ms now r)) (slotOfRun now r i j) ≡ record { ul1 = OptU32.Of (r .number); ul2 = OptU32.Of (r .number); «usage_marker» = m }
+        → entryAt (answer u r .uplink .rows) (slotOfRun u r i j) ≡ record { ul1 = OptU32.Of (r .number); ul2 = OptU32.Of (r .number); «usage_marker» = m }
     unfolding capacity
     whole-is h j l =
-        let free : vacant (entryAt tb (slotOfRun now r i j) .ul1) ≡ true = free-first (entryAt tb (slotOfRun now r i j) .ul1) (entryAt tb (slotOfRun now r i j) .ul2) (rw h at (at .stretch .each j l)) in
+        let free : vacant (entryAt tb (slotOfRun u r i j) .ul1) ≡ true = free-first (entryAt tb (slotOfRun u r i j) .ul1) (entryAt tb (slotOfRun u r i j) .ul2) (rw h at (at .stretch .each j l)) in
         taken-at j l
-        ∙ ap (λ (e : Entry). withHalves (withMarker e m) hs (r .number)) (parts (slotOfRun now r i j) .alone free)
+        ∙ ap (λ (e : Entry). withHalves (withMarker e m) hs (r .number)) (parts (slotOfRun u r i j) .alone free)
         ∙ ap (λ (x : List Half). withHalves (withMarker emptyEntry m) x (r .number)) (slots-halves (r .code) (not (vacant (tableView tb (getD slots 0 0) firstHalf))) h)
         ∙ both-taken m (r .number)
 
-    whole-reply : wantsHalf (r .code) ≡ false → answer tb ms now r .reply ≡ CapReply.Granted (min (r .code) 14) i m
+    whole-reply : wantsHalf (r .code) ≡ false → answer u r .reply ≡ CapReply.Granted (min (r .code) 14) i m
     unfolding capacity
     whole-reply h = reply-is ∙ ap (λ (k : ℕ). CapReply.Granted k i m) (slots-capacity (r .code) (not (vacant (tableView tb (getD slots 0 0) firstHalf))) h)
 
@@ -184,41 +192,45 @@ module _ (tb : Table) (ms : List ℕ) (now : TdmaTime) (r : Request) (q : Proper
       unmarked-half : m ≡ OptU8.Absent
       unmarked-half = marker-none ms r (rw (half-one (r .code) h) (omega arith)) .0
 
-      cap-is : (b : Bool) → vacant (tableView tb (slotOfRun now r i 0) firstHalf) ≡ b → capacity (tableView tb) (r .code) slots ≡ cond (not b) 15 0
+      cap-is : (b : Bool) → vacant (tableView tb (slotOfRun u r i 0) firstHalf) ≡ b → capacity (tableView tb) (r .code) slots ≡ cond (not b) 15 0
       unfolding capacity
       cap-is b v = rw (← first-slot, v) (half-capacity (r .code) (not b) h)
 
-      half-is : (b : Bool) → vacant (tableView tb (slotOfRun now r i 0) firstHalf) ≡ b
-          → (answer tb ms now r .reply ≡ CapReply.Granted (cond (not b) 15 0) i OptU8.Absent)
-          × (entryAt (tableOf (answer tb ms now r)) (slotOfRun now r i 0) ≡ withHalves (entryAt tb (slotOfRun now r i 0)) (halvesOf (cond (not b) 15 0)) (r .number))
+      half-is : (b : Bool) → vacant (tableView tb (slotOfRun u r i 0) firstHalf) ≡ b
+          → (answer u r .reply ≡ CapReply.Granted (cond (not b) 15 0) i OptU8.Absent)
+          × (entryAt (answer u r .uplink .rows) (slotOfRun u r i 0) ≡ withHalves (entryAt tb (slotOfRun u r i 0)) (halvesOf (cond (not b) 15 0)) (r .number))
       half-is b v =
           (reply-is ∙ rw (cap-is b v, unmarked-half), taken-at 0 (wanted-pos (r .code)) ∙ rw (cap-is b v, unmarked-half))
 
-      first-is : vacant (tableView tb (slotOfRun now r i 0) firstHalf) ≡ true
-          → (answer tb ms now r .reply ≡ CapReply.Granted 0 i OptU8.Absent)
-          × (entryAt (tableOf (answer tb ms now r)) (slotOfRun now r i 0) ≡ record { ul1 = OptU32.Of (r .number); ul2 = OptU32.Absent; «usage_marker» = OptU8.Absent })
+      first-is : vacant (tableView tb (slotOfRun u r i 0) firstHalf) ≡ true
+          → (answer u r .reply ≡ CapReply.Granted 0 i OptU8.Absent)
+          × (entryAt (answer u r .uplink .rows) (slotOfRun u r i 0) ≡ record { ul1 = OptU32.Of (r .number); ul2 = OptU32.Absent; «usage_marker» = OptU8.Absent })
       unfolding halvesOf withHalves
-      first-is v = let k = half-is true v in (k .0, k .1 ∙ ap (λ (e : Entry). withHalves e (firstHalf ∷ []) (r .number)) (parts (slotOfRun now r i 0) .alone v))
+      first-is v = let k = half-is true v in (k .0, k .1 ∙ ap (λ (e : Entry). withHalves e (firstHalf ∷ []) (r .number)) (parts (slotOfRun u r i 0) .alone v))
 
-      second-is : vacant (tableView tb (slotOfRun now r i 0) firstHalf) ≡ false
-          → let before = entryAt tb (slotOfRun now r i 0) in
-          (answer tb ms now r .reply ≡ CapReply.Granted 15 i OptU8.Absent)
-          × (entryAt (tableOf (answer tb ms now r)) (slotOfRun now r i 0) ≡ record { ul1 = before .ul1; ul2 = OptU32.Of (r .number); «usage_marker» = before .«usage_marker» })
+      second-is : vacant (tableView tb (slotOfRun u r i 0) firstHalf) ≡ false
+          → let before = entryAt tb (slotOfRun u r i 0) in
+          (answer u r .reply ≡ CapReply.Granted 15 i OptU8.Absent)
+          × (entryAt (answer u r .uplink .rows) (slotOfRun u r i 0) ≡ record { ul1 = before .ul1; ul2 = OptU32.Of (r .number); «usage_marker» = before .«usage_marker» })
       unfolding halvesOf withHalves
       second-is v = half-is false v
 
-    others-stay : (c : ℕ) → ((j : ℕ) → j < n → SameEntry c (slotOfRun now r i j) → ⊥) → entryAt (tableOf (answer tb ms now r)) c ≡ entryAt tb c
+    others-stay : (c : ℕ) → ((j : ℕ) → j < n → SameEntry c (slotOfRun u r i j) → ⊥) → entryAt (answer u r .uplink .rows) c ≡ entryAt tb c
     others-stay c h =
         rw table-is
         (reserve-other hs (r .number) m slots tb (q .shape) c
         (all-places (λ d. c % 72 ≢ d % 72) slots
-        (λ j l. let k : j < n = rw long at l in λ e. h j k (cell-same c (slotOfRun now r i j) (e ∙ ap (λ (x : ℕ). x % 72) (slot-at j k))))))
+        (λ j l. let k : j < n = rw long at l in λ e. h j k (cell-same c (slotOfRun u r i j) (e ∙ ap (λ (x : ℕ). x % 72) (slot-at j k))))))
 
-    counters-are : answer tb ms now r .«next_usage_marker» ≡ markersAfter ms r
+    counters-are : answer u r .uplink .«next_usage_marker» ≡ markersAfter ms r
     unfolding given countersAfter
-    counters-are = ap (λ (a : CapAnswer). a .«next_usage_marker») is-given
+    counters-are = ap (λ (a : CapAnswer). a .uplink .«next_usage_marker») is-given
 
-    reserved : Reserved tb ms now r i
+    time-is : answer u r .uplink .time ≡ now
+    unfolding given
+    time-is = ap (λ (a : CapAnswer). a .uplink .time) is-given
+
+    reserved : Reserved u r i
     reserved =
         record {
           whole-reply = whole-reply;
@@ -227,6 +239,7 @@ module _ (tb : Table) (ms : List ℕ) (now : TdmaTime) (r : Request) (q : Proper
           second-half = second-is;
           others = others-stay;
           counters = counters-are;
+          time = time-is;
         }
 
     -- ---- soundness
@@ -236,7 +249,7 @@ module _ (tb : Table) (ms : List ℕ) (now : TdmaTime) (r : Request) (q : Proper
     marker-sound = go (draws (r .code))
       where
         go : (b : Bool) → soundMarker (cond b (OptU8.Of (getD ms (r .timeslot - 1) 0)) OptU8.Absent) ≡ true
-        go true = all-at soundCounter ms (r .timeslot - 1) 0 (omega (arith, q .four, q .timeslot-low, q .timeslot-high)) (q .counters)
+        go true = all-at soundCounter ms (r .timeslot - 1) 0 (omega (arith, q .four, q .timeslot-low, q .timeslot-high)) (sound .counters)
         go false = refl
 
     slots-sound : wantsHalf (r .code) ≡ false → Whole after
@@ -258,24 +271,24 @@ module _ (tb : Table) (ms : List ℕ) (now : TdmaTime) (r : Request) (q : Proper
         let b : Bool = vacant (tableView tb (getD slots 0 0) firstHalf) in
         rw (cap-is h b (ap (λ (c : ℕ). vacant (tableView tb c firstHalf)) first-slot)) (one-sound slots (long ∙ half-one (r .code) h) b refl)
 
-    after-sound : soundTable (tableOf (answer tb ms now r)) ≡ true
+    after-sound : soundTable (answer u r .uplink .rows) ≡ true
     after-sound = rw table-is (whole-sound after (⊎-elim half-sound slots-sound (either (wantsHalf (r .code)))))
 
-    counters-sound : soundCounters (answer tb ms now r .«next_usage_marker») ≡ true
+    counters-sound : soundCounters (answer u r .uplink .«next_usage_marker») ≡ true
     unfolding markersAfter
     counters-sound = rw counters-are (go (draws (r .code)))
       where
         go : (b : Bool) → soundCounters (cond b (drawn ms (r .timeslot)) ms) ≡ true
-        go true = drawn-sound ms (r .timeslot) (q .four) (q .counters) (q .timeslot-low) (q .timeslot-high)
-        go false = q .counters
+        go true = drawn-sound ms (r .timeslot) (q .four) (sound .counters) (q .timeslot-low) (q .timeslot-high)
+        go false = sound .counters
 
   -- ---- the whole claim
 
-  late-reply : answer tb ms now r ≡ given tb ms r tooLate → answer tb ms now r .reply ≡ CapReply.TooLate
+  late-reply : answer u r ≡ given u r tooLate → answer u r .reply ≡ CapReply.TooLate
   unfolding given replyTo
   late-reply e = ap (λ (a : CapAnswer). a .reply) e
 
-  none-reply : answer tb ms now r ≡ given tb ms r noRun → answer tb ms now r .reply ≡ CapReply.NoRun
+  none-reply : answer u r ≡ given u r noRun → answer u r .reply ≡ CapReply.NoRun
   unfolding given replyTo
   none-reply e = ap (λ (a : CapAnswer). a .reply) e
 
@@ -289,70 +302,61 @@ module _ (tb : Table) (ms : List ℕ) (now : TdmaTime) (r : Request) (q : Proper
   delayIn CapReply.NoRun = 0
   delayIn CapReply.TooLate = 0
 
-  clash {ℓ} : {X : Type ℓ} (a b : CapReply) → answer tb ms now r .reply ≡ a → answer tb ms now r .reply ≡ b → kind a ≢ kind b → X
+  clash {ℓ} : {X : Type ℓ} (a b : CapReply) → answer u r .reply ≡ a → answer u r .reply ≡ b → kind a ≢ kind b → X
   clash a b e f h = absurd (h (ap kind (sym e ∙ f)))
 
-  only-then : (cap delay : ℕ) (k : OptU8) → answer tb ms now r .reply ≡ CapReply.Granted cap delay k → EarliestFrom tb now r delay × (delay ≤ 13)
+  only-then : (cap delay : ℕ) (k : OptU8) → answer u r .reply ≡ CapReply.Granted cap delay k → EarliestFrom u r delay × (delay ≤ 13)
   only-then cap delay k e = go outcome
     where
-      go : Outcome → EarliestFrom tb now r delay × (delay ≤ 13)
+      go : Outcome → EarliestFrom u r delay × (delay ≤ 13)
       go (found-none h f) = clash _ _ (none-reply f) e (omega arith)
       go (found-late i h l f) = clash _ _ (late-reply f) e (omega arith)
       go (found-run i h l f) = let same : i ≡ delay = ap delayIn (sym (reply-is i h l) ∙ e) in (rw (← same) h, rw (← same) l)
 
-  no-run : (answer tb ms now r .reply ≡ CapReply.NoRun) ↔ ((i : ℕ) → FreeFrom tb now r i → ⊥)
+  no-run : (answer u r .reply ≡ CapReply.NoRun) ↔ ((i : ℕ) → FreeFrom u r i → ⊥)
   no-run = (there outcome, λ h. none-reply (if-none (none-iff p n (wanted-pos (r .code)) cs .1 h)))
     where
-      there : Outcome → answer tb ms now r .reply ≡ CapReply.NoRun → (i : ℕ) → FreeFrom tb now r i → ⊥
+      there : Outcome → answer u r .reply ≡ CapReply.NoRun → (i : ℕ) → FreeFrom u r i → ⊥
       there (found-none h f) e = h
       there (found-late i h l f) e = clash _ _ (late-reply f) e (omega arith)
       there (found-run i h l f) e = clash _ _ (reply-is i h l) e (omega arith)
 
-  too-late : (answer tb ms now r .reply ≡ CapReply.TooLate) ↔ ((i : ℕ) × EarliestFrom tb now r i × (13 < i))
+  too-late : (answer u r .reply ≡ CapReply.TooLate) ↔ ((i : ℕ) × EarliestFrom u r i × (13 < i))
   too-late = (there outcome, λ x. late-reply (if-late (x .0) (earliest-at (x .0) .1 (x .1)) (x .2)))
     where
-      there : Outcome → answer tb ms now r .reply ≡ CapReply.TooLate → (i : ℕ) × EarliestFrom tb now r i × (13 < i)
+      there : Outcome → answer u r .reply ≡ CapReply.TooLate → (i : ℕ) × EarliestFrom u r i × (13 < i)
       there (found-none h f) e = clash _ _ (none-reply f) e (omega arith)
       there (found-late i h l f) e = (i, h, l)
       there (found-run i h l f) e = clash _ _ (reply-is i h l) e (omega arith)
 
-  refused : replyNumber (answer tb ms now r .reply) ≢ 0 → (tableOf (answer tb ms now r) ≡ tb) × (answer tb ms now r .«next_usage_marker» ≡ ms)
+  refused : replyNumber (answer u r .reply) ≢ 0 → answer u r .uplink ≡ u
   unfolding given tableAfter countersAfter
   refused z = go outcome
     where
-      go : Outcome → (tableOf (answer tb ms now r) ≡ tb) × (answer tb ms now r .«next_usage_marker» ≡ ms)
-      go (found-none h f) = (ap tableOf f ∙ same-table noRun refl, ap (λ (a : CapAnswer). a .«next_usage_marker») f)
-      go (found-late i h l f) = (ap tableOf f ∙ same-table tooLate refl, ap (λ (a : CapAnswer). a .«next_usage_marker») f)
+      go : Outcome → answer u r .uplink ≡ u
+      go (found-none h f) = ap (λ (a : CapAnswer). a .uplink) f
+      go (found-late i h l f) = ap (λ (a : CapAnswer). a .uplink) f
       go (found-run i h l f) = absurd (z (ap replyNumber (reply-is i h l)))
 
-  sound-after : soundTable (tableOf (answer tb ms now r)) ≡ true
-  unfolding tableAfter
+  sound-after : soundUplink (answer u r .uplink) ≡ true
+  unfolding given tableAfter countersAfter
   sound-after = go outcome
     where
-      go : Outcome → soundTable (tableOf (answer tb ms now r)) ≡ true
-      go (found-none h f) = rw (ap tableOf f ∙ same-table noRun refl) (q .entries)
-      go (found-late i h l f) = rw (ap tableOf f ∙ same-table tooLate refl) (q .entries)
-      go (found-run i h l f) = after-sound i h l
-
-  counters-after : soundCounters (answer tb ms now r .«next_usage_marker») ≡ true
-  unfolding given countersAfter
-  counters-after = go outcome
-    where
-      go : Outcome → soundCounters (answer tb ms now r .«next_usage_marker») ≡ true
-      go (found-none h f) = rw f (q .counters)
-      go (found-late i h l f) = rw f (q .counters)
-      go (found-run i h l f) = counters-sound i h l
+      go : Outcome → soundUplink (answer u r .uplink) ≡ true
+      go (found-none h f) = rw f (q .sound)
+      go (found-late i h l f) = rw f (q .sound)
+      go (found-run i h l f) =
+          parts-uplink _ (record { time = rw (time-is i h l) (sound .time); table = after-sound i h l; counters = counters-sound i h l })
 
 -- a request is granted exactly when its slots are free in succession, with at most 13 usable slots before the earliest such run,
 -- which is reserved; nothing else changes
 pub granted-exactly : Demand2
-granted-exactly tb ms now r q =
+granted-exactly u r q =
     record {
-      granted = reserved tb ms now r q;
-      only-then = only-then tb ms now r q;
-      no-run = no-run tb ms now r q;
-      too-late = too-late tb ms now r q;
-      refused = refused tb ms now r q;
-      sound = sound-after tb ms now r q;
-      sound-counters = counters-after tb ms now r q;
+      granted = reserved u r q;
+      only-then = only-then u r q;
+      no-run = no-run u r q;
+      too-late = too-late u r q;
+      refused = refused u r q;
+      sound = sound-after u r q;
     }

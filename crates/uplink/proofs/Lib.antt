@@ -9,6 +9,6 @@ pub mod ReserveLaws
 pub mod SoundLaws
 pub mod StretchLaws
 pub mod GrantedExactly
-pub mod StarredCases
+pub mod RowsField
 pub mod VerdictLaws
 pub mod MsLaws

@@ -12,9 +12,13 @@ use Rattle.optional.specs.declared.OptU8.{OptU8}
 use Rattle.optional.specs.declared.OptU32.{OptU32}
 use Rattle.optional.proofs.Tests.{and-left, and-right, and-intro}
 use Rattle.tdma_time.specs.declared.TdmaTime.{TdmaTime}
+use Rattle.tdma_time.specs.Time.{Valid, valid, slotOf, nextTime}
+use Rattle.tdma_time.proofs.TimeLaws.{true-valid, valid-true, timeOf-valid}
 use Rattle.uplink.specs.declared.Entry.{Entry}
+use Rattle.uplink.specs.declared.Uplink.{Uplink}
 use Rattle.uplink.specs.HalfSlot.{Half, firstHalf, secondHalf, vacant}
 use Rattle.uplink.specs.UplinkEntry.{emptyEntry, Table, FourRowsOfEighteen, emptyTable, entryAt, store, withHalves, withMarker, reserve, cleared, all, soundOwner, soundCounter, soundMarker, unmarked, soundEntry, soundRow, soundTable, soundCounters}
+use Rattle.uplink.specs.Uplink.{newUplink, advancedUplink, soundUplink}
 use Rattle.uplink.specs.Request.{nextMarker, drawn}
 use Rattle.uplink.proofs.Basics.{not-both}
 use Rattle.uplink.proofs.TableLaws.{store-shape, store-same, store-other}
@@ -156,12 +160,32 @@ next-sound m h = go (leb 62 m) refl
 pub drawn-sound : (ms : List ℕ) (t : ℕ) → length ms ≡ 4 → soundCounters ms ≡ true → 1 ≤ t → t ≤ 4 → soundCounters (drawn ms t) ≡ true
 drawn-sound ms t l h a b = all-set soundCounter ms (t - 1) _ h (next-sound _ (all-at soundCounter ms (t - 1) 0 (omega (arith, l)) h))
 
--- ---- a new station's table and counters
+-- ---- the uplink
 
-pub empty-sound : soundTable emptyTable ≡ true
-unfolding all
-empty-sound = refl
+pub record SoundUplink (u : Uplink) : Type 0 where
+  pub time : Valid (u .time)
+  pub table : soundTable (u .rows) ≡ true
+  pub counters : soundCounters (u .«next_usage_marker») ≡ true
 
-pub first-counters-sound : soundCounters (replicate 4 4) ≡ true
-unfolding all
-first-counters-sound = refl
+pub uplink-parts : (u : Uplink) → soundUplink u ≡ true → SoundUplink u
+unfolding soundUplink
+uplink-parts u h =
+    let ab = and-left (valid (u .time) && soundTable (u .rows)) (soundCounters (u .«next_usage_marker»)) h in
+    record {
+      time = true-valid (u .time) (and-left (valid (u .time)) (soundTable (u .rows)) ab);
+      table = and-right (valid (u .time)) (soundTable (u .rows)) ab;
+      counters = and-right (valid (u .time) && soundTable (u .rows)) (soundCounters (u .«next_usage_marker»)) h;
+    }
+
+pub parts-uplink : (u : Uplink) → SoundUplink u → soundUplink u ≡ true
+unfolding soundUplink
+parts-uplink u p = rw (valid-true (u .time) (p .time), p .table, p .counters)
+
+pub new-sound : (x : TdmaTime) → Valid x → soundUplink (newUplink x) ≡ true
+unfolding soundUplink all
+new-sound x v = rw (valid-true x v)
+
+pub advanced-sound : (u : Uplink) → FourRowsOfEighteen (u .rows) → soundUplink u ≡ true → soundUplink (advancedUplink u) ≡ true
+advanced-sound u s h =
+    let p = uplink-parts u h in
+    parts-uplink (advancedUplink u) (record { time = timeOf-valid (slotOf (u .time) + 1); table = cleared-sound (u .rows) (nextTime (u .time)) s (p .table); counters = p .counters })

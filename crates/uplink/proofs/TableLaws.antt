@@ -2,8 +2,8 @@
 -- Assumes nothing.
 use mathlib.Core.Path.{_≡_, refl, ap, _∙_}
 use mathlib.Core.Logic.{_≢_}
-use mathlib.Core.List.{List, []}
-use Prim.Native.Nat.{ℕ, _+_, _-_, _/_, _%_, _<_}
+use mathlib.Core.List.{List, [], _∷_}
+use Prim.Native.Nat.{ℕ, zero, suc, _+_, _-_, _/_, _%_, _<_}
 use native.Mathlib.Omega.{arith}
 use native.Mathlib.Decide.{ℕ-discrete}
 use lib.ListN.{length, getD, set, replicate, length-set, getD-replicate}
@@ -100,3 +100,9 @@ cleared-there tb x s c h = store-same tb (slotOf x + cycle - 4) emptyEntry s c (
 
 pub cleared-elsewhere : (tb : Table) (x : TdmaTime) → FourRowsOfEighteen tb → (c : ℕ) → (SameEntry c (slotOf x + cycle - 4) → ⊥) → entryAt (cleared tb x) c ≡ entryAt tb c
 cleared-elsewhere tb x s c h = store-other tb (slotOf x + cycle - 4) emptyEntry s c (λ e. h (cell-same c _ e))
+
+-- one of equal elements, written again
+pub set-replicate : {A : Type 0} (n k : ℕ) (x : A) → set (replicate n x) k x ≡ replicate n x
+set-replicate zero k x = refl
+set-replicate (suc n) zero x = refl
+set-replicate (suc n) (suc k) x = ap (λ l. x ∷ l) (set-replicate n k x)

@@ -4,6 +4,7 @@ use mathlib.Core.Option.{Option, none, some}
 use mathlib.Core.List.{List, [], _∷_}
 use Prim.Native.Nat.{ℕ, _+_, _-_, _*_, _/_, _<_}
 use lib.ListN.{take, getD}
+use Rattle.sizes.specs.Sizes.{timeslots, framesSearched}
 use Rattle.optional.specs.declared.OptU32.{OptU32}
 use Rattle.tdma_time.specs.declared.TdmaTime.{TdmaTime}
 use Rattle.tdma_time.specs.Time.{slotOf, firstOf, framesOn, usableOf}
@@ -11,6 +12,7 @@ use Rattle.slot_codes.specs.Codes.{slotsWanted}
 use Rattle.uplink.specs.declared.CapAnswer.{CapAnswer}
 use Rattle.uplink.specs.declared.Opportunity.{Opportunity}
 use Rattle.uplink.specs.declared.PhyBlockNum.{PhyBlockNum}
+use Rattle.uplink.specs.declared.Uplink.{Uplink}
 use Rattle.uplink.specs.HalfSlot.{Half, firstHalf, secondHalf, vacant}
 use Rattle.uplink.specs.Search.{Run}
 use Rattle.uplink.specs.UplinkEntry.{Table, tableView}
@@ -19,7 +21,7 @@ use Rattle.uplink.specs.Request.{Request, earliestRun, grant, given}
 -- a run as the search answers it: its start, in frames after the first slot, and the slots passed over
 abbrev pub asOpportunity : ℕ → Option Run → Opportunity
 asOpportunity first none = Opportunity.Nothing
-asOpportunity first (some r) = Opportunity.At ((getD (r .slots) 0 0 - first) / 4) (r .delay)
+asOpportunity first (some r) = Opportunity.At ((getD (r .slots) 0 0 - first) / timeslots) (r .delay)
 
 unfoldable pub opportunity : Table → TdmaTime → ℕ → ℕ → Bool → Opportunity
 opportunity tb now t n half = asOpportunity (firstOf t (slotOf now)) (earliestRun (tableView tb) (slotOf now) t n half)
@@ -27,11 +29,11 @@ opportunity tb now t n half = asOpportunity (firstOf t (slotOf now)) (earliestRu
 -- the run begins, and the slots passed over stand, within the 17 frames
 abbrev pub Within : Opportunity → Type 0
 Within Opportunity.Nothing = Unit {0}
-Within (Opportunity.At start skips) = (start < 17) × (skips < 17)
+Within (Opportunity.At start skips) = (start < framesSearched) × (skips < framesSearched)
 
 -- the n usable slots of timeslot t from `start` frames after the first slot on, within the 17 frames
 unfoldable pub slotsFrom : TdmaTime → ℕ → ℕ → ℕ → List ℕ
-slotsFrom now t start n = take n (usableOf (framesOn (firstOf t (slotOf now) + start * 4) (17 - start)))
+slotsFrom now t start n = take n (usableOf (framesOn (firstOf t (slotOf now) + start * timeslots) (framesSearched - start)))
 
 -- which halves of a slot a request takes, by the holder of the first: both, or for half a slot the first if it is free, else the second
 abbrev pub blockOf : Bool → OptU32 → PhyBlockNum
@@ -43,6 +45,6 @@ blockHalves PhyBlockNum.Block1 = firstHalf ∷ []
 blockHalves PhyBlockNum.Block2 = secondHalf ∷ []
 
 -- the answer where the run begins `start` frames after the first slot, with `skips` usable slots before it
-unfoldable pub grantedAt : Table → List ℕ → TdmaTime → Request → ℕ → ℕ → CapAnswer
-grantedAt tb ms now r start skips =
-    given tb ms r (grant (record { delay = skips; slots = slotsFrom now (r .timeslot) start (slotsWanted (r .code)) }))
+unfoldable pub grantedAt : Uplink → Request → ℕ → ℕ → CapAnswer
+grantedAt u r start skips =
+    given u r (grant (record { delay = skips; slots = slotsFrom (u .time) (r .timeslot) start (slotsWanted (r .code)) }))

@@ -6,15 +6,17 @@ use mathlib.Core.List.{List, [], _∷_}
 use Prim.Native.Nat.{ℕ, _+_, _-_}
 use lib.ListN.{take, drop, getD, set}
 use lib.Dec.{eqb, leb}
+use Rattle.sizes.specs.Sizes.{framesSearched, latestDelay}
 use Rattle.optional.specs.declared.OptU8.{OptU8}
-use Rattle.tdma_time.specs.declared.TdmaTime.{TdmaTime}
 use Rattle.tdma_time.specs.Time.{slotOf, firstOf, framesOn, usableOf, usables}
 use Rattle.slot_codes.specs.Codes.{slotsWanted, wantsHalf, slotsGranted, capacityFor}
 use Rattle.uplink.specs.declared.CapAnswer.{CapAnswer}
 use Rattle.uplink.specs.declared.CapReply.{CapReply}
+use Rattle.uplink.specs.declared.Uplink.{Uplink}
 use Rattle.uplink.specs.HalfSlot.{Half, firstHalf, secondHalf, HalfSlot, View, vacant, freeFor, halvesOfSlots}
 use Rattle.uplink.specs.Search.{Run, found, walk}
 use Rattle.uplink.specs.UplinkEntry.{Table, tableView, reserve}
+use Rattle.uplink.specs.Uplink.{withTable}
 
 -- a request: timeslot, requirement code and address number
 pub record Request : Type 0 where
@@ -26,7 +28,7 @@ pub record Request : Type 0 where
 
 -- "From the first slot of the timeslot at or after now, 17 frames are searched." "Frame 18 neither counts nor breaks a run."
 unfoldable pub candidates : ℕ → ℕ → List ℕ
-candidates t now = usableOf (framesOn (firstOf t now) 17)
+candidates t now = usableOf (framesOn (firstOf t now) framesSearched)
 
 -- "the earliest n in succession with both halves free, or for half a slot the first with a free half"
 abbrev pub fits : Bool → View → ℕ → Bool
@@ -38,7 +40,7 @@ earliestRun v now t n half = found (fits half v) n (candidates t now)
 
 -- the same as the loop of `ul_find_grant_opportunity` in the Rust finds it
 unfoldable pub loopRun : View → ℕ → ℕ → ℕ → Bool → Option Run
-loopRun v now t n half = walk (fits half v) n 0 [] (framesOn (firstOf t now) 17)
+loopRun v now t n half = walk (fits half v) n 0 [] (framesOn (firstOf t now) framesSearched)
 
 -- ---- the verdict
 
@@ -49,7 +51,7 @@ pub data Verdict : Type 0 where
 -- "Does the run exist? No: 9." "At most 13 before it? No: 10."
 unfoldable pub settle : Option Run → Verdict
 settle none = noRun
-settle (some r) = cond (leb (r .delay) 13) (grant r) tooLate
+settle (some r) = cond (leb (r .delay) latestDelay) (grant r) tooLate
 
 -- the answer to a request at slot `now`, where v says who holds what
 unfoldable pub verdict : View → ℕ → Request → Verdict
@@ -123,17 +125,11 @@ countersAfter ms r noRun = ms
 countersAfter ms r tooLate = ms
 countersAfter ms r (grant g) = markersAfter ms r
 
--- an answer's table is held row by row
-abbrev pub tableOf : CapAnswer → Table
-tableOf a = a .row1 ∷ a .row2 ∷ a .row3 ∷ a .row4 ∷ []
+unfoldable pub given : Uplink → Request → Verdict → CapAnswer
+given u r w =
+    let ms = u .«next_usage_marker» in
+    record { reply = replyTo (tableView (u .rows)) ms r w; uplink = withTable u (tableAfter (u .rows) ms r w) (countersAfter ms r w) }
 
-abbrev pub answerOf : CapReply → Table → List ℕ → CapAnswer
-answerOf reply tb ms =
-    record { reply = reply; row1 = getD tb 0 []; row2 = getD tb 1 []; row3 = getD tb 2 []; row4 = getD tb 3 []; «next_usage_marker» = ms }
-
-unfoldable pub given : Table → List ℕ → Request → Verdict → CapAnswer
-given tb ms r w = answerOf (replyTo (tableView tb) ms r w) (tableAfter tb ms r w) (countersAfter ms r w)
-
--- the answer to a request: its reply, and table and counters after it
-unfoldable pub answer : Table → List ℕ → TdmaTime → Request → CapAnswer
-answer tb ms now r = given tb ms r (verdict (tableView tb) (slotOf now) r)
+-- the answer to a request: its reply, and the uplink after it
+unfoldable pub answer : Uplink → Request → CapAnswer
+answer u r = given u r (verdict (tableView (u .rows)) (slotOf (u .time)) r)

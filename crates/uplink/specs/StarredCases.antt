@@ -4,14 +4,17 @@ use mathlib.Core.List.{List, [], _∷_, _++_, map}
 use Prim.Native.Nat.{ℕ}
 use Prim.Native.String.{String}
 use lib.ListN.{replicate}
+use Rattle.sizes.specs.Sizes.{timeslots}
 use Rattle.optional.specs.declared.OptU8.{OptU8}
 use Rattle.tdma_time.specs.declared.TdmaTime.{TdmaTime}
 use Rattle.tdma_time.specs.Time.{slotOf, frame, framesOn, nextTime}
 use Rattle.uplink.specs.declared.CapAnswer.{CapAnswer}
 use Rattle.uplink.specs.declared.CapReply.{CapReply}
+use Rattle.uplink.specs.declared.Uplink.{Uplink}
 use Rattle.uplink.specs.HalfSlot.{Half, firstHalf, secondHalf}
 use Rattle.uplink.specs.UplinkEntry.{Table, emptyTable, tableView, reserve, markerOrZero}
-use Rattle.uplink.specs.Request.{Request, Verdict, noRun, tooLate, grant, verdict, tableOf, answer}
+use Rattle.uplink.specs.Uplink.{uplinkOf}
+use Rattle.uplink.specs.Request.{Request, Verdict, noRun, tooLate, grant, verdict, answer}
 
 -- a case: what the definitions give, and what document 01 says, each as a list of numbers
 pub record Case : Type 0 where
@@ -51,10 +54,14 @@ framesGranted noRun = []
 framesGranted tooLate = []
 framesGranted (grant g) = map (λ (c : ℕ). frame c) (g .slots)
 
+-- the uplink in frame f with a table, the counters at k
+abbrev pub uplinkIn : ℕ → Table → ℕ → Uplink
+uplinkIn f tb k = uplinkOf (inFrame f) tb (replicate timeslots k)
+
 -- a request in frame f on a table, with the counters at k: the reply as shown, then the frames granted
 unfoldable pub asked : Table → ℕ → ℕ → ℕ → List ℕ
 asked tb k f code =
-    shown (answer tb (replicate 4 k) (inFrame f) (asking code) .reply) ++ framesGranted (verdict (tableView tb) (slotOf (inFrame f)) (asking code))
+    shown (answer (uplinkIn f tb k) (asking code) .reply) ++ framesGranted (verdict (tableView tb) (slotOf (inFrame f)) (asking code))
 
 -- the markers of two requests for two slots, one after the other, in frame 1 of an empty table
 abbrev pub markerIn : CapReply → ℕ
@@ -64,8 +71,8 @@ markerIn CapReply.TooLate = 0
 
 unfoldable pub twoMarkers : ℕ → List ℕ
 twoMarkers k =
-    let first : CapAnswer = answer emptyTable (replicate 4 k) (inFrame 1) (asking 2) in
-    markerIn (first .reply) ∷ markerIn (answer (tableOf first) (first .«next_usage_marker») (inFrame 1) (asking 2) .reply) ∷ []
+    let first : CapAnswer = answer (uplinkIn 1 emptyTable k) (asking 2) in
+    markerIn (first .reply) ∷ markerIn (answer (first .uplink) (asking 2) .reply) ∷ []
 
 -- a time as h, m, f, t
 abbrev pub timeShown : TdmaTime → List ℕ

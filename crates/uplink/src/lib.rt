@@ -1,11 +1,14 @@
-// The uplink: the table of reserved slots and its soundness, an entry emptied, owner and usage.
+// The uplink of a station: the time, the table of reserved slots and the counters of usage markers; a new one, one that steps a slot,
+// its soundness, owner and usage.
 use optional::OptU8;
 use optional::OptU32;
 use tdma_time::TdmaTime;
 ghost use mathlib.Core.Path.{_≡_};
 ghost use Rattle.tdma_time.specs.Time.{Valid, slotOf};
 ghost use Rattle.uplink.specs.HalfSlot.{vacant};
-ghost use Rattle.uplink.specs.UplinkEntry.{entryAt, ownerOf, sameOwner, usageOf, markerOrZero, cleared, soundOwner, soundCounter, soundMarker, unmarked, soundEntry, soundRow, soundTable, soundCounters};
+ghost use Rattle.uplink.specs.UplinkEntry.{emptyTable, entryAt, ownerOf, sameOwner, usageOf, markerOrZero, cleared};
+ghost use Rattle.uplink.specs.UplinkEntry.{soundOwner, soundCounter, soundMarker, unmarked, soundEntry, soundRow, soundTable, soundCounters};
+ghost use Rattle.uplink.specs.Uplink.{uplinkOf, newUplink, advancedUplink, withTable, soundUplink};
 
 // An entry of the uplink table: who holds each half of the slot, and the usage marker of the reservation.
 pub struct Entry {
@@ -21,6 +24,58 @@ impl Entry {
         ul2: OptU32::Absent,
         usage_marker: OptU8::Absent,
     };
+}
+
+// The time, the table by timeslot and frame, and the next usage marker of each timeslot.
+pub struct Uplink {
+    pub time: TdmaTime,
+    pub rows: [[Entry; 18]; 4],
+    pub next_usage_marker: [u8; 4],
+}
+
+// The uplink of a time, a table and counters.
+pub fn uplink_of(time: TdmaTime, rows: [[Entry; 18]; 4], next_usage_marker: [u8; 4]) -> Uplink
+    ensures { λ r. ⌜ r ≡ uplinkOf time rows «next_usage_marker» ⌝ }
+{
+    Uplink {
+        time: time,
+        rows: rows,
+        next_usage_marker: next_usage_marker,
+    }
+}
+
+// The table of an uplink.
+pub fn table_of(u: Uplink) -> [[Entry; 18]; 4]
+    ensures { λ r. ⌜ r ≡ u .rows ⌝ }
+{
+    u.rows
+}
+
+// An empty table. One entry is written at a place that only the time tells, so that the compiler keeps tables in memory: one that is
+// made of constants alone it takes apart into 72 entries wherever a station goes, and every call takes three times as long.
+fn empty_table(time: TdmaTime) -> [[Entry; 18]; 4]
+    ensures { λ r. ⌜ r ≡ emptyTable ⌝ }
+{
+    let mut table = [[Entry::EMPTY; 18]; 4];
+    let place = (time.f % 18) as usize;
+    table[0][place] = Entry::EMPTY;
+    table
+}
+
+// The uplink of a new station at a time: an empty table, and markers at 4.
+pub fn new_uplink(time: TdmaTime) -> Uplink
+    ensures { λ r. ⌜ r ≡ newUplink time ⌝ }
+{
+    let table = empty_table(time);
+    uplink_of(time, table, [4; 4])
+}
+
+// The uplink with another table and other counters.
+pub fn with_table(u: Uplink, table: [[Entry; 18]; 4], next_usage_marker: [u8; 4]) -> Uplink
+    ensures { λ r. ⌜ r ≡ withTable u table «next_usage_marker» ⌝ }
+{
+    let time = u.time;
+    uplink_of(time, table, next_usage_marker)
 }
 
 // A slot's first half, its second, or both.
@@ -55,14 +110,10 @@ pub enum CapReply {
     TooLate,
 }
 
-// The reply, with table and counters after it.
+// The reply, and the uplink after it.
 pub struct CapAnswer {
     pub reply: CapReply,
-    pub row1: [Entry; 18],
-    pub row2: [Entry; 18],
-    pub row3: [Entry; 18],
-    pub row4: [Entry; 18],
-    pub next_usage_marker: [u8; 4],
+    pub uplink: Uplink,
 }
 
 // Is a half free?
@@ -76,7 +127,7 @@ pub fn is_vacant(owner: OptU32) -> bool
 }
 
 // The table with the entry of the slot four earlier than `ts` emptied.
-pub fn clear_ul_schedule_for_tx_time(table: [[Entry; 18]; 4], ts: TdmaTime) -> [[Entry; 18]; 4]
+fn clear_ul_schedule_for_tx_time(table: [[Entry; 18]; 4], ts: TdmaTime) -> [[Entry; 18]; 4]
     requires { ⌜ Valid ts ⌝ }
     ensures { λ r. ⌜ r ≡ cleared table ts ⌝ }
 {
@@ -88,11 +139,25 @@ pub fn clear_ul_schedule_for_tx_time(table: [[Entry; 18]; 4], ts: TdmaTime) -> [
     out
 }
 
-// The entry of the slot at a time.
-fn ul_entry(table: [[Entry; 18]; 4], ts: TdmaTime) -> Entry
-    requires { ⌜ Valid ts ⌝ }
-    ensures { λ r. ⌜ r ≡ entryAt table (slotOf ts) ⌝ }
+// One slot on: the entry of the slot four earlier than the new time is emptied.
+pub fn advanced(u: Uplink) -> Uplink
+    requires { ⌜ Valid (u .time) ⌝ }
+    ensures { λ r. ⌜ r ≡ advancedUplink u ⌝ }
 {
+    let time = u.time;
+    let counters = u.next_usage_marker;
+    let table = table_of(u);
+    let now = time.next();
+    let cleared = clear_ul_schedule_for_tx_time(table, now);
+    uplink_of(now, cleared, counters)
+}
+
+// The entry of the slot at a time.
+fn ul_entry(u: Uplink, ts: TdmaTime) -> Entry
+    requires { ⌜ Valid ts ⌝ }
+    ensures { λ r. ⌜ r ≡ entryAt (u .rows) (slotOf ts) ⌝ }
+{
+    let table = table_of(u);
     let line = (ts.t - 1) as usize;
     let place = (ts.f - 1) as usize;
     table[line][place]
@@ -115,11 +180,11 @@ fn is_same_owner(a: OptU32, b: OptU32) -> bool
 }
 
 // Who holds the first half of the slot at a time, the second, or both.
-pub fn ul_get_slot_owner(table: [[Entry; 18]; 4], ts: TdmaTime, slot: PhyBlockNum) -> OptU32
+pub fn ul_get_slot_owner(u: Uplink, ts: TdmaTime, slot: PhyBlockNum) -> OptU32
     requires { ⌜ Valid ts ⌝ }
-    ensures { λ r. ⌜ r ≡ ownerOf slot (entryAt table (slotOf ts)) ⌝ }
+    ensures { λ r. ⌜ r ≡ ownerOf slot (entryAt (u .rows) (slotOf ts)) ⌝ }
 {
-    let e = ul_entry(table, ts);
+    let e = ul_entry(u, ts);
     let ul1 = e.ul1;
     let ul2 = e.ul2;
     match slot {
@@ -135,11 +200,11 @@ pub fn ul_get_slot_owner(table: [[Entry; 18]; 4], ts: TdmaTime, slot: PhyBlockNu
 }
 
 // How the slot at a time is used.
-pub fn ul_get_usage(table: [[Entry; 18]; 4], ts: TdmaTime) -> AccessAssignUlUsage
+pub fn ul_get_usage(u: Uplink, ts: TdmaTime) -> AccessAssignUlUsage
     requires { ⌜ Valid ts ⌝ }
-    ensures { λ r. ⌜ r ≡ usageOf (entryAt table (slotOf ts)) ⌝ }
+    ensures { λ r. ⌜ r ≡ usageOf (entryAt (u .rows) (slotOf ts)) ⌝ }
 {
-    let e = ul_entry(table, ts);
+    let e = ul_entry(u, ts);
     let ul1 = e.ul1;
     let ul2 = e.ul2;
     let usage_marker = e.usage_marker;
@@ -208,7 +273,7 @@ fn is_unmarked(usage_marker: OptU8) -> bool
 
 // Is there no second half and no marker without a first half, and is each in its range? An entry with no first half, as most are, is
 // asked nothing more.
-pub fn entry_is_sound(e: Entry) -> bool
+fn entry_is_sound(e: Entry) -> bool
     ensures { λ r. ⌜ r ≡ soundEntry e ⌝ }
 {
     let ul1 = e.ul1;
@@ -221,7 +286,7 @@ pub fn entry_is_sound(e: Entry) -> bool
 }
 
 // Is every entry of a timeslot sound?
-pub fn row_is_sound(row: [Entry; 18]) -> bool
+fn row_is_sound(row: [Entry; 18]) -> bool
     ensures { λ r. ⌜ r ≡ soundRow row ⌝ }
 {
     let mut sound = true;
@@ -233,7 +298,7 @@ pub fn row_is_sound(row: [Entry; 18]) -> bool
 }
 
 // Is every row of the table sound?
-pub fn table_is_sound(table: [[Entry; 18]; 4]) -> bool
+fn table_is_sound(table: [[Entry; 18]; 4]) -> bool
     ensures { λ r. ⌜ r ≡ soundTable table ⌝ }
 {
     let mut sound = true;
@@ -245,7 +310,7 @@ pub fn table_is_sound(table: [[Entry; 18]; 4]) -> bool
 }
 
 // Is every counter in range?
-pub fn counters_are_sound(next_usage_marker: [u8; 4]) -> bool
+fn counters_are_sound(next_usage_marker: [u8; 4]) -> bool
     ensures { λ r. ⌜ r ≡ soundCounters «next_usage_marker» ⌝ }
 {
     let mut in_range = true;
@@ -254,4 +319,14 @@ pub fn counters_are_sound(next_usage_marker: [u8; 4]) -> bool
         in_range = in_range & counter_is_sound(m);
     }
     in_range
+}
+
+// Question 1 for the uplink: time, table and counters.
+pub fn uplink_is_sound(u: Uplink) -> bool
+    ensures { λ r. ⌜ r ≡ soundUplink u ⌝ }
+{
+    let time = u.time;
+    let counters = u.next_usage_marker;
+    let table = table_of(u);
+    time.is_valid() & table_is_sound(table) & counters_are_sound(counters)
 }

@@ -1,9 +1,9 @@
 -- An empty entry in the place of an empty one. Assumes nothing.
 use borrow.Author.Needs.{needs}
 use Rattle.uplink.specs.UplinkEntry.{emptyEntry}
-use Rattle.sched_core.proofs.StationLaws.{set-replicate}
-use Rattle.sched_core.proofs.empty_table.Statement.{statement}
-use Rattle.sched_core.proofs.empty_table.Tie as tie
+use Rattle.uplink.proofs.TableLaws.{set-replicate}
+use Rattle.uplink.proofs.empty_table.Statement.{statement}
+use Rattle.uplink.proofs.empty_table.Tie as tie
 
 returns : tie.Need-returns
 returns c = rw (set-replicate 18 _ emptyEntry)
