@@ -1,11 +1,13 @@
 // The reservation of a run of slots in the uplink table.
 use optional::OptU8;
 use optional::OptU32;
+use sizes::FRAMES_SEARCHED;
 use tdma_time::TdmaTime;
 use uplink::Entry;
 use uplink::PhyBlockNum;
 ghost use mathlib.Core.Path.{_≡_};
 ghost use Prim.Native.Nat.{_≤_};
+ghost use Rattle.sizes.specs.Sizes.{timeslots, framesSearched};
 ghost use Rattle.tdma_time.specs.Time.{Valid};
 ghost use Rattle.uplink.specs.UplinkEntry.{withMarker, withHalves, reserve};
 ghost use Rattle.uplink.specs.Functions.{slotsFrom, blockHalves};
@@ -65,8 +67,8 @@ pub fn ul_reserve_grant(
     usage_marker: OptU8,
 ) -> [[Entry; 18]; 4]
     requires { ⌜ Valid now ⌝ }
-    requires { ⌜ (1 ≤ t) × (t ≤ 4) ⌝ }
-    requires { ⌜ start ≤ 17 ⌝ }
+    requires { ⌜ (1 ≤ t) × (t ≤ timeslots) ⌝ }
+    requires { ⌜ start ≤ framesSearched ⌝ }
     ensures { λ r. ⌜ r ≡ reserve table (blockHalves block) ssi «usage_marker» (slotsFrom now t start «num_slots») ⌝ }
 {
     let first_opportunity = now.forward_to_timeslot(t);
@@ -75,7 +77,7 @@ pub fn ul_reserve_grant(
     let mut out = table;
     let mut left = num_slots;
     let mut dist = start;
-    while dist < 17 {
+    while dist < FRAMES_SEARCHED {
         if left == 0 {
             return out;
         }

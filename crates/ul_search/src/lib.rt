@@ -1,9 +1,11 @@
 // The search for a grant opportunity: the earliest run of free slots of a timeslot.
+use sizes::FRAMES_SEARCHED;
 use tdma_time::TdmaTime;
 use uplink::Entry;
 use uplink::Opportunity;
 ghost use mathlib.Core.Path.{_≡_};
 ghost use Prim.Native.Nat.{_≤_};
+ghost use Rattle.sizes.specs.Sizes.{timeslots};
 ghost use Rattle.tdma_time.specs.Time.{Valid};
 ghost use Rattle.uplink.specs.HalfSlot.{freeFor};
 ghost use Rattle.uplink.specs.Functions.{Within, opportunity};
@@ -31,7 +33,7 @@ pub fn ul_find_grant_opportunity(
     is_halfslot: bool,
 ) -> Opportunity
     requires { ⌜ Valid now ⌝ }
-    requires { ⌜ (1 ≤ t) × (t ≤ 4) ⌝ }
+    requires { ⌜ (1 ≤ t) × (t ≤ timeslots) ⌝ }
     requires { ⌜ 1 ≤ «num_slots» ⌝ }
     ensures { λ r. ⌜ (r ≡ opportunity table now t «num_slots» «is_halfslot») × Within r ⌝ }
 {
@@ -43,7 +45,7 @@ pub fn ul_find_grant_opportunity(
     let mut skips: usize = 0;
     let mut dist: usize = 0;
     'frames: loop {
-        if dist == 17 {
+        if dist == FRAMES_SEARCHED {
             break 'frames Opportunity::Nothing;
         }
         let index = (first + dist) % 18;

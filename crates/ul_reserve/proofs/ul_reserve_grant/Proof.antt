@@ -3,6 +3,7 @@ use mathlib.Core.Path.{_≡_, sym, _∙_}
 use Prim.Native.Nat.{ℕ, _-_, _≤_, _<_}
 use native.Mathlib.Omega.{arith}
 use borrow.Author.Needs.{needs}
+use Rattle.sizes.specs.Sizes.{framesSearched}
 use Rattle.tdma_time.specs.Time.{firstOf, slotOf}
 use Rattle.uplink.specs.Functions.{blockHalves}
 use Rattle.uplink.proofs.FrameWalk.{At, first-at, fill, fill-none, fill-end, fill-18, fill-one, fill-from}
@@ -11,10 +12,10 @@ use Rattle.ul_reserve.proofs.ul_reserve_grant.Tie as tie
 
 abbrev Inv-loop : tie.InvT-loop
 Inv-loop t start num-slots ssi block marker row first out₀ left₀ dist₀ out left dist =
-    (dist ≤ 17) × (first < 18) × (row < 4) × ((u : ℕ) → At u row first → fill (blockHalves block) ssi marker left u dist out ≡ fill (blockHalves block) ssi marker num-slots u start out₀)
+    (dist ≤ framesSearched) × (first < 18) × (row < 4) × ((u : ℕ) → At u row first → fill (blockHalves block) ssi marker left u dist out ≡ fill (blockHalves block) ssi marker num-slots u start out₀)
 
 abbrev μ-loop : tie.MeasureT-loop
-μ-loop t start num-slots ssi block marker row first out₀ left₀ dist₀ out left dist = 17 - dist
+μ-loop t start num-slots ssi block marker row first out₀ left₀ dist₀ out left dist = framesSearched - dist
 
 returns : tie.Need-returns Inv-loop μ-loop
 returns c =
@@ -37,7 +38,7 @@ returns-2 : tie.Need-returns-2 Inv-loop μ-loop
 returns-2 c =
     let k = c .before .before .before in
     let a = k .before .args in
-    let e : c .before .loop .dist ≡ 17 = omega arith in
+    let e : c .before .loop .dist ≡ framesSearched = omega arith in
     sym (fill-end _ _ _ _ (firstOf (a .t) (slotOf (a .now))) _ _ e)
     ∙ c .before .loop .inv .3 _ (first-at (a .now) (a .t) _ (omega arith) (omega arith) (k .forward-to-timeslot .ensures .0))
     ∙ fill-from _ _ _ _ (a .now) (a .t) _ _

@@ -5,6 +5,7 @@ use Prim.Native.Nat.{_-_, _+_, _<_, _≤_}
 use native.Mathlib.Omega.{arith}
 use borrow.Author.Tests.{not-true, not-false}
 use borrow.Author.Needs.{needs}
+use Rattle.sizes.specs.Sizes.{framesSearched}
 use Rattle.tdma_time.specs.Time.{firstOf, slotOf}
 use Rattle.uplink.specs.Functions.{asOpportunity}
 use Rattle.uplink.proofs.FrameWalk.{Looking, looking-begin, looking-none, looking-18, looking-block, looking-on, looking-end, first-at, walk-opportunity}
@@ -15,7 +16,7 @@ abbrev Inv-frames : tie.InvT-frames
 Inv-frames t num-slots is-halfslot table row first start₀ run₀ skips₀ dist₀ start run skips dist = Looking table is-halfslot num-slots row first start run skips dist
 
 abbrev μ-frames : tie.MeasureT-frames
-μ-frames t num-slots is-halfslot table row first start₀ run₀ skips₀ dist₀ start run skips dist = 17 - dist
+μ-frames t num-slots is-halfslot table row first start₀ run₀ skips₀ dist₀ start run skips dist = framesSearched - dist
 
 frames-holds : tie.Need-frames-holds Inv-frames μ-frames
 frames-holds c = looking-begin _ _ _ _ _ (omega arith) (omega arith) (omega arith)
@@ -61,7 +62,7 @@ returns-2 c =
     let l = k .before .before .frames .inv in
     let free = sym (c .before .before .before .is-free .ensures) ∙ not-false _ (c .before .before .if3 .left) in
     let came = c .before .if4 .came in
-    let b : c .before .if4 .start < 17 = ⊎-elim (λ w. omega (arith, w .1, l .d17)) (λ w. omega (arith, w .1, l .begun, l .d17)) came in (
+    let b : c .before .if4 .start < framesSearched = ⊎-elim (λ w. omega (arith, w .1, l .d17)) (λ w. omega (arith, w .1, l .begun, l .d17)) came in (
       looking-end _ _ _ _ _ _ _ _ _ l (omega (arith, l .d17)) (k .if2 .left) (c .before .if4 .start)
           (λ h. ⊎-elim (λ w. w .1) (λ w. absurd (w .0 .left h)) came)
           (λ h. ⊎-elim (λ w. absurd (h (w .0 .taken))) (λ w. w .1) came)
