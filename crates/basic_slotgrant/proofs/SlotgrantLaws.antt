@@ -1,13 +1,14 @@
 -- Laws of basic slot grants: code and case, octet and grant are inverse. Assumes nothing.
-use mathlib.Core.Path.{_≡_, refl, sym, ap, _∙_}
+use mathlib.Core.Path.{_≡_, refl, ap, _∙_}
 use Prim.Native.Nat.{ℕ, zero, suc, _/_, _%_, _≤_, _<_, min, max}
 use native.Mathlib.Nat.{not-suc-le-zero}
 use native.Mathlib.Omega.{arith}
 use lib.Dec.{lit<, eqb·suc-zero}
 use lib.ListN.{take}
 use borrow.Author.Tests.{le-leb, lt-leb, ne-eqb}
+use Rattle.slot_codes.specs.Codes.{grantOctet}
 use Rattle.slot_codes.proofs.TableLaws.{past-the-last, agree-below}
-use Rattle.slot_codes.proofs.CodesLaws.{numbers-read, numbers-not-read, capacity-in-octet, delay-in-octet, octet-of-its-halves}
+use Rattle.slot_codes.proofs.CodesLaws.{numbers-read, capacity-in-octet, delay-in-octet, octet-of-its-halves}
 use Rattle.basic_slotgrant.specs.declared.basic_slotgrant_cap_alloc.BasicSlotgrantCapAlloc.{BasicSlotgrantCapAlloc}
 use Rattle.basic_slotgrant.specs.declared.basic_slotgrant_cap_alloc.BasicSlotgrantCapAlloc.the-variants.{
   FirstSubslotGranted,
@@ -37,7 +38,7 @@ use Rattle.basic_slotgrant.specs.declared.basic_slotgrant_granting_delay
 }
 use Rattle.basic_slotgrant.specs.declared.basic_slotgrant_granting_delay.GrantingDelayRead as delay
 use Rattle.basic_slotgrant.specs.declared.BasicSlotgrant.{BasicSlotgrant}
-use Rattle.basic_slotgrant.specs.Slotgrant.{capacities, capacityAt, delayAt, capacityCode, delayCode, capacityRead, delayRead, octetOf, grantAt}
+use Rattle.basic_slotgrant.specs.Slotgrant.{capacities, capacityAt, delayAt, capacityCode, delayCode, capacityRead, delayRead, octetOf, grantOf, grantAt}
 
 pub capacity-past-the-last : (code : ℕ) → 15 ≤ code → capacityAt code ≡ SecondSubslotGranted
 capacity-past-the-last = past-the-last (take 15 capacities) SecondSubslotGranted
@@ -122,22 +123,13 @@ delay-read-back {d} p =
     numbers-read delay.the-variants.Of delay.the-variants.Unknown delayAt (delayCode d) (delay-code-below-16 d)
     ∙ ap delay.the-variants.Of (delay-of-its-code p)
 
-pub capacity-unknown : (x : ℕ) → 16 ≤ x → capacityRead x ≡ capacity.the-variants.Unknown
-capacity-unknown = numbers-not-read capacity.the-variants.Of capacity.the-variants.Unknown capacityAt
-
-pub delay-unknown : (x : ℕ) → 16 ≤ x → delayRead x ≡ delay.the-variants.Unknown
-delay-unknown = numbers-not-read delay.the-variants.Of delay.the-variants.Unknown delayAt
-
-pub capacity-codes-distinct : (a b : BasicSlotgrantCapAlloc) → capacityCode a ≡ capacityCode b → a ≡ b
-capacity-codes-distinct a b e = sym (capacity-of-its-code a) ∙ ap capacityAt e ∙ capacity-of-its-code b
-
-pub delay-codes-distinct : {a b : BasicSlotgrantGrantingDelay} → Plain a → Plain b → delayCode a ≡ delayCode b → a ≡ b
-delay-codes-distinct p q e = sym (delay-of-its-code p) ∙ ap delayAt e ∙ delay-of-its-code q
+-- the octet of the grant of two codes holds them
+pub octet-of-codes : (c d : ℕ) → c < 16 → d < 16 → octetOf (grantOf c d) ≡ grantOctet c d
+octet-of-codes c d h g = rw (capacity-code-of-read c h, delay-code-of-read d g)
 
 -- every octet has exactly one reading, and its code is that octet
 pub octet-of-grant-read : (octet : ℕ) → octet < 256 → octetOf (grantAt octet) ≡ octet
-octet-of-grant-read octet h =
-    rw (capacity-code-of-read (octet / 16) (omega arith), delay-code-of-read (octet % 16) (omega arith)) (octet-of-its-halves octet)
+octet-of-grant-read octet h = octet-of-codes (octet / 16) (octet % 16) (omega arith) (omega arith) ∙ octet-of-its-halves octet
 
 -- a grant with a plain delay is read back from its octet
 pub grant-read-back : (g : BasicSlotgrant) → Plain (g .«granting_delay») → grantAt (octetOf g) ≡ g

@@ -4,6 +4,7 @@ use mathlib.Core.List.{List, [], _∷_}
 use Prim.Native.Nat.{ℕ, min, max}
 use lib.Dec.{eqb, leb}
 use lib.ListN.{getD}
+use Rattle.sizes.specs.Sizes.{latestDelay}
 use Rattle.slot_codes.specs.Codes.{grantOctet, capacityOf, delayOf}
 use Rattle.basic_slotgrant.specs.declared.basic_slotgrant_cap_alloc.BasicSlotgrantCapAlloc.{BasicSlotgrantCapAlloc}
 use Rattle.basic_slotgrant.specs.declared.basic_slotgrant_cap_alloc.BasicSlotgrantCapAlloc.the-variants.{
@@ -58,7 +59,7 @@ capacityCode SecondSubslotGranted = 15
 -- A delay of n is coded as the nearest of 1 to 13.
 abbrev pub delayCode : BasicSlotgrantGrantingDelay → ℕ
 delayCode CapAllocAtNextOpportunity = 0
-delayCode (DelayNOpportunities n) = max 1 (min n 13)
+delayCode (DelayNOpportunities n) = max 1 (min n latestDelay)
 delayCode AllocStartsAtOpportunityInFr18 = 14
 delayCode WaitForAnotherSlotgrantMessage = 15
 
@@ -88,7 +89,7 @@ capacityAt code = getD capacities code SecondSubslotGranted
 abbrev pub delayAt : ℕ → BasicSlotgrantGrantingDelay
 delayAt code =
     cond (eqb code 0) CapAllocAtNextOpportunity
-    (cond (leb code 13) (DelayNOpportunities code)
+    (cond (leb code latestDelay) (DelayNOpportunities code)
     (cond (eqb code 14) AllocStartsAtOpportunityInFr18 WaitForAnotherSlotgrantMessage))
 
 abbrev pub capacityRead : ℕ → capacity.CapAllocRead
@@ -97,9 +98,12 @@ capacityRead x = cond (leb x 15) (capacity.the-variants.Of (capacityAt x)) capac
 abbrev pub delayRead : ℕ → delay.GrantingDelayRead
 delayRead x = cond (leb x 15) (delay.the-variants.Of (delayAt x)) delay.the-variants.Unknown
 
--- the octet of a grant, and the grant that an octet stands for
+-- "Grant octet: four bits capacity, four bits delay.": the octet of a grant, the grant of two codes, and that of an octet
 abbrev pub octetOf : BasicSlotgrant → ℕ
 octetOf g = grantOctet (capacityCode (g .«capacity_allocation»)) (delayCode (g .«granting_delay»))
 
+abbrev pub grantOf : ℕ → ℕ → BasicSlotgrant
+grantOf capacity delay = record { «capacity_allocation» = capacityAt capacity; «granting_delay» = delayAt delay }
+
 abbrev pub grantAt : ℕ → BasicSlotgrant
-grantAt octet = record { «capacity_allocation» = capacityAt (capacityOf octet); «granting_delay» = delayAt (delayOf octet) }
+grantAt octet = grantOf (capacityOf octet) (delayOf octet)

@@ -1,10 +1,10 @@
 -- Laws of reservation requirements: code and case are inverse. Assumes nothing.
-use mathlib.Core.Path.{_≡_, refl, sym, ap, _∙_}
+use mathlib.Core.Path.{_≡_, refl, ap, _∙_}
 use Prim.Native.Nat.{ℕ, _≤_, _<_}
 use lib.Dec.{lit<}
 use lib.ListN.{take}
 use Rattle.slot_codes.proofs.TableLaws.{past-the-last, agree-below}
-use Rattle.slot_codes.proofs.CodesLaws.{numbers-read, numbers-not-read}
+use Rattle.slot_codes.proofs.CodesLaws.{numbers-read}
 use Rattle.reservation_requirement.specs.declared.ReservationRequirement.{ReservationRequirement}
 use Rattle.reservation_requirement.specs.declared.ReservationRequirement.the-variants.{
   Req1Subslot,
@@ -65,11 +65,3 @@ pub requirement-read-back : (r : ReservationRequirement) → requirementRead (re
 requirement-read-back r =
     numbers-read requirement.the-variants.Of requirement.the-variants.Unknown requirementAt (requirementCode r) (requirement-code-below-16 r)
     ∙ ap requirement.the-variants.Of (requirement-of-its-code r)
-
--- past 15 there is no code
-pub requirement-unknown : (x : ℕ) → 16 ≤ x → requirementRead x ≡ requirement.the-variants.Unknown
-requirement-unknown = numbers-not-read requirement.the-variants.Of requirement.the-variants.Unknown requirementAt
-
--- distinct cases have distinct codes
-pub requirement-codes-distinct : (a b : ReservationRequirement) → requirementCode a ≡ requirementCode b → a ≡ b
-requirement-codes-distinct a b e = sym (requirement-of-its-code a) ∙ ap requirementAt e ∙ requirement-of-its-code b

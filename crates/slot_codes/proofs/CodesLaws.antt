@@ -2,14 +2,14 @@
 use mathlib.Core.Path.{_≡_, refl, sym, ap, _∙_}
 use mathlib.Core.Bool.{Bool, true, false, cond, _&&_, and-eq-true-iff}
 use mathlib.Core.List.{List, [], _∷_, map}
-use Prim.Native.Nat.{ℕ, zero, suc, _-_, _≤_, _<_, min}
+use Prim.Native.Nat.{ℕ, zero, suc, _-_, _≤_, _<_}
 use native.Mathlib.Nat.{le-of-suc-le-suc, not-suc-le-zero, min-eq-left, min-eq-right}
 use native.Mathlib.Omega.{arith}
 use lib.Dec.{leb, ltb, lit<, eqb·suc-zero}
 use lib.ListN.{length, getD, take, List·getD-eq-default}
-use borrow.Author.Tests.{ltb-true, ltb-false, leb-true, le-ltb, lt-ltb, le-leb, lt-leb, eq-eqb}
+use borrow.Author.Tests.{ltb-true, ltb-false, leb-true, le-ltb, lt-ltb, le-leb, eq-eqb}
 use Rattle.slot_codes.specs.Codes.{slotCounts, slotsWanted, slotsGranted, capacityFor, firstHolding, codeFor, grantOctet, capacityOf, delayOf}
-use Rattle.slot_codes.proofs.TableLaws.{any-default, every, at-each, agree-below}
+use Rattle.slot_codes.proofs.TableLaws.{any-default, agree-below}
 
 -- the table of codes 0 to 14 gives the slots wanted and the slots granted
 pub wanted-in-table : (code : ℕ) → code < 15 → getD (1 ∷ slotCounts) code 0 ≡ slotsWanted code
@@ -95,29 +95,9 @@ capacity-below-16 zero true = lit< tt
 capacity-below-16 zero false = lit< tt
 capacity-below-16 (suc c) second = rw (eqb·suc-zero c) (omega arith)
 
--- the code of as many slots as a requirement asks for: itself, or 14 for 15
-pub code-of-slots-wanted : (code : ℕ) → 0 < code → code < 16 → codeFor (slotsWanted code) ≡ min code 14
-code-of-slots-wanted zero p h = absurd (not-suc-le-zero p)
-code-of-slots-wanted (suc c) p h =
-    agree-below (λ k. codeFor (slotsWanted (suc k))) (λ k. min (suc k) 14) 15 refl c (le-of-suc-le-suc h)
-
--- the capacity for n slots holds them, and no lesser one does
-pub code-holds : (n : ℕ) → n < 69 → n ≤ slotsGranted (codeFor n)
-code-holds n h = leb-true _ _ (at-each (λ k. leb k (slotsGranted (codeFor k))) 69 refl n h)
-
-pub lesser-code-does-not : (n : ℕ) → n < 69 → (code : ℕ) → 0 < code → code < codeFor n → slotsGranted code < n
-lesser-code-does-not n h zero p l = absurd (not-suc-le-zero p)
-lesser-code-does-not n h (suc c) p l =
-    ltb-true _ _
-    (at-each (λ k. ltb (slotsGranted (suc k)) n) (codeFor n - 1)
-    (at-each (λ m. every (λ k. ltb (slotsGranted (suc k)) m) (codeFor m - 1)) 69 refl n h) c (omega arith))
-
 -- a number is a code exactly up to 15, of any kind of case
 pub numbers-read : {C R : Type 0} (of : C → R) (unknown : R) (case : ℕ → C) (x : ℕ) → x < 16 → cond (leb x 15) (of (case x)) unknown ≡ of (case x)
 numbers-read of unknown case x h = rw (le-leb x 15 (omega arith))
-
-pub numbers-not-read : {C R : Type 0} (of : C → R) (unknown : R) (case : ℕ → C) (x : ℕ) → 16 ≤ x → cond (leb x 15) (of (case x)) unknown ≡ unknown
-numbers-not-read of unknown case x h = rw (lt-leb x 15 h)
 
 -- the octet holds its halves, and every octet is that of its halves
 pub capacity-in-octet : (c d : ℕ) → d < 16 → capacityOf (grantOctet c d) ≡ c

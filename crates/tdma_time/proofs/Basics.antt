@@ -58,8 +58,3 @@ RisingFrom n (x ∷ xs) = (n ≤ x) × RisingFrom (x + 1) xs
 pub rising-earlier : (m n : ℕ) (xs : List ℕ) → m ≤ n → RisingFrom n xs → RisingFrom m xs
 rising-earlier m n [] l h = tt
 rising-earlier m n (x ∷ xs) l h = (omega (arith, h .0), h .1)
-
--- and each of them is at or after n
-pub rising-all : (n : ℕ) (xs : List ℕ) → RisingFrom n xs → All (λ x. n ≤ x) xs
-rising-all n [] h = tt
-rising-all n (x ∷ xs) h = (h .0, rising-all n xs (rising-earlier n (x + 1) xs (omega (arith, h .0)) (h .1)))

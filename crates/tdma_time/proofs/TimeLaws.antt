@@ -2,7 +2,7 @@
 -- Assumes nothing.
 use mathlib.Core.Path.{_≡_, refl, sym, ap, _∙_}
 use mathlib.Core.Logic.{_≢_}
-use mathlib.Core.Bool.{Bool, true, false, _&&_, true≢false, and-eq-true-iff}
+use mathlib.Core.Bool.{Bool, true, false, _&&_, and-eq-true-iff}
 use Prim.Native.Nat.{ℕ, _+_, _-_, _*_, _/_, _%_, _≤_, _<_}
 use native.Mathlib.Omega.{arith}
 use lib.Dec.{leb}
@@ -37,18 +37,6 @@ true-valid x e =
       m-high = leb-true _ _ (f .1);
       h-high = leb-true _ _ (g .1);
     }
-
--- a time that is not valid fails the test
-pub valid-false : (x : TdmaTime) → (Valid x → ⊥) → valid x ≡ false
-valid-false x n = go (valid x) refl
-  where
-    go : (b : Bool) → valid x ≡ b → b ≡ false
-    go true e = absurd (n (true-valid x e))
-    go false e = refl
-
--- a time that fails the test is not valid
-pub false-valid : (x : TdmaTime) → valid x ≡ false → Valid x → ⊥
-false-valid x e v = true≢false (sym (valid-true x v) ∙ e)
 
 -- where the hyperframe is that of a u16, the test looks at the other parts only
 pub valid-parts : (x : TdmaTime) → x .h ≤ 65535 → leb 1 (x .t) && leb (x .t) 4 && leb 1 (x .f) && leb (x .f) 18 && leb 1 (x .m) && leb (x .m) 60 ≡ valid x
@@ -114,10 +102,6 @@ time-at x n v e = sym (timeOf-slotOf x v) ∙ ap timeOf e ∙ timeOf-clock n
 pub time-is : (x : TdmaTime) (n : ℕ) → Valid x → slotOf x ≡ n → x ≡ timeOf n
 time-is x n v e = sym (timeOf-slotOf x v) ∙ ap timeOf e
 
--- valid times with one number are one time
-pub slotOf-inj : (x y : TdmaTime) → Valid x → Valid y → slotOf x ≡ slotOf y → x ≡ y
-slotOf-inj x y v w e = time-is x (slotOf y) v e ∙ timeOf-slotOf y w
-
 -- a valid time is the one that the slot a whole cycle after its number shows
 pub time-round : (x : TdmaTime) (n : ℕ) → Valid x → slotOf x + cycle ≡ n → x ≡ timeOf n
 time-round x n v e = time-at x n v (round (slotOf x) n (slotOf-below x v) e)
@@ -147,12 +131,6 @@ module _ (x : TdmaTime) (v : Valid x) where
   pub slotOf-frame : frame (slotOf x) ≡ x .f
   slotOf-frame = ap (λ y. y .f) (timeOf-slotOf x v)
 
-  pub slotOf-multiframe : multiframe (slotOf x) ≡ x .m
-  slotOf-multiframe = ap (λ y. y .m) (timeOf-slotOf x v)
-
-  pub slotOf-hyperframe : hyperframe (slotOf x) ≡ x .h
-  slotOf-hyperframe = ap (λ y. y .h) (timeOf-slotOf x v)
-
 -- the next slot: the timeslot steps, and what is full carries into the next part
 pub next-timeslot : (n : ℕ) → timeslot n ≢ 4 → (timeslot (n + 1) ≡ timeslot n + 1) × (frame (n + 1) ≡ frame n) × (multiframe (n + 1) ≡ multiframe n) × (hyperframe (n + 1) ≡ hyperframe n)
 next-timeslot n h = omega arith
@@ -176,10 +154,6 @@ next-last n h g k l = omega arith
 pub clock-period : (n : ℕ) → clock (n + cycle) ≡ clock n
 clock-period n = omega arith
 
--- below the cycle it shows the number itself
-pub clock-below : (n : ℕ) → n < cycle → clock n ≡ n
-clock-below n h = omega arith
-
 -- it may be read before or after a sum
 pub clock-clock : (n k : ℕ) → clock (clock n + k) ≡ clock (n + k)
 clock-clock n k = omega arith
@@ -192,10 +166,6 @@ clock-add a b k h = omega arith
 pub clock-cancel : (a b k : ℕ) → clock (a + k) ≡ clock (b + k) → clock a ≡ clock b
 clock-cancel a b k h = omega arith
 
--- slots less than a cycle apart that show one time are one slot
-pub clock-apart : (a b : ℕ) → a ≤ b → b < a + cycle → clock a ≡ clock b → a ≡ b
-clock-apart a b h g e = omega arith
-
 -- ---- slots of one timeslot and one frame: those that lie whole multiframes, 72 slots, apart
 
 -- one timeslot and one frame
@@ -205,10 +175,6 @@ cell a b h g = omega arith
 -- and the other way round
 pub cell-parts : (a b : ℕ) → a % 72 ≡ b % 72 → (timeslot a ≡ timeslot b) × (frame a ≡ frame b)
 cell-parts a b h = omega arith
-
--- slots of one timeslot and one frame, less than a multiframe apart, are one slot
-pub cell-apart : (a b : ℕ) → a ≤ b → b < a + 72 → timeslot a ≡ timeslot b → frame a ≡ frame b → a ≡ b
-cell-apart a b h g p q = omega (arith, cell a b p q)
 
 -- slots that show one time are of one timeslot and one frame
 pub clock-cell : (a b : ℕ) → clock a ≡ clock b → a % 72 ≡ b % 72
@@ -222,27 +188,7 @@ clock-frame a b h = cell-parts a b (clock-cell a b h) .1
 
 -- ---- frames on
 
--- d frames on, the timeslot is the same
-pub timeslot-on : (n d : ℕ) → timeslot (n + 4 * d) ≡ timeslot n
-timeslot-on n d = omega arith
-
--- and the frame, counted from 0, is d more, in rounds of 18
-pub frame-on : (n d : ℕ) → frame (n + 4 * d) - 1 ≡ (frame n - 1 + d) % 18
-frame-on n d = on (n / 4) ((n + 4 * d) / 4) d (omega arith)
-  where
-    on : (a b d : ℕ) → b ≡ a + d → b % 18 + 1 - 1 ≡ (a % 18 + 1 - 1 + d) % 18
-    on a b d e = omega arith
-
--- the same from a valid time on
-pub time-on : (x : TdmaTime) (d : ℕ) → Valid x → (timeslot (slotOf x + 4 * d) ≡ x .t) × (frame (slotOf x + 4 * d) - 1 ≡ (x .f - 1 + d) % 18)
-time-on x d v =
-    (timeslot-on (slotOf x) d ∙ slotOf-timeslot x v, frame-on (slotOf x) d ∙ ap (λ (k : ℕ). (k - 1 + d) % 18) (slotOf-frame x v))
-
 -- ---- the functions of times, on the time that slot n shows
-
--- the first time
-pub first-time : timeOf 0 ≡ record { t = 1; f = 1; m = 1; h = 0 }
-first-time = refl
 
 -- the next time is that of the next slot
 pub next-timeOf : (n : ℕ) → nextTime (timeOf n) ≡ timeOf (n + 1)

@@ -13,7 +13,7 @@ use borrow.Author.Tests.{eqb-true, eqb-false}
 use Rattle.tdma_time.specs.Time.{clock, timeslot, frame, usable, firstOf, framesOn, usableOf, firstUsable, usables}
 use Rattle.tdma_time.proofs.Basics.{either, All, all-map, RisingFrom}
 use Rattle.tdma_time.proofs.TimeLaws.{clock-add, clock-cancel, clock-frame}
-use Rattle.tdma_time.proofs.SlotLaws.{usable-frame, unusable-frame, frame-usable, usable-cong, Good, first-from, first-near, first-slot, first-least, first-self, first-next, first-clock}
+use Rattle.tdma_time.proofs.SlotLaws.{usable-frame, unusable-frame, frame-usable, usable-cong, Good, first-from, first-slot, first-least, first-self, first-next, first-clock}
 
 -- ---- the first usable slot
 
@@ -48,14 +48,6 @@ firstUsable-from t n = go (which t n)
     go : Which t n → n ≤ firstUsable t n
     go (here p q) = omega (arith, q, first-from t n)
     go (on p q) = omega (arith, q, first-from t n)
-
--- within eight slots
-pub firstUsable-near : (t n : ℕ) → firstUsable t n ≤ n + 7
-firstUsable-near t n = go (which t n)
-  where
-    go : Which t n → firstUsable t n ≤ n + 7
-    go (here p q) = omega (arith, q, first-near t n)
-    go (on p q) = omega (arith, q, first-near t n)
 
 -- of that timeslot, and not of frame 18
 pub firstUsable-good : (t n : ℕ) → 1 ≤ t → t ≤ 4 → Good t (firstUsable t n)
@@ -137,12 +129,6 @@ next-inj t u v g k e = go (next t u (g .slot)) (next t v (k .slot))
     go (far p q) (far p′ q′) = clock-cancel u v 8 (rw (q, q′) at e)
 
 -- ---- usable slots in succession
-
--- k of them
-pub usables-length : (t n k : ℕ) → length (usables t n k) ≡ k
-unfolding usables
-usables-length t n zero = refl
-usables-length t n (suc k) = ap suc (usables-length t (firstUsable t n + 1) k)
 
 -- at or after n, each after the one before
 pub usables-rising : (t n k : ℕ) → RisingFrom n (usables t n k)

@@ -3,6 +3,7 @@ ghost use mathlib.Core.Path.{_≡_};
 ghost use mathlib.Core.Bool.{not};
 ghost use Prim.Native.Nat.{_+_, _-_, _≤_};
 ghost use lib.Dec.{eqb};
+ghost use Rattle.sizes.specs.Sizes.{timeslots};
 ghost use Rattle.tdma_time.specs.Time.{Valid, valid, slotOf, timeOf, nextTime, fourEarlier, forwardTime};
 
 pub struct TdmaTime {
@@ -13,21 +14,6 @@ pub struct TdmaTime {
 }
 
 impl TdmaTime {
-    // The first of all times.
-    pub const FIRST: TdmaTime = TdmaTime {
-        t: 1,
-        f: 1,
-        m: 1,
-        h: 0,
-    };
-
-    // The time of a station that has been given none.
-    pub fn default() -> TdmaTime
-        ensures { λ r. ⌜ (r ≡ timeOf 0) × Valid r ⌝ }
-    {
-        TdmaTime::FIRST
-    }
-
     // Is each field in its range?
     pub fn is_valid(self) -> bool
         ensures { λ r. ⌜ r ≡ valid self ⌝ }
@@ -50,7 +36,7 @@ impl TdmaTime {
     // The slot of timeslot `t` in the next frame; after the last frame comes the first.
     fn in_next_frame(self, t: u8) -> TdmaTime
         requires { ⌜ Valid self ⌝ }
-        requires { ⌜ (1 ≤ t) × (t ≤ 4) ⌝ }
+        requires { ⌜ (1 ≤ t) × (t ≤ timeslots) ⌝ }
         ensures { λ r. ⌜ (r ≡ timeOf (slotOf self + 4 - self .t + t)) × Valid r ⌝ }
     {
         if self.f < 18 {
@@ -141,7 +127,7 @@ impl TdmaTime {
     // The first slot of timeslot `ts` at or after this one.
     pub fn forward_to_timeslot(self, ts: u8) -> TdmaTime
         requires { ⌜ Valid self ⌝ }
-        requires { ⌜ (1 ≤ ts) × (ts ≤ 4) ⌝ }
+        requires { ⌜ (1 ≤ ts) × (ts ≤ timeslots) ⌝ }
         ensures { λ r. ⌜ (r ≡ forwardTime self ts) × Valid r ⌝ }
     {
         if self.t <= ts {

@@ -74,9 +74,7 @@ fn grant(
     requires { ⌜ Valid (u .time) ⌝ }
     requires { ⌜ (1 ≤ timeslot) × (timeslot ≤ timeslots) × (start < framesSearched) × (skips ≤ latestDelay) ⌝ }
     requires { ⌜ usable (firstOf timeslot (slotOf (u .time)) + start * timeslots) ≡ true ⌝ }
-    ensures {
-        λ r. ⌜ r ≡ grantedAt u (record { timeslot = timeslot; code = requirementCode requirement; number = number }) start skips ⌝
-    }
+    ensures { λ r. ⌜ r ≡ grantedAt u (record { timeslot = timeslot; code = requirementCode requirement; number = number }) start skips ⌝ }
 {
     let now = u.time;
     let next_usage_marker = u.next_usage_marker;
@@ -137,18 +135,27 @@ fn grant(
 }
 
 // The answer to a request for capacity that questions 1 to 8 let pass.
-pub fn ul_process_cap_req(u: Uplink, timeslot: u8, requirement: ReservationRequirement, number: u32) -> CapAnswer
+pub fn ul_process_cap_req(
+    u: Uplink,
+    timeslot: u8,
+    requirement: ReservationRequirement,
+    number: u32,
+) -> CapAnswer
     requires { ⌜ Valid (u .time) ⌝ }
     requires { ⌜ (1 ≤ timeslot) × (timeslot ≤ timeslots) ⌝ }
-    ensures {
-        λ r. ⌜ r ≡ answer u (record { timeslot = timeslot; code = requirementCode requirement; number = number }) ⌝
-    }
+    ensures { λ r. ⌜ r ≡ answer u (record { timeslot = timeslot; code = requirementCode requirement; number = number }) ⌝ }
 {
     let now = u.time;
     let table = uplink::table_of(u);
     let num_slots = requirement.to_req_slotcount();
     let is_halfslot = requirement.into_raw() == 0;
-    let grant_op = ul_search::ul_find_grant_opportunity(table, now, timeslot, num_slots, is_halfslot);
+    let grant_op = ul_search::ul_find_grant_opportunity(
+        table,
+        now,
+        timeslot,
+        num_slots,
+        is_halfslot,
+    );
     match grant_op {
         Opportunity::Nothing => CapAnswer {
             reply: CapReply::NoRun,

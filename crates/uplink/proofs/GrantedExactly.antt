@@ -25,7 +25,7 @@ use Rattle.uplink.specs.HalfSlot.{Half, firstHalf, secondHalf, vacant, f
 use Rattle.uplink.specs.Search.{Run, earliest, found, runAt}
 use Rattle.uplink.specs.UplinkEntry.{Table, emptyEntry, SameEntry, entryAt, tableView, withMarker, withHalves, reserve, soundTable, soundCounters, soundCounter, soundMarker}
 use Rattle.uplink.specs.Uplink.{soundUplink}
-use Rattle.uplink.specs.Request.{Request, candidates, fits, earliestRun, Verdict, noRun, tooLate, grant, settle, verdict, capacity, halvesOf, draws, drawn, markerOf, markersAfter, replyTo, replyNumber, tableAfter, countersAfter, given, answer}
+use Rattle.uplink.specs.Request.{Request, candidates, fits, earliestRun, noRun, tooLate, grant, settle, verdict, capacity, halvesOf, draws, drawn, markerOf, markersAfter, replyTo, replyNumber, tableAfter, countersAfter, given, answer}
 use Rattle.uplink.specs.GrantedExactly.{FreeFrom, EarliestFrom, slotOfRun, Reserved, Proper, Demand2}
 use Rattle.uplink.proofs.Everywhere.{all-at}
 use Rattle.uplink.proofs.TableLaws.{cell-same}
@@ -123,9 +123,6 @@ module _ (u : Uplink) (r : Request) (q : Proper u r) where
       go : (o : Option ℕ) → earliest p n cs ≡ o → Outcome
       go none e = found-none (none-iff p n (wanted-pos (r .code)) cs .0 e) (if-none e)
       go (some i) e = some-at i e (leb i 13) refl
-
-  earliest-one : (i j : ℕ) → EarliestFrom u r i → EarliestFrom u r j → i ≡ j
-  earliest-one i j a b = let e : _≡_ {A = Option ℕ} (some i) (some j) = sym (earliest-at i .1 a) ∙ earliest-at j .1 b in cc
 
   -- ---- a grant
 

@@ -5,7 +5,7 @@ use mathlib.Core.List.{List, [], _∷_}
 use Prim.Native.Nat.{ℕ, zero, suc, _+_, _-_, _*_, _/_, _%_, _^_, _≤_, _<_}
 use native.Mathlib.Omega.{arith}
 use native.Mathlib.Decide.{ℕ-discrete}
-use lib.ListN.{length, getD, set, replicate}
+use lib.ListN.{length, getD, set}
 use lib.Dec.{leb, ltb}
 use borrow.Author.Tests.{leb-true, leb-false, le-leb, lt-ltb}
 use Rattle.optional.specs.declared.OptU8.{OptU8}
@@ -17,7 +17,7 @@ use Rattle.tdma_time.proofs.TimeLaws.{true-valid, valid-true, timeOf-valid}
 use Rattle.uplink.specs.declared.Entry.{Entry}
 use Rattle.uplink.specs.declared.Uplink.{Uplink}
 use Rattle.uplink.specs.HalfSlot.{Half, firstHalf, secondHalf, vacant}
-use Rattle.uplink.specs.UplinkEntry.{emptyEntry, Table, FourRowsOfEighteen, emptyTable, entryAt, store, withHalves, withMarker, reserve, cleared, all, soundOwner, soundCounter, soundMarker, unmarked, soundEntry, soundRow, soundTable, soundCounters}
+use Rattle.uplink.specs.UplinkEntry.{emptyEntry, Table, FourRowsOfEighteen, entryAt, store, withHalves, withMarker, reserve, cleared, all, soundOwner, soundCounter, soundMarker, unmarked, soundEntry, soundRow, soundTable, soundCounters}
 use Rattle.uplink.specs.Uplink.{newUplink, advancedUplink, soundUplink}
 use Rattle.uplink.specs.Request.{nextMarker, drawn}
 use Rattle.uplink.proofs.Basics.{not-both}

@@ -201,10 +201,13 @@ module _ {M : Type 1} (𝓤 : URA M) (H : wp.Heap 𝓤) (A : Atoms 𝓤) (W : Gi
       (make.t-make-told 𝓤 H A W E 𝓣 (declared.row (apartT uplink.the-type)) refl (laws.val (apartT uplink.the-type) uplink-laws.the-laws)
       (laws.lawful (apartT uplink.the-type) uplink-laws.the-laws 𝓤 H A W) (laws.makes (apartT uplink.the-type) uplink-laws.the-plain 𝓤 H A) start 0
       (oAt 1 time-laws.mir timeVal ∷ oAt 2 tableTy tableVal ∷ oAt 3 countersTy countersVal ∷ [])
-      parts Told (room-gone 𝓤 H A uplink-laws.mir)
-      ((reads-struct 𝓤 H A W time.the-type time-laws.the-laws, refl),
-      ((arrays.arr-reads 𝓤 H A W elem elem-laws 4, refl),
-      ((arrays.arr-reads 𝓤 H A W (arrays.eInt syntax.w8) (arrays.eInt-laws syntax.w8) 4, refl), tt)))
+      parts Told (room-gone 𝓤 H A uplink-laws.mir) (
+        (reads-struct 𝓤 H A W time.the-type time-laws.the-laws, refl),
+        (
+          (arrays.arr-reads 𝓤 H A W elem elem-laws 4, refl),
+          ((arrays.arr-reads 𝓤 H A W (arrays.eInt syntax.w8) (arrays.eInt-laws syntax.w8) 4, refl), tt),
+        ),
+      )
       refl
       (λ ρ m. make.tells-both 𝓤 H A W E ρ (table-row.out 0 (start .locals)) m (IsTime m) (IsTable m × Four m)
       (make.tells-row 𝓤 H A W E ρ (table-row.out 0 (start .locals)) m 1 (IsTime m)
@@ -212,12 +215,14 @@ module _ {M : Type 1} (𝓤 : URA M) (H : wp.Heap 𝓤) (A : Atoms 𝓤) (W : Gi
       (make.tells-both 𝓤 H A W E ρ (table-row.out 0 (start .locals)) m (IsTable m) (Four m)
       (make.tells-row 𝓤 H A W E ρ (table-row.out 0 (start .locals)) m 2 (IsTable m) (arr-is 𝓤 H A W E row tt rowVal row-tells 4 ρ 2 (m .1 .1 .0)))
       (make.tells-row 𝓤 H A W E ρ (table-row.out 0 (start .locals)) m 3 (Four m) (arr-len 𝓤 H A W E (rtF (fInt syntax.w8)) ρ 3 4 zero (m .1 .1 .1 .0)))))
-      (λ m q. made-val (apartT uplink.the-type) uplink-laws.the-laws (vals m) (parts m)
-      (made-struct time.the-type time-laws.the-laws time-laws.lowers (m .1 .0) (q .0),
-      (table-made (m .1 .1 .0) (q .1 .0), (array-made u8-field laws.u8-laws make.u8-wt 4 (m .1 .1 .1 .0) (q .1 .1), tt))))
-      (λ m q. made-is (apartT uplink.the-type) uplink-laws.the-laws (vals m) (parts m)
-      (made-struct time.the-type time-laws.the-laws time-laws.lowers (m .1 .0) (q .0),
-      (table-made (m .1 .1 .0) (q .1 .0), (array-made u8-field laws.u8-laws make.u8-wt 4 (m .1 .1 .1 .0) (q .1 .1), tt)))))
+      (λ m q. made-val (apartT uplink.the-type) uplink-laws.the-laws (vals m) (parts m) (
+        made-struct time.the-type time-laws.the-laws time-laws.lowers (m .1 .0) (q .0),
+        (table-made (m .1 .1 .0) (q .1 .0), (array-made u8-field laws.u8-laws make.u8-wt 4 (m .1 .1 .1 .0) (q .1 .1), tt)),
+      ))
+      (λ m q. made-is (apartT uplink.the-type) uplink-laws.the-laws (vals m) (parts m) (
+        made-struct time.the-type time-laws.the-laws time-laws.lowers (m .1 .0) (q .0),
+        (table-made (m .1 .1 .0) (q .1 .0), (array-made u8-field laws.u8-laws make.u8-wt 4 (m .1 .1 .1 .0) (q .1 .1), tt)),
+      )))
       d4
 
 -- ---- the function
