@@ -13,20 +13,20 @@ use Rattle.optional.specs.declared.OptU8.{OptU8}
 use Rattle.optional.specs.declared.OptU16.{OptU16}
 use Rattle.optional.proofs.Tests.{and-right, and-intro}
 use Rattle.tdma_time.specs.declared.TdmaTime.{TdmaTime}
-use Rattle.tdma_time.specs.Time.{Valid, nextTime, slotOf}
-use Rattle.tdma_time.proofs.TimeLaws.{timeOf-valid}
+use Rattle.tdma_time.specs.Time.{Valid}
 use Rattle.slot_codes.specs.Codes.{grantOctet}
 use Rattle.uplink.specs.declared.CapAnswer.{CapAnswer}
 use Rattle.uplink.specs.declared.CapReply.{CapReply}
-use Rattle.uplink.specs.UplinkEntry.{Table, FourRowsOfEighteen, emptyTable, tableView, all, soundTable, soundCounter, soundCounters}
-use Rattle.uplink.specs.Request.{Request, Verdict, noRun, tooLate, grant, draws, drawn, verdict, markerOf, markersAfter, tableAfter, countersAfter, given, answer}
-use Rattle.uplink.specs.Request.{tableOf as uplinkTable}
+use Rattle.uplink.specs.declared.Uplink.{Uplink}
+use Rattle.uplink.specs.UplinkEntry.{FourRowsOfEighteen, soundCounter, soundCounters}
+use Rattle.uplink.specs.Request.{Request, draws, markerOf, answer}
+use Rattle.uplink.specs.Uplink.{newUplink, soundUplink}
 use Rattle.uplink.specs.GrantedExactly.{Proper}
-use Rattle.uplink.proofs.Basics.{four}
 use Rattle.uplink.proofs.Everywhere.{all-at, at-all}
 use Rattle.uplink.proofs.TableLaws.{empty-shape, store-shape}
-use Rattle.uplink.proofs.ReserveLaws.{reserve-shape}
-use Rattle.uplink.proofs.SoundLaws.{cleared-sound}
+use Rattle.uplink.proofs.SoundLaws.{uplink-parts, advanced-sound}
+use Rattle.uplink.proofs.SoundLaws.{new-sound as new-uplink-sound}
+use Rattle.uplink.proofs.AnswerLaws.{answer-shape, answer-four}
 use Rattle.uplink.proofs.GrantedExactly.{granted-exactly}
 use Rattle.mac_pdus.specs.Legal.{optFits, legalOffered}
 use Rattle.dl_record.specs.declared.Record.{Record}
@@ -48,11 +48,10 @@ use Rattle.dl_send.proofs.KeptLaws.{Staying}
 use Rattle.dl_build.specs.Build.{builtOf}
 use Rattle.dl_build.proofs.AfterBuild.{build-stays, build-holds}
 use Rattle.sched_core.specs.declared.Answer.{Answer}
-use Rattle.questions.specs.declared.Refusal.{Refusal}
 use Rattle.sched_core.specs.declared.Reply.{Reply}
 use Rattle.sched_core.specs.declared.RequestReply.{RequestReply}
 use Rattle.sched_core.specs.declared.BuildReply.{BuildReply}
-use Rattle.sched_core.specs.Station.{tableOf, stationOf}
+use Rattle.sched_core.specs.Station.{stationOf}
 use Rattle.sched_core.specs.Questions.{Memory, memory, soundCount, asksStation, queuedFor, memoryQuestions, requestQuestions, ackQuestions, tmaQuestions, buildLent}
 use Rattle.sched_core.specs.Calls.{Outcome, withRecord, withSdu, grantQueued, requestAnswered, requestCall, ackCall, tmaCall, BuildOutcome}
 use Rattle.sched_core.specs.Calls.{notBuilt, current, buildsNow, builtNow, withLeft, blockBuilt, buildCall, advanceCall, newMemory, advanceMemory}
@@ -63,53 +62,40 @@ use Rattle.sched_core.proofs.QuestionLaws.{right-lengths, timeslot-rang
 use Rattle.sched_core.proofs.GrantLaws.{grant-holds}
 use Rattle.sched_core.proofs.QueuesLaws.{record-queued, sdu-queued}
 
--- a table read row by row is that table
-rows-shape : (tb : Table) → FourRowsOfEighteen tb → FourRowsOfEighteen (getD tb 0 [] ∷ getD tb 1 [] ∷ getD tb 2 [] ∷ getD tb 3 [] ∷ [])
-rows-shape tb s = rw (four tb [] (s .rows)) s
-
--- what a station's parts must be for its memory to be sound
-pub record Parts (x : TdmaTime) (tb : Table) (ms ns : List ℕ) (rs : List Record) (st : List ℕ) : Type 0 where
-  pub time : Valid x
-  pub shape : FourRowsOfEighteen tb
-  pub entries : soundTable tb ≡ true
-  pub four-counters : length ms ≡ timeslots
-  pub counters : soundCounters ms ≡ true
+-- what the parts must be for a memory to be sound
+pub record Parts (u : Uplink) (ns : List ℕ) (rs : List Record) (st : List ℕ) : Type 0 where
+  pub shape : FourRowsOfEighteen (u .rows)
+  pub four-counters : length (u .«next_usage_marker») ≡ timeslots
+  pub uplink : soundUplink u ≡ true
   pub four-counts : length ns ≡ timeslots
   pub places : length rs ≡ queuePlaces
   pub cells : length st ≡ storeOctets
   pub octets : Octets st
   pub queue : soundQueue ns rs st ≡ true
 
-pub parts-memory : (x : TdmaTime) (tb : Table) (ms ns : List ℕ) (rs : List Record) (st : List ℕ) → Parts x tb ms ns rs st → SoundMemory (memory (stationOf x tb ms ns) rs st)
-parts-memory x tb ms ns rs st p =
-    let same = four tb [] (p .shape .rows) in
+pub parts-memory : (u : Uplink) (ns : List ℕ) (rs : List Record) (st : List ℕ) → Parts u ns rs st → SoundMemory (memory (stationOf u ns) rs st)
+parts-memory u ns rs st p =
     record {
-      station = parts-sound (stationOf x tb ms ns)
+      station = parts-sound (stationOf u ns)
           (record {
-            time = p .time;
-            table = ap soundTable same ∙ p .entries;
-            counters = p .counters;
+            uplink = p .uplink;
             counts = at-all soundCount ns 0 (λ i h. le-leb (getD ns i 0) perTimeslot (queue-at ns rs st (p .queue) i h .0));
           });
       queue = p .queue;
       places = p .places;
       cells = p .cells;
-      table = rows-shape tb (p .shape);
+      table = p .shape;
       counters = p .four-counters;
       counts = p .four-counts;
       octets = p .octets;
     }
 
-pub memory-parts : (m : Memory) → SoundMemory m
-    → Parts (m .station .time) (tableOf (m .station)) (m .station .«next_usage_marker») (m .station .queued) (m .records) (m .store)
+pub memory-parts : (m : Memory) → SoundMemory m → Parts (m .station .uplink) (m .station .queued) (m .records) (m .store)
 memory-parts m h =
-    let p = sound-parts (m .station) (h .station) in
     record {
-      time = p .time;
       shape = h .table;
-      entries = p .table;
       four-counters = h .counters;
-      counters = p .counters;
+      uplink = sound-parts (m .station) (h .station) .uplink;
       four-counts = h .counts;
       places = h .places;
       cells = h .cells;
@@ -125,13 +111,11 @@ advance-keeps m h =
     ask-elim (λ (a : Answer). SoundMemory (memory (a .station) (m .records) (m .store))) (asksStation (m .station) ∷ []) _ _ (λ r. h)
     (λ yes.
     let p = memory-parts m h in
-    parts-memory _ _ _ _ _ _
+    parts-memory _ _ _ _
     (record {
-      time = timeOf-valid (slotOf (m .station .time) + 1);
-      shape = store-shape (tableOf (m .station)) _ _ (p .shape);
-      entries = cleared-sound (tableOf (m .station)) (nextTime (m .station .time)) (p .shape) (p .entries);
+      shape = store-shape (m .station .uplink .rows) _ _ (p .shape);
       four-counters = p .four-counters;
-      counters = p .counters;
+      uplink = advanced-sound (m .station .uplink) (p .shape) (p .uplink);
       four-counts = p .four-counts;
       places = p .places;
       cells = p .cells;
@@ -177,24 +161,14 @@ empty-queue-sound k a b ea eb = queue-all (zeros k) (replicate a emptyRecord) (z
               ) empty-place),
         )
 
-empty-entries : soundTable emptyTable ≡ true
-unfolding all
-empty-entries = refl
-
-counters-at-4 : soundCounters (replicate 4 4) ≡ true
-unfolding all
-counters-at-4 = refl
-
 pub new-sound : (x : TdmaTime) → Valid x → SoundMemory (newMemory x)
 unfolding newMemory
 new-sound x h =
-    parts-memory x emptyTable (replicate 4 4) (zeros 4) (replicate queuePlaces emptyRecord) (zeros storeOctets)
+    parts-memory (newUplink x) (zeros 4) (replicate 64 emptyRecord) (zeros 16384)
     (record {
-      time = h;
       shape = empty-shape;
-      entries = empty-entries;
       four-counters = refl;
-      counters = counters-at-4;
+      uplink = new-uplink-sound x h;
       four-counts = refl;
       places = length-replicate queuePlaces emptyRecord;
       cells = length-replicate {A = ℕ} storeOctets 0;
@@ -212,22 +186,20 @@ module _ (m : Memory) (t : ℕ) (h : SoundMemory m) (low : 1 ≤ t) (high : t �
   inside = omega (arith, h .counts, low, high)
 
   -- the memory with a record queued, where the queue stays sound
-  joined : (r : Record) (st : List ℕ) (tb : Table) (ms : List ℕ) → FourRowsOfEighteen tb → soundTable tb ≡ true → length ms ≡ 4 → soundCounters ms ≡ true
+  joined : (r : Record) (st : List ℕ) (u : Uplink) → FourRowsOfEighteen (u .rows) → length (u .«next_usage_marker») ≡ timeslots → soundUplink u ≡ true
       → length st ≡ storeOctets → Octets st → soundQueue (enqueued ns (m .records) (t - 1) r .counts) (enqueued ns (m .records) (t - 1) r .records) st ≡ true
-      → SoundMemory (memory (stationOf (m .station .time) tb ms (enqueued ns (m .records) (t - 1) r .counts)) (enqueued ns (m .records) (t - 1) r .records) st)
-  joined r st tb ms shape entries four-ms counters size octets sound =
-      parts-memory (m .station .time) tb ms _ _ st
+      → SoundMemory (memory (stationOf u (enqueued ns (m .records) (t - 1) r .counts)) (enqueued ns (m .records) (t - 1) r .records) st)
+  joined r st u shape four sound size octets queue =
+      parts-memory u _ _ st
       (record {
-        time = memory-parts m h .time;
         shape = shape;
-        entries = entries;
-        four-counters = four-ms;
-        counters = counters;
+        four-counters = four;
+        uplink = sound;
         four-counts = length-set ns (t - 1) (getD ns (t - 1) 0 + 1) ∙ h .counts;
         places = record-queued m t r .places ∙ h .places;
         cells = size;
         octets = octets;
-        queue = sound;
+        queue = queue;
       })
 
   abbrev places : length (m .records) ≡ 16 * length ns
@@ -236,12 +208,12 @@ module _ (m : Memory) (t : ℕ) (h : SoundMemory m) (low : 1 ≤ t) (high : t �
   abbrev cells : length (m .store) ≡ 4096 * length ns
   cells = omega (arith, h .counts, h .cells)
 
-  abbrev p : Parts (m .station .time) (tableOf (m .station)) (m .station .«next_usage_marker») ns (m .records) (m .store)
+  abbrev p : Parts (m .station .uplink) ns (m .records) (m .store)
   p = memory-parts m h
 
   ack-joined : (kind n : ℕ) → legalAddress kind n ≡ true → SoundMemory (withRecord m t (ackRecord kind n))
   ack-joined kind n a =
-      joined (ackRecord kind n) (m .store) (tableOf (m .station)) (m .station .«next_usage_marker») (p .shape) (p .entries) (p .four-counters) (p .counters) (h .cells) (h .octets)
+      joined (ackRecord kind n) (m .store) (m .station .uplink) (p .shape) (p .four-counters) (p .uplink) (h .cells) (h .octets)
       (ack-joins ns (m .records) (m .store) (t - 1) inside room places cells (h .queue) kind n (h .octets) a .sound)
 
   tma-joined : (kind n : ℕ) (tag : OptU16) (header : QueuedHeader) (bits : ℕ) (sdu : List ℕ) → legalAddress kind n ≡ true
@@ -250,18 +222,18 @@ module _ (m : Memory) (t : ℕ) (h : SoundMemory m) (low : 1 ≤ t) (high : t �
   tma-joined kind n tag header bits sdu a l s =
       let r = offeredRecord kind n tag header bits in
       let q = offered-joins ns (m .records) (m .store) (t - 1) inside room places cells (h .queue) kind n tag header bits sdu (h .octets) a l s in
-      joined r (withCell (m .store) ns (t - 1) (cellOf bits sdu)) (tableOf (m .station)) (m .station .«next_usage_marker») (p .shape) (p .entries) (p .four-counters) (p .counters)
+      joined r (withCell (m .store) ns (t - 1) (cellOf bits sdu)) (m .station .uplink) (p .shape) (p .four-counters) (p .uplink)
       (sdu-queued m t r sdu (h .cells) low high room .cells ∙ h .cells) (q .octets) (q .sound)
 
   -- ---- requests
 
-  module _ (kind n : ℕ) (address : legalAddress kind n ≡ true) (a : CapAnswer) (shape : FourRowsOfEighteen (uplinkTable a)) (entries : soundTable (uplinkTable a) ≡ true)
-      (four-ms : length (a .«next_usage_marker») ≡ 4) (counters : soundCounters (a .«next_usage_marker») ≡ true) where
+  module _ (kind n : ℕ) (address : legalAddress kind n ≡ true) (a : CapAnswer) (shape : FourRowsOfEighteen (a .uplink .rows))
+      (four-ms : length (a .uplink .«next_usage_marker») ≡ timeslots) (sound : soundUplink (a .uplink) ≡ true) where
     grant-joined : (cap delay : ℕ) (mk : OptU8) → cap ≤ 15 → delay ≤ 13 → optFits 6 mk ≡ true
         → SoundMemory (grantQueued m t kind n a (CapReply.Granted cap delay mk) .memory)
     unfolding grantQueued
     grant-joined cap delay mk c d w =
-        joined (grantRecord kind n (grantOctet cap delay) mk) (m .store) (uplinkTable a) (a .«next_usage_marker») shape entries four-ms counters (h .cells) (h .octets)
+        joined (grantRecord kind n (grantOctet cap delay) mk) (m .store) (a .uplink) shape four-ms sound (h .cells) (h .octets)
         (grant-joins ns (m .records) (m .store) (t - 1) inside room places cells (h .queue) kind n (grantOctet cap delay) mk (h .octets) address
         (lt-ltb (grantOctet cap delay) (2 ^ 8) (omega (arith, c, d))) w .sound)
 
@@ -272,32 +244,7 @@ module _ (m : Memory) (t : ℕ) (h : SoundMemory m) (low : 1 ≤ t) (high : t �
     answer-joined CapReply.TooLate f = h
     answer-joined (CapReply.Granted cap delay mk) f = let g = f cap delay mk refl in grant-joined cap delay mk (g .0) (g .1) (g .2)
 
--- what a request leaves of table and counters has their lengths
-module _ (tb : Table) (ms : List ℕ) (r : Request) where
-  after-shape : (w : Verdict) → FourRowsOfEighteen tb → FourRowsOfEighteen (tableAfter tb ms r w)
-  unfolding tableAfter
-  after-shape noRun s = s
-  after-shape tooLate s = s
-  after-shape (grant g) s = reserve-shape _ _ _ _ tb s
-
-  pub answer-shape : (now : TdmaTime) → FourRowsOfEighteen tb → FourRowsOfEighteen (uplinkTable (answer tb ms now r))
-  unfolding answer given
-  answer-shape now s = rows-shape (tableAfter tb ms r (verdict (tableView tb) (slotOf now) r)) (after-shape (verdict (tableView tb) (slotOf now) r) s)
-
-  drawn-four : length ms ≡ 4 → (b : Bool) → length (cond b (drawn ms (r .timeslot)) ms) ≡ 4
-  drawn-four l true = length-set ms (r .timeslot - 1) _ ∙ l
-  drawn-four l false = l
-
-  after-four : (w : Verdict) → length ms ≡ 4 → length (countersAfter ms r w) ≡ 4
-  unfolding countersAfter markersAfter
-  after-four noRun l = l
-  after-four tooLate l = l
-  after-four (grant g) l = drawn-four l (draws (r .code))
-
-  pub answer-four : (now : TdmaTime) → length ms ≡ 4 → length (answer tb ms now r .«next_usage_marker») ≡ 4
-  unfolding answer given
-  answer-four now l = after-four _ l
-
+module _ (ms : List ℕ) (r : Request) where
   -- a marker drawn from sound counters has six bits
   drawn-fits : (b : Bool) → soundCounter (getD ms (r .timeslot - 1) 0) ≡ true → optFits 6 (cond b (OptU8.Of (getD ms (r .timeslot - 1) 0)) OptU8.Absent) ≡ true
   drawn-fits true e =
@@ -333,28 +280,25 @@ request-keeps m t code kind n h =
     (λ yes.
     let ts = timeslot-range t (yes .1 .1 .1 .0) in
     let p = memory-parts m h in
-    let tb = tableOf (m .station) in
-    let ms = m .station .«next_usage_marker» in
+    let u = m .station .uplink in
     let r : Request = record { timeslot = t; code = code; number = n } in
-    let good : Proper tb ms (m .station .time) r =
+    let good : Proper u r =
     record {
       shape = p .shape;
-      entries = p .entries;
       four = p .four-counters;
-      counters = p .counters;
-      time = p .time;
+      sound = p .uplink;
       timeslot-low = ts .0;
       timeslot-high = ts .1;
       code = leb-true code 15 (yes .1 .1 .1 .1 .0);
       number = address-number kind n (yes .1 .1 .1 .1 .1 .0);
     } in
-    let g = granted-exactly tb ms (m .station .time) r good in
     answer-joined m t h (ts .0) (ts .1) (room-left (queuedFor (m .station .queued) t) (yes .1 .1 .1 .1 .1 .1 .0)) kind n (yes .1 .1 .1 .1 .1 .0)
-    (answer tb ms (m .station .time) r) (answer-shape tb ms r (m .station .time) (p .shape)) (g .sound) (answer-four tb ms r (m .station .time) (p .four-counters)) (g .sound-counters)
-    (answer tb ms (m .station .time) r .reply)
+    (answer u r) (answer-shape u r (p .shape)) (answer-four u r ∙ p .four-counters) (granted-exactly u r good .sound)
+    (answer u r .reply)
     (λ cap delay mk e.
-    let k = grant-holds tb ms (m .station .time) r cap delay mk e in
-    (k .cap-fits, k .delay-fits, rw (k .marker-drawn) (marker-fits tb ms r (p .four-counters) (p .counters) (ts .0) (ts .1)))))
+    let k = grant-holds u r cap delay mk e in
+    let counters = uplink-parts u (p .uplink) .counters in
+    (k .cap-fits, k .delay-fits, rw (k .marker-drawn) (marker-fits (u .«next_usage_marker») r (p .four-counters) counters (ts .0) (ts .1)))))
 
 -- what a build leaves: the timeslot's queue is shorter or as long, and every other stays
 left-sound : (m : Memory) → SoundMemory m → SoundMemory (withLeft m (current (m .station)) (builtNow m))
@@ -369,13 +313,11 @@ left-sound m h =
     let size : length (m .store) ≡ 4096 * length ns = omega (arith, p .cells, p .four-counts) in
     let whole : Cells left = each-cells left (all-weaken Staying OneCell (λ x q. q .stored .cell) left (build-stays ns (m .records) (m .store) t inside many size (h .queue))) in
     let q = build-holds ns (m .records) (m .store) t inside many size (h .queue) (h .octets) in
-    parts-memory _ _ _ _ _ _
+    parts-memory _ _ _ _
     (record {
-      time = p .time;
       shape = p .shape;
-      entries = p .entries;
       four-counters = p .four-counters;
-      counters = p .counters;
+      uplink = p .uplink;
       four-counts = length-set ns _ _ ∙ p .four-counts;
       places = length-paste (m .records) (16 * t) (recordsOf 16 left) 16 (omega (arith, p .places)) (omega (arith, length-records 16 left)) ∙ p .places;
       cells = length-paste (m .store) (256 * (16 * t)) (cellsOf 16 left) 4096 (omega (arith, p .cells)) (omega (arith, length-cells 16 left whole)) ∙ p .cells;

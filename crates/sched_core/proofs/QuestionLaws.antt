@@ -1,10 +1,10 @@
 -- What each question tells where it is answered yes. Assumes nothing.
 use mathlib.Core.Path.{_≡_}
 use mathlib.Core.Bool.{true, false}
-use mathlib.Core.List.{List, [], _∷_, _++_}
+use mathlib.Core.List.{List, [], _++_}
 use Prim.Native.Nat.{ℕ, _-_, _*_, _^_, _≤_, _<_}
 use lib.Dec.{leb, ltb, eqb}
-use lib.ListN.{length, getD}
+use lib.ListN.{length}
 use borrow.Author.Tests.{leb-true, ltb-true, eqb-true, eq-eqb, ne-eqb}
 use Rattle.sizes.specs.Sizes.{timeslots, perTimeslot, queuePlaces, storeOctets, sduBits}
 use Rattle.questions.specs.declared.Refusal.{Refusal}

@@ -17,7 +17,6 @@ use Rattle.uplink.specs.declared.CapAnswer.{CapAnswer}
 use Rattle.uplink.specs.declared.CapReply.{CapReply}
 use Rattle.uplink.specs.UplinkEntry.{entryAt, ownerOf, usageOf}
 use Rattle.uplink.specs.Request.{answer}
-use Rattle.uplink.specs.Request.{tableOf as uplinkTable}
 use Rattle.mac_reader.specs.PduList.{blockBits}
 use Rattle.dl_record.specs.declared.Record.{Record}
 use Rattle.dl_record.specs.declared.QueuedHeader.{QueuedHeader}
@@ -35,7 +34,7 @@ use Rattle.sched_core.specs.declared.OwnerReply.{OwnerReply}
 use Rattle.sched_core.specs.declared.UsageReply.{UsageReply}
 use Rattle.sched_core.specs.declared.Answer.{Answer}
 use Rattle.sched_core.specs.declared.BuildCoreAnswer.{BuildCoreAnswer}
-use Rattle.sched_core.specs.Station.{tableOf, stationOf, newStation, advancedStation, withQueued}
+use Rattle.sched_core.specs.Station.{stationOf, newStation, advancedStation, withQueued}
 use Rattle.sched_core.specs.Questions.{Memory, memory, asksStation, queuedFor, memoryQuestions, requestQuestions, ackQuestions, tmaQuestions, buildLent, timeQuestions}
 
 -- document 01's numbers of the replies: "number (0 done)", else the question answered no
@@ -72,11 +71,11 @@ advanceCall s = ask (asksStation s ∷ []) (answerOf Reply.Done (advancedStation
 -- owner and usage of the slot at a time
 unfoldable pub ownerCall : Station → TdmaTime → PhyBlockNum → OwnerReply
 ownerCall s x half =
-    ask (asksStation s ∷ timeQuestions x) (OwnerReply.Owner (ownerOf half (entryAt (tableOf s) (slotOf x)))) OwnerReply.Refused
+    ask (asksStation s ∷ timeQuestions x) (OwnerReply.Owner (ownerOf half (entryAt (s .uplink .rows) (slotOf x)))) OwnerReply.Refused
 
 unfoldable pub usageCall : Station → TdmaTime → UsageReply
 usageCall s x =
-    ask (asksStation s ∷ timeQuestions x) (UsageReply.Usage (usageOf (entryAt (tableOf s) (slotOf x)))) UsageReply.Refused
+    ask (asksStation s ∷ timeQuestions x) (UsageReply.Usage (usageOf (entryAt (s .uplink .rows) (slotOf x)))) UsageReply.Refused
 
 -- ---- calls that queue
 
@@ -105,21 +104,19 @@ withSdu m t r sdu =
     let q = enqueued (m .station .queued) (m .records) (t - 1) r in
     memory (withQueued (m .station) (q .counts)) (q .records) (withCell (m .store) (m .station .queued) (t - 1) (cellOf (r .bits) sdu))
 
--- "Reference: `ul_process_cap_req`, then `dl_enqueue_grant`.": questions 9 and 10, then the grant is queued, and table and counters
--- are those of the answer
+-- "Reference: `ul_process_cap_req`, then `dl_enqueue_grant`.": questions 9 and 10, then the grant is queued, and the uplink is
+-- that of the answer
 unfoldable pub grantQueued : Memory → ℕ → ℕ → ℕ → CapAnswer → CapReply → Outcome RequestReply
 grantQueued m t kind n a CapReply.NoRun = outcome (RequestReply.Refused Refusal.NoRun) m
 grantQueued m t kind n a CapReply.TooLate = outcome (RequestReply.Refused Refusal.TooLate) m
 grantQueued m t kind n a (CapReply.Granted capacity delay marker) =
     let q = enqueued (m .station .queued) (m .records) (t - 1) (grantRecord kind n (grantOctet capacity delay) marker) in
-    outcome (RequestReply.Granted capacity delay marker)
-    (memory (stationOf (m .station .time) (uplinkTable a) (a .«next_usage_marker») (q .counts)) (q .records) (m .store))
+    outcome (RequestReply.Granted capacity delay marker) (memory (stationOf (a .uplink) (q .counts)) (q .records) (m .store))
 
 -- what a request is answered that questions 1 to 8 let pass
 unfoldable pub requestAnswered : Memory → ℕ → ℕ → ℕ → ℕ → Outcome RequestReply
 requestAnswered m t code kind n =
-    let s = m .station in
-    let a = answer (tableOf s) (s .«next_usage_marker») (s .time) (record { timeslot = t; code = code; number = n }) in
+    let a = answer (m .station .uplink) (record { timeslot = t; code = code; number = n }) in
     grantQueued m t kind n a (a .reply)
 
 -- request
@@ -153,11 +150,11 @@ notBuilt r m block = record { reply = r; tags = []; memory = m; block = block }
 
 -- "A build works on the current timeslot": counted from 0
 abbrev pub current : Station → ℕ
-current s = timeslot (slotOf (s .time)) - 1
+current s = timeslot (slotOf (s .uplink .time)) - 1
 
 -- "Frame 18, or nothing queued, gives none"
 unfoldable pub buildsNow : Station → Bool
-buildsNow s = usable (slotOf (s .time)) && ltb 0 (getD (s .queued) (current s) 0)
+buildsNow s = usable (slotOf (s .uplink .time)) && ltb 0 (getD (s .queued) (current s) 0)
 
 -- "A build [..] merges, then takes waiting and started records in queue order, then records."
 unfoldable pub builtNow : Memory → Sent (List ℕ)

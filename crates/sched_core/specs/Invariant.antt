@@ -13,7 +13,6 @@ use Rattle.dl_record.specs.declared.QueuedHeader.{QueuedHeader}
 use Rattle.dl_queue.specs.Questions.{soundQueue}
 use Rattle.sched_core.specs.declared.Reply.{Reply}
 use Rattle.sched_core.specs.declared.RequestReply.{RequestReply}
-use Rattle.sched_core.specs.Station.{tableOf}
 use Rattle.sched_core.specs.Questions.{Memory, soundStation}
 use Rattle.sched_core.specs.Calls.{newMemory, advanceMemory, requestCall, ackCall, tmaCall, buildCall}
 
@@ -23,8 +22,8 @@ pub record SoundMemory (m : Memory) : Type 0 where
   pub queue : soundQueue (m .station .queued) (m .records) (m .store) ≡ true
   pub places : length (m .records) ≡ queuePlaces
   pub cells : length (m .store) ≡ storeOctets
-  pub table : FourRowsOfEighteen (tableOf (m .station))
-  pub counters : length (m .station .«next_usage_marker») ≡ timeslots
+  pub table : FourRowsOfEighteen (m .station .uplink .rows)
+  pub counters : length (m .station .uplink .«next_usage_marker») ≡ timeslots
   pub counts : length (m .station .queued) ≡ timeslots
   pub octets : (i : ℕ) → getD (m .store) i 0 < 2 ^ 8
 

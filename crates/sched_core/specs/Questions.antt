@@ -10,14 +10,14 @@ use Rattle.questions.specs.declared.Refusal.{Refusal}
 use Rattle.questions.specs.Questions.{Question, question}
 use Rattle.tdma_time.specs.declared.TdmaTime.{TdmaTime}
 use Rattle.tdma_time.specs.Time.{valid}
-use Rattle.uplink.specs.UplinkEntry.{all, soundTable, soundCounters}
+use Rattle.uplink.specs.UplinkEntry.{all}
+use Rattle.uplink.specs.Uplink.{soundUplink}
 use Rattle.mac_pdus.specs.Legal.{legalOffered}
 use Rattle.dl_record.specs.declared.Record.{Record}
 use Rattle.dl_record.specs.Record.{resourceOf}
 use Rattle.dl_record.specs.Questions.{legalAddress, presentSdu}
 use Rattle.dl_queue.specs.Questions.{soundQueue}
 use Rattle.sched_core.specs.declared.Station.{Station}
-use Rattle.sched_core.specs.Station.{tableOf}
 
 -- what a call works on: the station, the queue of records and the SDU store
 pub record Memory : Type 0 where
@@ -34,7 +34,7 @@ soundCount n = leb n perTimeslot
 
 -- "1. Is the state sound: time and counters in range, no second half without a first, a marker (4–62) only in a taken entry, counts up to 16"
 unfoldable pub soundStation : Station → Bool
-soundStation s = valid (s .time) && soundTable (tableOf s) && soundCounters (s .«next_usage_marker») && all soundCount (s .queued)
+soundStation s = soundUplink (s .uplink) && all soundCount (s .queued)
 
 abbrev pub asksStation : Station → Question
 asksStation s = question (soundStation s) Refusal.Unsound

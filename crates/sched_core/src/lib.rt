@@ -5,24 +5,18 @@ use optional::OptU32;
 use questions::Refusal;
 use tdma_time::TdmaTime;
 use uplink::AccessAssignUlUsage;
-use uplink::Entry;
 use uplink::PhyBlockNum;
+use uplink::Uplink;
 ghost use mathlib.Core.Path.{_≡_};
 ghost use Prim.Native.Nat.{_≤_};
-ghost use Rattle.tdma_time.specs.Time.{Valid};
-ghost use Rattle.uplink.specs.UplinkEntry.{emptyTable, all};
-ghost use Rattle.sched_core.specs.Station.{tableOf, stationOf, advancedStation, withQueued};
+ghost use Rattle.uplink.specs.UplinkEntry.{all};
+ghost use Rattle.sched_core.specs.Station.{withQueued};
 ghost use Rattle.sched_core.specs.Questions.{soundCount, soundStation, legalTimeslot, queuedFor, hasRoom};
 ghost use Rattle.sched_core.specs.Calls.{newCall, advanceCall, ownerCall, usageCall};
 
-// The station: the time, the uplink table row by row, the counters of usage markers, and how many records are queued for each timeslot.
+// The station: its uplink, and how many records are queued for each timeslot.
 pub struct Station {
-    pub time: TdmaTime,
-    pub row1: [Entry; 18],
-    pub row2: [Entry; 18],
-    pub row3: [Entry; 18],
-    pub row4: [Entry; 18],
-    pub next_usage_marker: [u8; 4],
+    pub uplink: Uplink,
     pub queued: [u8; 4],
 }
 
@@ -82,41 +76,6 @@ pub struct BuildCoreAnswer {
     pub records: [Record; sizes::QUEUE_PLACES],
 }
 
-// The uplink table of a station.
-pub fn table_of(s: Station) -> [[Entry; 18]; 4]
-    ensures { λ r. ⌜ r ≡ tableOf s ⌝ }
-{
-    let row1 = s.row1;
-    let row2 = s.row2;
-    let row3 = s.row3;
-    let row4 = s.row4;
-    [row1, row2, row3, row4]
-}
-
-// The station of a time, a table, counters of usage markers and numbers of records queued.
-fn station_of(
-    time: TdmaTime,
-    table: [[Entry; 18]; 4],
-    next_usage_marker: [u8; 4],
-    queued: [u8; 4],
-) -> Station
-    ensures { λ r. ⌜ r ≡ stationOf time table «next_usage_marker» queued ⌝ }
-{
-    let row1 = table[0];
-    let row2 = table[1];
-    let row3 = table[2];
-    let row4 = table[3];
-    Station {
-        time: time,
-        row1: row1,
-        row2: row2,
-        row3: row3,
-        row4: row4,
-        next_usage_marker: next_usage_marker,
-        queued: queued,
-    }
-}
-
 // Is no more queued for a timeslot than its places hold?
 fn counts_are_sound(queued: [u8; 4]) -> bool
     ensures { λ r. ⌜ r ≡ all soundCount queued ⌝ }
@@ -133,33 +92,20 @@ fn counts_are_sound(queued: [u8; 4]) -> bool
 pub fn station_is_sound(s: Station) -> bool
     ensures { λ r. ⌜ r ≡ soundStation s ⌝ }
 {
-    let time = s.time;
-    let counters = s.next_usage_marker;
+    let u = s.uplink;
     let queued = s.queued;
-    let table = table_of(s);
-    time.is_valid()
-        & uplink::table_is_sound(table)
-        & uplink::counters_are_sound(counters)
-        & counts_are_sound(queued)
+    uplink::uplink_is_sound(u) & counts_are_sound(queued)
 }
 
-// An empty table. One entry is written at a place that only the time tells, so that the compiler keeps tables in memory: one that is
-// made of constants alone it takes apart into 72 entries wherever a station goes, and every call takes three times as long.
-fn empty_table(time: TdmaTime) -> [[Entry; 18]; 4]
-    ensures { λ r. ⌜ r ≡ emptyTable ⌝ }
-{
-    let mut table = [[Entry::EMPTY; 18]; 4];
-    let place = (time.f % 18) as usize;
-    table[0][place] = Entry::EMPTY;
-    table
-}
-
-// A new station at a time: an empty table and queues, and markers at 4.
+// A new station at a time: its uplink, and nothing queued.
 pub fn new(time: TdmaTime) -> Answer
     ensures { λ r. ⌜ r ≡ newCall time ⌝ }
 {
-    let table = empty_table(time);
-    let station = station_of(time, table, [4; 4], [0; 4]);
+    let u = uplink::new_uplink(time);
+    let station = Station {
+        uplink: u,
+        queued: [0; 4],
+    };
     if !time.is_valid() {
         return Answer {
             reply: Reply::Refused(Refusal::Unsound),
@@ -172,20 +118,6 @@ pub fn new(time: TdmaTime) -> Answer
     }
 }
 
-// A station one slot on: the entry of the slot four earlier than the new time is emptied.
-fn advanced(s: Station) -> Station
-    requires { ⌜ Valid (s .time) ⌝ }
-    ensures { λ r. ⌜ r ≡ advancedStation s ⌝ }
-{
-    let time = s.time;
-    let counters = s.next_usage_marker;
-    let queued = s.queued;
-    let table = table_of(s);
-    let now = time.next();
-    let cleared = uplink::clear_ul_schedule_for_tx_time(table, now);
-    station_of(now, cleared, counters, queued)
-}
-
 // One slot on.
 pub fn advance(s: Station) -> Answer
     ensures { λ r. ⌜ r ≡ advanceCall s ⌝ }
@@ -196,10 +128,13 @@ pub fn advance(s: Station) -> Answer
             station: s,
         };
     }
-    let next = advanced(s);
+    let u = s.uplink;
+    let next = uplink::advanced(u);
+    let mut station = s;
+    station.uplink = next;
     Answer {
         reply: Reply::Done,
-        station: next,
+        station: station,
     }
 }
 
@@ -213,8 +148,8 @@ pub fn ul_get_slot_owner(s: Station, ts: TdmaTime, slot: PhyBlockNum) -> OwnerRe
     if !ts.is_valid() {
         return OwnerReply::Refused(Refusal::Unsound);
     }
-    let table = table_of(s);
-    let owner = uplink::ul_get_slot_owner(table, ts, slot);
+    let u = s.uplink;
+    let owner = uplink::ul_get_slot_owner(u, ts, slot);
     OwnerReply::Owner(owner)
 }
 
@@ -228,8 +163,8 @@ pub fn ul_get_usage(s: Station, ts: TdmaTime) -> UsageReply
     if !ts.is_valid() {
         return UsageReply::Refused(Refusal::Unsound);
     }
-    let table = table_of(s);
-    let usage = uplink::ul_get_usage(table, ts);
+    let u = s.uplink;
+    let usage = uplink::ul_get_usage(u, ts);
     UsageReply::Usage(usage)
 }
 

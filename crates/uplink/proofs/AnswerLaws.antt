@@ -1,11 +1,11 @@
 -- The answer to a request, put together from what the functions answer. Assumes nothing.
 use mathlib.Core.Path.{_≡_, refl, sym, ap, _∙_}
-use mathlib.Core.Bool.{true, not}
+use mathlib.Core.Bool.{Bool, true, false, not, cond}
 use mathlib.Core.List.{List, []}
 use mathlib.Core.Option.{Option, none, some}
 use Prim.Native.Nat.{ℕ, _+_, _-_, _*_, _/_, _%_, _≤_, _<_}
 use native.Mathlib.Omega.{arith}
-use lib.ListN.{getD}
+use lib.ListN.{length, getD, length-set}
 use borrow.Author.Tests.{le-leb, lt-leb}
 use Rattle.sizes.specs.Sizes.{timeslots, framesSearched, latestDelay}
 use Rattle.optional.specs.declared.OptU8.{OptU8}
@@ -20,11 +20,12 @@ use Rattle.uplink.specs.declared.PhyBlockNum.{PhyBlockNum}
 use Rattle.uplink.specs.declared.Uplink.{Uplink}
 use Rattle.uplink.specs.HalfSlot.{vacant}
 use Rattle.uplink.specs.Search.{Run}
-use Rattle.uplink.specs.UplinkEntry.{Table, emptyEntry, entryAt, tableView, reserve}
+use Rattle.uplink.specs.UplinkEntry.{Table, FourRowsOfEighteen, emptyEntry, entryAt, tableView, reserve}
 use Rattle.uplink.specs.Uplink.{withTable}
-use Rattle.uplink.specs.Request.{Request, candidates, fits, earliestRun, grant, settle, verdict, capacity, drawn, markerOf, markersAfter, replyTo, tableAfter, countersAfter, given, answer}
+use Rattle.uplink.specs.Request.{Request, candidates, fits, earliestRun, Verdict, noRun, tooLate, grant, settle, verdict, capacity, draws, drawn, markerOf, markersAfter, replyTo, tableAfter, countersAfter, given, answer}
 use Rattle.uplink.specs.Functions.{asOpportunity, opportunity, slotsFrom, blockOf, blockHalves, grantedAt}
 use Rattle.uplink.proofs.FrameWalk.{rest-next, first-at, on-entry}
+use Rattle.uplink.proofs.ReserveLaws.{reserve-shape}
 use Rattle.uplink.proofs.RequestLaws.{wanted-pos, getD-take-first, Begins, begins, capacity-halves}
 
 -- the first of the slots from a usable one on is that one
@@ -134,3 +135,30 @@ module _ (u : Uplink) (r : Request) where
         let f = found-at start skips e in
         let same : f .g ≡ record { delay = skips; slots = slotsFrom (u .time) (r .timeslot) start (slotsWanted (r .code)) } = λ i. record { delay = f .delay i; slots = f .slots i } in
         rw (f .is, f .delay, le-leb skips latestDelay h) (ap (λ (x : Run). given u r (grant x)) (sym same))
+
+-- ---- what a request leaves has its lengths
+
+module _ (u : Uplink) (r : Request) where
+  table-shape : (w : Verdict) → FourRowsOfEighteen (u .rows) → FourRowsOfEighteen (tableAfter (u .rows) (u .«next_usage_marker») r w)
+  unfolding tableAfter
+  table-shape noRun s = s
+  table-shape tooLate s = s
+  table-shape (grant g) s = reserve-shape _ _ _ _ (u .rows) s
+
+  pub answer-shape : FourRowsOfEighteen (u .rows) → FourRowsOfEighteen (answer u r .uplink .rows)
+  unfolding answer given
+  answer-shape s = table-shape (verdict (tableView (u .rows)) (slotOf (u .time)) r) s
+
+pub markers-four : (ms : List ℕ) (r : Request) (w : Verdict) → length (countersAfter ms r w) ≡ length ms
+unfolding countersAfter markersAfter
+markers-four ms r noRun = refl
+markers-four ms r tooLate = refl
+markers-four ms r (grant g) = go (draws (r .code))
+  where
+    go : (b : Bool) → length (cond b (drawn ms (r .timeslot)) ms) ≡ length ms
+    go true = length-set ms (r .timeslot - 1) _
+    go false = refl
+
+pub answer-four : (u : Uplink) (r : Request) → length (answer u r .uplink .«next_usage_marker») ≡ length (u .«next_usage_marker»)
+unfolding answer given
+answer-four u r = markers-four (u .«next_usage_marker») r (verdict (tableView (u .rows)) (slotOf (u .time)) r)

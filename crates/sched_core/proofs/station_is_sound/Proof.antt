@@ -1,4 +1,4 @@
--- The four tests of question 1 for the state. Assumes nothing.
+-- The uplink and the counts. Assumes nothing.
 use borrow.Author.Needs.{needs}
 use Rattle.sched_core.specs.Questions.{soundStation}
 use Rattle.sched_core.proofs.station_is_sound.Statement.{statement}
@@ -6,10 +6,7 @@ use Rattle.sched_core.proofs.station_is_sound.Tie as tie
 
 returns : tie.Need-returns
 unfolding soundStation
-returns c =
-    rw (c .counts-are-sound .ensures, c .before .counters-are-sound .ensures, c .before .before .table-is-sound .ensures, c .before .before .before .is-valid .ensures, c .before .before .before .before .table-of .ensures)
+returns c = rw (c .counts-are-sound .ensures, c .before .uplink-is-sound .ensures)
 
 pub station-is-sound-spec : {M : Type 1} → statement M
-station-is-sound-spec =
-    tie.close
-    (tie.spec (λ c κs. search needs) (λ c κs. search needs) (λ c κs. search needs) (λ c κs. search needs) (λ c κs. search needs) returns)
+station-is-sound-spec = tie.close (tie.spec (λ c κs. search needs) (λ c κs. search needs) returns)
