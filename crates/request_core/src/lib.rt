@@ -1,8 +1,11 @@
 // A request for capacity: the questions in order, the search, and the grant queued. A plan is what it leaves to a caller that keeps
 // the queue elsewhere.
+use basic_slotgrant::BasicSlotgrant;
 use dl_record::Record;
 use optional::OptU8;
 use questions::Refusal;
+use reservation_requirement::RequirementRead;
+use reservation_requirement::ReservationRequirement;
 use sched_core::RequestReply;
 use sched_core::Station;
 use uplink::CapAnswer;
@@ -14,6 +17,7 @@ ghost use lib.ListN.{getD};
 ghost use Rattle.sizes.specs.Sizes.{timeslots, perTimeslot, latestDelay};
 ghost use Rattle.questions.specs.declared.Refusal.{Refusal};
 ghost use Rattle.tdma_time.specs.Time.{Valid};
+ghost use Rattle.reservation_requirement.specs.Requirement.{requirementCode};
 ghost use Rattle.uplink.specs.declared.CapReply.{CapReply};
 ghost use Rattle.sched_core.specs.declared.RequestReply.{RequestReply};
 ghost use Rattle.sched_core.specs.Questions.{soundStation};
@@ -40,7 +44,7 @@ fn request_refused(refusal: Refusal, station: Station) -> RequestPlan
     }
 }
 
-// A grant is queued; table and counters are those of the answer.
+// A grant is queued; the uplink is that of the answer.
 fn queue_grant(
     station: Station,
     timeslot: u8,
@@ -55,24 +59,15 @@ fn queue_grant(
     requires { ⌜ (capacity ≤ 15) × (delay ≤ latestDelay) ⌝ }
     ensures { λ r. ⌜ Grants (λ m. grantQueued m timeslot kind number answer (CapReply.Granted capacity delay «usage_marker»)) station r ⌝ }
 {
-    let octet = capacity * 16 + delay;
+    let slotgrant = BasicSlotgrant::of_codes(capacity, delay);
+    let octet = slotgrant.to_octet();
     let grant = dl_record::grant_record(kind, number, octet, usage_marker);
     let queued = station.queued;
     let place = enqueue_core::next_place(queued, timeslot);
     let counts = enqueue_core::one_more(queued, timeslot);
-    let time = station.time;
-    let row1 = answer.row1;
-    let row2 = answer.row2;
-    let row3 = answer.row3;
-    let row4 = answer.row4;
-    let counters = answer.next_usage_marker;
+    let u = answer.uplink;
     let next = Station {
-        time: time,
-        row1: row1,
-        row2: row2,
-        row3: row3,
-        row4: row4,
-        next_usage_marker: counters,
+        uplink: u,
         queued: counts,
     };
     RequestPlan {
@@ -88,15 +83,19 @@ fn queue_grant(
 }
 
 // Questions 9 and 10, then the grant is queued.
-fn request_answered(station: Station, timeslot: u8, code: u8, kind: u8, number: u32) -> RequestPlan
-    requires { ⌜ Valid (station .time) ⌝ }
+fn request_answered(
+    station: Station,
+    timeslot: u8,
+    requirement: ReservationRequirement,
+    kind: u8,
+    number: u32,
+) -> RequestPlan
+    requires { ⌜ Valid (station .uplink .time) ⌝ }
     requires { ⌜ (1 ≤ timeslot) × (timeslot ≤ timeslots) × (getD (station .queued) (timeslot - 1) 0 < perTimeslot) ⌝ }
-    ensures { λ r. ⌜ RequestPlanned (λ m. requestAnswered m timeslot code kind number) station r ⌝ }
+    ensures { λ r. ⌜ RequestPlanned (λ m. requestAnswered m timeslot (requirementCode requirement) kind number) station r ⌝ }
 {
-    let now = station.time;
-    let counters = station.next_usage_marker;
-    let table = sched_core::table_of(station);
-    let answer = ul_grant::ul_process_cap_req(table, counters, now, timeslot, code, number);
+    let u = station.uplink;
+    let answer = ul_grant::ul_process_cap_req(u, timeslot, requirement, number);
     let reply = answer.reply;
     match reply {
         CapReply::NoRun => request_refused(Refusal::NoRun, station),
@@ -126,9 +125,10 @@ pub fn request_plan(station: Station, timeslot: u8, code: u8, kind: u8, number: 
     if !sched_core::timeslot_is_legal(timeslot) {
         return request_refused(Refusal::Timeslot, station);
     }
-    if 15 < code {
+    let read = ReservationRequirement::try_from(code);
+    let RequirementRead::Of(requirement) = read else {
         return request_refused(Refusal::Requirement, station);
-    }
+    };
     if !dl_record::address_is_legal(kind, number) {
         return request_refused(Refusal::Address, station);
     }
@@ -136,5 +136,5 @@ pub fn request_plan(station: Station, timeslot: u8, code: u8, kind: u8, number: 
     if !sched_core::has_room(queued, timeslot) {
         return request_refused(Refusal::QueueFull, station);
     }
-    request_answered(station, timeslot, code, kind, number)
+    request_answered(station, timeslot, requirement, kind, number)
 }

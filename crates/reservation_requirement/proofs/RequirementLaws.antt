@@ -1,8 +1,11 @@
 -- Laws of reservation requirements: code and case are inverse. Assumes nothing.
-use mathlib.Core.Path.{_≡_, refl, ap, _∙_}
+use mathlib.Core.Path.{_≡_, refl, sym, ap, _∙_}
+use mathlib.Core.Bool.{Bool, true, false, cond}
 use Prim.Native.Nat.{ℕ, _≤_, _<_}
-use lib.Dec.{lit<}
+use native.Mathlib.Omega.{arith}
+use lib.Dec.{leb, lit<}
 use lib.ListN.{take}
+use borrow.Author.Tests.{leb-true}
 use Rattle.slot_codes.proofs.TableLaws.{past-the-last, agree-below}
 use Rattle.slot_codes.proofs.CodesLaws.{numbers-read}
 use Rattle.reservation_requirement.specs.declared.ReservationRequirement.{ReservationRequirement}
@@ -65,3 +68,22 @@ pub requirement-read-back : (r : ReservationRequirement) → requirementRead (re
 requirement-read-back r =
     numbers-read requirement.the-variants.Of requirement.the-variants.Unknown requirementAt (requirementCode r) (requirement-code-below-16 r)
     ∙ ap requirement.the-variants.Of (requirement-of-its-code r)
+
+-- a number that is read as a case is a code, that of the case; one that is not is none
+pub requirement-reads : (x : ℕ) (r : ReservationRequirement) → requirementRead x ≡ requirement.the-variants.Of r → (leb x 15 ≡ true) × (requirementCode r ≡ x)
+requirement-reads x r e = go (leb x 15) refl e
+  where
+    go : (b : Bool) → leb x 15 ≡ b → cond b (requirement.the-variants.Of (requirementAt x)) requirement.the-variants.Unknown ≡ requirement.the-variants.Of r
+        → (leb x 15 ≡ true) × (requirementCode r ≡ x)
+    go true h e =
+        let same : requirementAt x ≡ r = cc in
+        let low : x ≤ 15 = leb-true x 15 h in
+        (h, ap requirementCode (sym same) ∙ requirement-code-of-read x (omega arith))
+    go false h e = absurd (let z : _≡_ {A = ℕ} 0 1 = cc in omega arith)
+
+pub requirement-unread : (x : ℕ) → requirementRead x ≡ requirement.the-variants.Unknown → leb x 15 ≡ false
+requirement-unread x e = go (leb x 15) refl e
+  where
+    go : (b : Bool) → leb x 15 ≡ b → cond b (requirement.the-variants.Of (requirementAt x)) requirement.the-variants.Unknown ≡ requirement.the-variants.Unknown → leb x 15 ≡ false
+    go true h e = absurd (let z : _≡_ {A = ℕ} 0 1 = cc in omega arith)
+    go false h e = h
