@@ -22,9 +22,9 @@ use Rattle.questions.proofs.AskLaws.{FirstYes, every-yes}
 use Rattle.sched_core.proofs.QuestionLaws.{right-lengths}
 
 -- frame and timeslot as the time shows them
-pub builds-now : (s : Station) → Valid (s .time) → not (eqb (s .time .f) 18) && ltb 0 (getD (s .queued) (s .time .t - 1) 0) ≡ buildsNow s
+pub builds-now : (s : Station) → Valid (s .uplink .time) → not (eqb (s .uplink .time .f) 18) && ltb 0 (getD (s .queued) (s .uplink .time .t - 1) 0) ≡ buildsNow s
 unfolding buildsNow usable
-builds-now s v = rw (slotOf-frame (s .time) v, slotOf-timeslot (s .time) v)
+builds-now s v = rw (slotOf-frame (s .uplink .time) v, slotOf-timeslot (s .uplink .time) v)
 
 no-tags : replicate 16 0 ≡ tagRow 16 []
 unfolding tagRow

@@ -30,7 +30,7 @@ pub fn builds_now(station: Station) -> bool
     requires { ⌜ soundStation station ≡ true ⌝ }
     ensures { λ r. ⌜ r ≡ buildsNow station ⌝ }
 {
-    let time = station.time;
+    let time = station.uplink.time;
     let queued = station.queued;
     builds_at(time, queued)
 }
@@ -62,7 +62,7 @@ pub fn build_sound(
     if !builds_now(station) {
         return no_block(station, records);
     }
-    let time = station.time;
+    let time = station.uplink.time;
     let queued = station.queued;
     let t = (time.t - 1) as usize;
     let b = dl_build::dl_build_block_from_signalling_schedule(queued, records, store, block, t);

@@ -7,7 +7,7 @@ use Rattle.tdma_time.specs.Time.{Valid}
 use Rattle.tdma_time.proofs.TimeLaws.{slotOf-timeslot}
 use Rattle.sched_core.specs.Questions.{Memory, memory}
 use Rattle.questions.proofs.AskLaws.{said-no, said-yes}
-use Rattle.sched_core.proofs.StationLaws.{sound-parts}
+use Rattle.sched_core.proofs.StationLaws.{sound-time}
 use Rattle.build_core.proofs.BuildCallLaws.{none-answered, built-answered}
 use borrow.Author.Needs.{needs}
 use Rattle.build_core.proofs.build_sound.Statement.{statement}
@@ -19,8 +19,8 @@ all s = memory (s .args .station) (s .args .records) (s .args .store .now)
 places : (s : tie.Start) → length (s .args .records) ≡ 64
 places s = search needs
 
-time : (s : tie.Start) → Valid (s .args .station .time)
-time s = sound-parts (s .args .station) (s .pre .0 .0) .time
+time : (s : tie.Start) → Valid (s .args .station .uplink .time)
+time s = sound-time (s .args .station) (s .pre .0 .0)
 
 returns : tie.Need-returns
 returns c =
@@ -45,8 +45,8 @@ returns-2 c =
     let s = e .before .before .before .before in
     let p = s .pre .0 in
     rw (c .with-queued .ensures)
-    (built-answered (all s) (s .args .block .now) (p .0) (places s) (p .1) (p .2) (s .pre .1) (d .dl-build-block-from-signalling-schedule .result) (s .args .station .time .t - 1) _ _ (said-yes (e .before .builds-now .ensures) (e .if1 .left))
-    (ap (λ (n : ℕ). n - 1) (sym (slotOf-timeslot (s .args .station .time) (time s)))) (d .dl-build-block-from-signalling-schedule .ensures))
+    (built-answered (all s) (s .args .block .now) (p .0) (places s) (p .1) (p .2) (s .pre .1) (d .dl-build-block-from-signalling-schedule .result) (s .args .station .uplink .time .t - 1) _ _ (said-yes (e .before .builds-now .ensures) (e .if1 .left))
+    (ap (λ (n : ℕ). n - 1) (sym (slotOf-timeslot (s .args .station .uplink .time) (time s)))) (d .dl-build-block-from-signalling-schedule .ensures))
 
 pub build-sound-spec : {M : Type 1} → statement M
 build-sound-spec =

@@ -1,13 +1,13 @@
 -- Frame and timeslot as the time shows them. Assumes nothing.
 use mathlib.Core.Path.{_∙_}
 use Rattle.tdma_time.specs.Time.{Valid}
-use Rattle.sched_core.proofs.StationLaws.{sound-parts}
+use Rattle.sched_core.proofs.StationLaws.{sound-time}
 use Rattle.build_core.proofs.BuildCallLaws.{builds-now}
 use Rattle.build_core.proofs.builds_now.Statement.{statement}
 use Rattle.build_core.proofs.builds_now.Tie as tie
 
-time : (s : tie.Start) → Valid (s .args .station .time)
-time s = sound-parts (s .args .station) (s .pre) .time
+time : (s : tie.Start) → Valid (s .args .station .uplink .time)
+time s = sound-time (s .args .station) (s .pre)
 
 builds-at-requires : tie.Need-builds-at-requires
 builds-at-requires c κs = let v = time (c .before .before) in (v .t-low, v .t-high)
