@@ -9,7 +9,7 @@ use lib.ListN.{length, getD, drop, replicate, length-drop}
 use lib.Seq.{drop-drop, getD-drop}
 use Rattle.dl_record.proofs.Tests.{and-assoc, and-true}
 use Rattle.uplink.specs.declared.Entry.{Entry}
-use Rattle.sched_words.specs.Words.{joined, parts, sameWords, timeWords, timeFrom, entryWords, entryFrom, rowWords, rowFrom, fourFrom, tableWords, stationWords, stationRead, noStation}
+use Rattle.sched_words.specs.Words.{joined, parts, sameWords, timeWords, timeFrom, entryWords, entryFrom, rowWords, rowFrom, fourFrom, tableWords, tableFrom, stationWords, stationRead, noStation}
 use Rattle.sched_words.specs.Front.{begins}
 use Rattle.sched_words.proofs.FitLaws.{low-fits, opt8-fits, opt32-fits, spelled, begins-append, begins-whole, parts-turn, joined-append, parts-add}
 
@@ -71,8 +71,7 @@ row-more : (n : ℕ) (ws : List ℕ) → joined entryWords (parts entryFrom 3 (n
 row-more n ws = ap (joined entryWords) (parts-add entryFrom 3 n 18 ws) ∙ joined-append entryWords (parts entryFrom 3 n ws) (rowFrom (drop (3 * n) ws))
 
 -- 72 entries are four rows
-table-rows : (ws : List ℕ) → joined entryWords (parts entryFrom 3 72 (drop 4 ws)) ≡ tableWords (stationRead ws)
-unfolding stationRead
+table-rows : (ws : List ℕ) → joined entryWords (parts entryFrom 3 72 (drop 4 ws)) ≡ tableWords (tableFrom ws)
 table-rows ws =
     let at : (n : ℕ) → drop n (drop 4 ws) ≡ drop (4 + n) ws = λ n. drop-drop n 4 ws in
     row-more 54 (drop 4 ws)
@@ -80,8 +79,8 @@ table-rows ws =
     (row-more 36 (drop 4 ws) ∙ ap₂ (λ (l m : List ℕ). l ++ rowWords (rowFrom m)) (row-more 18 (drop 4 ws) ∙ ap (λ (m : List ℕ). rowWords (rowFrom (drop 4 ws)) ++ rowWords (rowFrom m)) (at 54)) (at 108))
     (at 162)
 
-table-size : (ws : List ℕ) → length (tableWords (stationRead ws)) ≡ 216
-unfolding stationRead joined parts
+table-size : (ws : List ℕ) → length (tableWords (tableFrom ws)) ≡ 216
+unfolding joined parts
 table-size ws = refl
 
 pub station-fits : (ws : List ℕ) → length ws ≡ 228
@@ -94,8 +93,8 @@ station-fits ws e =
     let n = fourFrom (drop 220 ws) in
     let q = fourFrom (drop 224 ws) in
     ap (λ (l : List ℕ). begins t ws && begins l (drop 4 ws) && begins n (drop 220 ws) && begins q (drop 224 ws)) (table-rows ws)
-    ∙ sym (begins-append (t ++ tableWords s ++ n) q ws 224 refl
-    ∙ ap (λ (b : Bool). b && begins q (drop 224 ws)) (begins-append (t ++ tableWords s) n ws 220 refl ∙ ap (λ (b : Bool). b && begins n (drop 220 ws)) (begins-append t (tableWords s) ws 4 refl)))
+    ∙ sym (begins-append (t ++ tableWords (tableFrom ws) ++ n) q ws 224 refl
+    ∙ ap (λ (b : Bool). b && begins q (drop 224 ws)) (begins-append (t ++ tableWords (tableFrom ws)) n ws 220 refl ∙ ap (λ (b : Bool). b && begins n (drop 220 ws)) (begins-append t (tableWords (tableFrom ws)) ws 4 refl)))
     ∙ begins-whole (stationWords s) ws (sym e)
 
 -- the station that stands for other words is that of words 0

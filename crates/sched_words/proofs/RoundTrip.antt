@@ -7,22 +7,25 @@ use Prim.Native.Nat.{ℕ, zero, suc, _+_, _%_, _^_, _≤_, _<_}
 use native.Mathlib.Numerals.{add-one}
 use native.Mathlib.Omega.{arith}
 use lib.Dec.{eqb, leb}
-use lib.ListN.{length, drop}
+use lib.ListN.{length, getD, drop}
 use lib.Seq.{drop-at, drop-drop}
 use borrow.Author.Tests.{eqb-true, eq-eqb, leb-true, ltb-true}
+use Rattle.sizes.specs.Sizes.{timeslots, perTimeslot}
 use Rattle.optional.specs.declared.OptU8.{OptU8}
 use Rattle.optional.specs.declared.OptU32.{OptU32}
-use Rattle.tdma_time.specs.Time.{Valid, valid}
-use Rattle.tdma_time.proofs.TimeLaws.{true-valid}
+use Rattle.tdma_time.specs.Time.{valid}
 use Rattle.uplink.specs.declared.Entry.{Entry}
-use Rattle.uplink.specs.UplinkEntry.{FourRowsOfEighteen, all, soundOwner, soundCounter, soundMarker, soundEntry, soundRow, soundTable, soundCounters}
+use Rattle.uplink.specs.UplinkEntry.{Table, FourRowsOfEighteen, all, soundOwner, soundCounter, soundMarker, soundEntry, soundRow, soundTable, soundCounters}
 use Rattle.optional.proofs.Tests.{and-left, and-right}
-use Rattle.uplink.proofs.Basics.{not-both}
-use Rattle.uplink.proofs.SoundLaws.{sound-parts}
+use Rattle.uplink.specs.Uplink.{uplinkOf, soundUplink}
+use Rattle.uplink.proofs.Basics.{not-both, four}
+use Rattle.uplink.proofs.Everywhere.{all-at}
+use Rattle.uplink.proofs.SoundLaws.{sound-parts, SoundUplink, uplink-parts}
 use Rattle.sched_core.specs.declared.Station.{Station}
-use Rattle.sched_core.specs.Station.{tableOf}
+use Rattle.sched_core.specs.Station.{stationOf}
+use Rattle.sched_core.proofs.StationLaws.{sound-parts as sound-station}
 use Rattle.sched_core.specs.Questions.{soundCount, soundStation}
-use Rattle.sched_words.specs.Words.{wordOf8, wordOf32, optU8, optU32, joined, parts, sameWords, entryWords, entryFrom, rowWords, rowFrom, fourFrom, stationWords, stationRead, stationFrom, noStation}
+use Rattle.sched_words.specs.Words.{wordOf8, wordOf32, optU8, optU32, joined, parts, sameWords, entryWords, entryFrom, rowWords, rowFrom, fourFrom, tableFrom, stationWords, stationRead, stationFrom, noStation}
 use Rattle.sched_words.proofs.WordLaws.{length-joined}
 
 -- ---- words compared
@@ -124,63 +127,59 @@ every-map P Q f (x ∷ xs) h = (f x (h .0), every-map P Q f xs (h .1))
 
 -- the lengths of a station's arrays
 pub record Arrays (s : Station) : Type 0 where
-  pub table : FourRowsOfEighteen (tableOf s)
-  pub counters : length (s .«next_usage_marker») ≡ 4
-  pub counts : length (s .queued) ≡ 4
+  pub table : FourRowsOfEighteen (s .uplink .rows)
+  pub counters : length (s .uplink .«next_usage_marker») ≡ timeslots
+  pub counts : length (s .queued) ≡ timeslots
 
 module _ (s : Station) (sizes : Arrays s) (sound : soundStation s ≡ true) where
-  three : valid (s .time) && soundTable (tableOf s) && soundCounters (s .«next_usage_marker») ≡ true
-  unfolding soundStation
-  three = and-left (valid (s .time) && soundTable (tableOf s) && soundCounters (s .«next_usage_marker»)) (all soundCount (s .queued)) sound
+  abbrev judged : SoundUplink (s .uplink)
+  judged = uplink-parts (s .uplink) (sound-station s sound .uplink)
 
-  time-valid : Valid (s .time)
-  time-valid = true-valid (s .time) (and-left (valid (s .time)) (soundTable (tableOf s)) (and-left (valid (s .time) && soundTable (tableOf s)) (soundCounters (s .«next_usage_marker»)) three))
+  abbrev tb : Table
+  tb = s .uplink .rows
 
-  rows : Every (λ (row : List Entry). soundRow row ≡ true) (tableOf s)
-  rows =
-      every-all soundRow (tableOf s)
-      (and-right (valid (s .time)) (soundTable (tableOf s)) (and-left (valid (s .time) && soundTable (tableOf s)) (soundCounters (s .«next_usage_marker»)) three))
+  rows : (i : ℕ) → i < timeslots → soundRow (getD tb i []) ≡ true
+  rows i h = all-at soundRow tb i [] (omega (arith, sizes .table .rows)) (judged .table)
 
-  counters-small : Every (λ (x : ℕ). x < 256) (s .«next_usage_marker»)
+  counters-small : Every (λ (x : ℕ). x < 256) (s .uplink .«next_usage_marker»)
   counters-small =
       every-map (λ (x : ℕ). soundCounter x ≡ true) (λ (x : ℕ). x < 256) (λ x h. let k : x ≤ 62 = leb-true x 62 (and-right (leb 4 x) (leb x 62) h) in omega arith) _
-      (every-all soundCounter _ (and-right (valid (s .time) && soundTable (tableOf s)) (soundCounters (s .«next_usage_marker»)) three))
+      (every-all soundCounter _ (judged .counters))
 
   counts-small : Every (λ (x : ℕ). x < 256) (s .queued)
-  unfolding soundStation
   counts-small =
-      every-map (λ (x : ℕ). soundCount x ≡ true) (λ (x : ℕ). x < 256) (λ x h. let k : x ≤ 16 = leb-true x 16 h in omega arith) _
-      (every-all soundCount _ (and-right (valid (s .time) && soundTable (tableOf s) && soundCounters (s .«next_usage_marker»)) (all soundCount (s .queued)) sound))
+      every-map (λ (x : ℕ). soundCount x ≡ true) (λ (x : ℕ). x < 256) (λ x h. let k : x ≤ perTimeslot = leb-true x perTimeslot h in omega arith) _
+      (every-all soundCount _ (sound-station s sound .counts))
 
   abbrev r1 : List ℕ
-  r1 = rowWords (s .row1)
+  r1 = rowWords (getD tb 0 [])
 
   abbrev r2 : List ℕ
-  r2 = rowWords (s .row2)
+  r2 = rowWords (getD tb 1 [])
 
   abbrev r3 : List ℕ
-  r3 = rowWords (s .row3)
+  r3 = rowWords (getD tb 2 [])
 
   abbrev r4 : List ℕ
-  r4 = rowWords (s .row4)
+  r4 = rowWords (getD tb 3 [])
 
   abbrev c : List ℕ
-  c = s .«next_usage_marker»
+  c = s .uplink .«next_usage_marker»
 
   row-length : (row : List Entry) → length row ≡ 18 → length (rowWords row) ≡ 54
   row-length row e = length-joined entryWords 3 (λ x. refl) row ∙ omega (arith, e)
 
   l1 : length r1 ≡ 54
-  l1 = row-length (s .row1) (sizes .table .columns 0 (omega arith))
+  l1 = row-length (getD tb 0 []) (sizes .table .columns 0 (omega arith))
 
   l2 : length r2 ≡ 54
-  l2 = row-length (s .row2) (sizes .table .columns 1 (omega arith))
+  l2 = row-length (getD tb 1 []) (sizes .table .columns 1 (omega arith))
 
   l3 : length r3 ≡ 54
-  l3 = row-length (s .row3) (sizes .table .columns 2 (omega arith))
+  l3 = row-length (getD tb 2 []) (sizes .table .columns 2 (omega arith))
 
   l4 : length r4 ≡ 54
-  l4 = row-length (s .row4) (sizes .table .columns 3 (omega arith))
+  l4 = row-length (getD tb 3 []) (sizes .table .columns 3 (omega arith))
 
   -- the words from each row on
   abbrev from-c : List ℕ
@@ -214,19 +213,26 @@ module _ (s : Station) (sizes : Arrays s) (sound : soundStation s ≡ true) wher
   at-224 : drop 224 (stationWords s) ≡ s .queued ++ []
   at-224 = sym (drop-drop 4 220 (stationWords s)) ∙ ap (drop 4) at-220 ∙ drop-at c (s .queued) 4 (sizes .counters) ∙ sym (append-nil (s .queued))
 
+  table-back : tableFrom (stationWords s) ≡ tb
+  table-back =
+      (λ i.
+      (ap rowFrom at-4 ∙ row-back (getD tb 0 []) from-2 (sizes .table .columns 0 (omega arith)) (rows 0 (omega arith))) i
+      ∷ (ap rowFrom at-58 ∙ row-back (getD tb 1 []) from-3 (sizes .table .columns 1 (omega arith)) (rows 1 (omega arith))) i
+      ∷ (ap rowFrom at-112 ∙ row-back (getD tb 2 []) from-4 (sizes .table .columns 2 (omega arith)) (rows 2 (omega arith))) i
+      ∷ (ap rowFrom at-166 ∙ row-back (getD tb 3 []) from-c (sizes .table .columns 3 (omega arith)) (rows 3 (omega arith))) i
+      ∷ [])
+      ∙ four tb [] (sizes .table .rows)
+
   station-read-back : stationRead (stationWords s) ≡ s
   unfolding stationRead stationWords Every
   station-read-back =
-      let v = time-valid in
-      λ i. record {
-        time = record { t = small8 (s .time .t) (omega (arith, v .t-high)) i; f = small8 (s .time .f) (omega (arith, v .f-high)) i; m = small8 (s .time .m) (omega (arith, v .m-high)) i; h = small16 (s .time .h) (omega (arith, v .h-high)) i };
-        row1 = (ap rowFrom at-4 ∙ row-back (s .row1) from-2 (sizes .table .columns 0 (omega arith)) (rows .0)) i;
-        row2 = (ap rowFrom at-58 ∙ row-back (s .row2) from-3 (sizes .table .columns 1 (omega arith)) (rows .1 .0)) i;
-        row3 = (ap rowFrom at-112 ∙ row-back (s .row3) from-4 (sizes .table .columns 2 (omega arith)) (rows .1 .1 .0)) i;
-        row4 = (ap rowFrom at-166 ∙ row-back (s .row4) from-c (sizes .table .columns 3 (omega arith)) (rows .1 .1 .1 .0)) i;
-        «next_usage_marker» = (ap fourFrom at-220 ∙ four-back c (s .queued) (sizes .counters) counters-small) i;
-        queued = (ap fourFrom at-224 ∙ four-back (s .queued) [] (sizes .counts) counts-small) i;
-      }
+      let x = s .uplink .time in
+      let v = judged .time in
+      λ i. stationOf
+      (uplinkOf (record { t = small8 (x .t) (omega (arith, v .t-high)) i; f = small8 (x .f) (omega (arith, v .f-high)) i; m = small8 (x .m) (omega (arith, v .m-high)) i; h = small16 (x .h) (omega (arith, v .h-high)) i })
+      (table-back i)
+      ((ap fourFrom at-220 ∙ four-back c (s .queued) (sizes .counters) counters-small) i))
+      ((ap fourFrom at-224 ∙ four-back (s .queued) [] (sizes .counts) counts-small) i)
 
   -- a sound station is the one that its words stand for
   pub station-back : stationFrom (stationWords s) ≡ s
@@ -234,7 +240,7 @@ module _ (s : Station) (sizes : Arrays s) (sound : soundStation s ≡ true) wher
   station-back = read-back stationWords stationRead noStation s station-read-back
 
 unsound-none : soundStation noStation ≡ false
-unfolding soundStation valid
+unfolding soundStation soundUplink valid
 unsound-none = refl
 
 -- words that stand for a sound station are that station's words

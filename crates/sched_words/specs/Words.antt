@@ -6,12 +6,14 @@ use Prim.Native.Nat.{ℕ, zero, suc, _+_, _%_, _^_}
 use lib.Dec.{eqb}
 use lib.ListN.{length, getD, drop, replicate}
 use lib.Seq.{sets}
+use Rattle.sizes.specs.Sizes.{timeslots}
 use Rattle.optional.specs.declared.OptU8.{OptU8}
 use Rattle.optional.specs.declared.OptU16.{OptU16}
 use Rattle.optional.specs.declared.OptU32.{OptU32}
 use Rattle.tdma_time.specs.declared.TdmaTime.{TdmaTime}
 use Rattle.uplink.specs.declared.Entry.{Entry}
-use Rattle.uplink.specs.UplinkEntry.{emptyEntry}
+use Rattle.uplink.specs.UplinkEntry.{Table, emptyTable}
+use Rattle.uplink.specs.Uplink.{uplinkOf}
 use Rattle.mac_pdus.specs.declared.ChanAllocElement.{ChanAllocElement}
 use Rattle.mac_pdus.specs.declared.OptChanAlloc.{OptChanAlloc}
 use Rattle.dl_record.specs.declared.Kind.{Kind}
@@ -19,6 +21,7 @@ use Rattle.dl_record.specs.declared.QueuedHeader.{QueuedHeader}
 use Rattle.dl_record.specs.declared.Record.{Record}
 use Rattle.dl_record.specs.Record.{emptyHeader}
 use Rattle.sched_core.specs.declared.Station.{Station}
+use Rattle.sched_core.specs.Station.{stationOf}
 
 -- ---- one value
 
@@ -111,24 +114,19 @@ abbrev pub fourFrom : List ℕ → List ℕ
 fourFrom ws = wordAt ws 0 % 256 ∷ wordAt ws 1 % 256 ∷ wordAt ws 2 % 256 ∷ wordAt ws 3 % 256 ∷ []
 
 -- words 4 to 219: rows 1 to 4
-abbrev pub tableWords : Station → List ℕ
-tableWords s = rowWords (s .row1) ++ rowWords (s .row2) ++ rowWords (s .row3) ++ rowWords (s .row4)
+abbrev pub tableWords : Table → List ℕ
+tableWords tb = rowWords (getD tb 0 []) ++ rowWords (getD tb 1 []) ++ rowWords (getD tb 2 []) ++ rowWords (getD tb 3 [])
+
+abbrev pub tableFrom : List ℕ → Table
+tableFrom ws = rowFrom (drop 4 ws) ∷ rowFrom (drop 58 ws) ∷ rowFrom (drop 112 ws) ∷ rowFrom (drop 166 ws) ∷ []
 
 -- the time, the table, the counters of usage markers (from word 220), the numbers of records queued (from word 224)
 unfoldable pub stationWords : Station → List ℕ
-stationWords s = timeWords (s .time) ++ tableWords s ++ s .«next_usage_marker» ++ s .queued
+stationWords s =
+    timeWords (s .uplink .time) ++ tableWords (s .uplink .rows) ++ s .uplink .«next_usage_marker» ++ s .queued
 
 unfoldable pub stationRead : List ℕ → Station
-stationRead ws =
-    record {
-      time = timeFrom ws;
-      row1 = rowFrom (drop 4 ws);
-      row2 = rowFrom (drop 58 ws);
-      row3 = rowFrom (drop 112 ws);
-      row4 = rowFrom (drop 166 ws);
-      «next_usage_marker» = fourFrom (drop 220 ws);
-      queued = fourFrom (drop 224 ws);
-    }
+stationRead ws = stationOf (uplinkOf (timeFrom ws) (tableFrom ws) (fourFrom (drop 220 ws))) (fourFrom (drop 224 ws))
 
 -- ---- a record: 23 words
 
@@ -208,16 +206,7 @@ sameWords (v ∷ vs) (w ∷ ws) = eqb v w && sameWords vs ws
 
 -- a station that question 1 refuses: its timeslot is 0
 abbrev pub noStation : Station
-noStation =
-    record {
-      time = record { t = 0; f = 0; m = 0; h = 0 };
-      row1 = replicate 18 emptyEntry;
-      row2 = replicate 18 emptyEntry;
-      row3 = replicate 18 emptyEntry;
-      row4 = replicate 18 emptyEntry;
-      «next_usage_marker» = replicate 4 0;
-      queued = replicate 4 0;
-    }
+noStation = stationOf (uplinkOf (record { t = 0; f = 0; m = 0; h = 0 }) emptyTable (replicate timeslots 0)) (replicate timeslots 0)
 
 -- a record that no place may hold: its kind of address is none
 abbrev pub noRecord : Record

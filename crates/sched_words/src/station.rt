@@ -6,7 +6,7 @@ use uplink::Entry;
 ghost use mathlib.Core.Path.{_≡_};
 ghost use Prim.Native.Nat.{_+_, _≤_};
 ghost use lib.ListN.{length};
-ghost use Rattle.sched_words.specs.Words.{Stored, joined, parts, sameWords, timeWords, timeFrom, entryWords, entryFrom, rowWords, rowFrom, fourFrom, tableWords, stationWords, stationRead, stationFrom};
+ghost use Rattle.sched_words.specs.Words.{Stored, joined, parts, sameWords, timeWords, timeFrom, entryWords, entryFrom, rowWords, rowFrom, fourFrom, tableWords, tableFrom, stationWords, stationRead, stationFrom};
 ghost use Rattle.sched_words.specs.Front.{begins};
 
 fn time_from(words: &[u32]) -> TdmaTime
@@ -99,37 +99,41 @@ fn put_row(words: &mut [u32], at: usize, row: [Entry; 18])
     }
 }
 
+fn table_from(words: &[u32]) -> [[Entry; 18]; 4]
+    requires { ⌜ length (now words) ≡ 228 ⌝ }
+    ensures { λ r. ⌜ r ≡ tableFrom (now (words .entry)) ⌝ }
+{
+    let row1 = row_from(&words[4..]);
+    let row2 = row_from(&words[58..]);
+    let row3 = row_from(&words[112..]);
+    let row4 = row_from(&words[166..]);
+    [row1, row2, row3, row4]
+}
+
 fn station_read(words: &[u32]) -> Station
     requires { ⌜ length (now words) ≡ 228 ⌝ }
     ensures { λ r. ⌜ r ≡ stationRead (now (words .entry)) ⌝ }
 {
     let time = time_from(words);
-    let row1 = row_from(&words[4..]);
-    let row2 = row_from(&words[58..]);
-    let row3 = row_from(&words[112..]);
-    let row4 = row_from(&words[166..]);
+    let table = table_from(words);
     let next_usage_marker = four_from(&words[220..]);
     let queued = four_from(&words[224..]);
+    let u = uplink::uplink_of(time, table, next_usage_marker);
     Station {
-        time: time,
-        row1: row1,
-        row2: row2,
-        row3: row3,
-        row4: row4,
-        next_usage_marker: next_usage_marker,
+        uplink: u,
         queued: queued,
     }
 }
 
 // Stores the words of the four rows.
-fn put_table(words: &mut [u32], s: Station)
+fn put_table(words: &mut [u32], table: [[Entry; 18]; 4])
     requires { ⌜ length (now words) ≡ 228 ⌝ }
-    ensures { λ _. ⌜ Stored (now (words .entry)) 4 (now (words .exit)) (tableWords s) 216 ⌝ }
+    ensures { λ _. ⌜ Stored (now (words .entry)) 4 (now (words .exit)) (tableWords table) 216 ⌝ }
 {
-    let row1 = s.row1;
-    let row2 = s.row2;
-    let row3 = s.row3;
-    let row4 = s.row4;
+    let row1 = table[0];
+    let row2 = table[1];
+    let row3 = table[2];
+    let row4 = table[3];
     put_row(words, 4, row1);
     put_row(words, 58, row2);
     put_row(words, 112, row3);
@@ -141,14 +145,16 @@ pub fn put_station(words: &mut [u32], s: Station)
     requires { ⌜ length (now words) ≡ 228 ⌝ }
     ensures { λ _. ⌜ now (words .exit) ≡ stationWords s ⌝ }
 {
-    let time = s.time;
-    let counters = s.next_usage_marker;
+    let u = s.uplink;
+    let time = u.time;
+    let counters = u.next_usage_marker;
     let queued = s.queued;
+    let table = uplink::table_of(u);
     let a = time_words(time);
     let b = four_words(counters);
     let c = four_words(queued);
     word::put(words, 0, &a);
-    put_table(words, s);
+    put_table(words, table);
     word::put(words, 220, &b);
     word::put(words, 224, &c);
 }
