@@ -10,6 +10,7 @@ use Rattle.optional.proofs.OptU16.Laws as optional-OptU16-laws
 use Rattle.optional.proofs.OptU32.Laws as optional-OptU32-laws
 use Rattle.tdma_time.proofs.TdmaTime.Laws as tdma_time-TdmaTime-laws
 use Rattle.uplink.proofs.Entry.Laws as uplink-Entry-laws
+use Rattle.uplink.proofs.Uplink.Laws as uplink-Uplink-laws
 use Rattle.uplink.proofs.PhyBlockNum.Laws as uplink-PhyBlockNum-laws
 use Rattle.uplink.proofs.AccessAssignUlUsage.Laws as uplink-AccessAssignUlUsage-laws
 use Rattle.uplink.proofs.Opportunity.Laws as uplink-Opportunity-laws
@@ -84,6 +85,9 @@ tdma_time-TdmaTime = tdma_time-TdmaTime-laws.mir
 
 abbrev pub uplink-Entry : Ty
 uplink-Entry = uplink-Entry-laws.mir
+
+abbrev pub uplink-Uplink : Ty
+uplink-Uplink = uplink-Uplink-laws.mir
 
 abbrev pub uplink-PhyBlockNum : Ty
 uplink-PhyBlockNum = uplink-PhyBlockNum-laws.mir

@@ -23,7 +23,7 @@ use Rattle.questions.proofs.NumberLaws.{number-positive, number-no}
 use Rattle.sched_core.specs.Questions.{Memory, memory, soundStation, memoryQuestions, buildLent}
 use Rattle.sched_core.specs.Calls.{BuildOutcome, BuildAnswered, current, buildsNow, builtNow, blockBuilt, buildCall}
 use Rattle.sched_core.specs.Calls.{notBuilt as nothing}
-use Rattle.sched_core.proofs.StationLaws.{sound-parts}
+use Rattle.sched_core.proofs.StationLaws.{sound-time}
 use Rattle.enqueue_core.specs.Plan.{SoundQueue}
 use Rattle.build_core.proofs.BuildCallLaws.{all-yes}
 use Rattle.sched_words.specs.Words.{stationWords, stationFrom, queueWords, recordsRead, recordsFrom}
@@ -82,15 +82,15 @@ module _ (ws qs st block : List ℕ) (w228 : length ws ≡ 228) (s : Station) (e
         -- a block: the records of the current timeslot are stored
         pub build-built : buildsNow s ≡ true → (rs : List Record) → rs ≡ recordsRead qs → (d : BuildCoreAnswer) (st' block' : List ℕ)
             → BuildAnswered (buildCall (memory s rs st) block) d st' block' → (ws' qs' : List ℕ) → ws' ≡ stationWords (d .station)
-            → (f : ℕ) → f ≡ 16 * (s .time .t - 1) → qs' ≡ sets qs (23 * f) (queueWords (take 16 (drop f (d .records))))
+            → (f : ℕ) → f ≡ 16 * (s .uplink .time .t - 1) → qs' ≡ sets qs (23 * f) (queueWords (take 16 (drop f (d .records))))
             → buildLeft (record { refusal = 0; built = 1; «tag_count» = d .«tag_count»; tags = d .tags }) ws' qs' st' block' ≡ promised
         build-built can rs er d st' block' done ws' qs' ew f ef eq =
             let o = blockBuilt here (current s) (builtNow here) in
             let e : o ≡ buildCall m block = rw can at answered in
             let k : BuildAnswered o d st' block' =
             rw e (rw (sym es) (rw (er ∙ as-read ws qs st s es queue) at done)) in
-            let valid = sound-parts s good .time in
-            let now : timeslot (slotOf (s .time)) ≡ s .time .t = slotOf-timeslot (s .time) valid in
+            let valid = sound-time s good in
+            let now : timeslot (slotOf (s .uplink .time)) ≡ s .uplink .time .t = slotOf-timeslot (s .uplink .time) valid in
             let xs = recordsOf 16 (builtNow here .left) in
             let stored : qs' ≡ queueWords (o .memory .records) =
             eq

@@ -287,7 +287,7 @@ pub extern "C" fn bs_sched_build(
     let next = done.station;
     let after = done.records;
     let tags = done.tags;
-    let time = s.time;
+    let time = s.uplink.time;
     let t = (time.t - 1) as usize;
     sched_words::station::put_station(station, next);
     sched_words::queue::put_sixteen(queue, 16 * t, after);

@@ -8,7 +8,7 @@ use Rattle.sizes.specs.Sizes.{blockOctets}
 use Rattle.tdma_time.specs.Time.{Valid}
 use Rattle.sched_core.specs.Questions.{asksBlock}
 use Rattle.questions.proofs.AskLaws.{said-no, said-yes}
-use Rattle.sched_core.proofs.StationLaws.{sound-parts}
+use Rattle.sched_core.proofs.StationLaws.{sound-time}
 use Rattle.enqueue_core.proofs.PlanLaws.{Told}
 use Rattle.sched_words.specs.Words.{recordsFrom}
 use Rattle.bs_sched_c.specs.Exports.{builtLeft}
@@ -34,8 +34,8 @@ passed c = asked-yes _ _ _ _ _ (c .before .memory-number .ensures) (c .if2 .left
 width : (c : tie.Else2) → length (start (station (c .before)) .args .block .now) ≡ blockOctets
 width c = eqb-true _ _ (passed c .lengths)
 
-time : (c : tie.Else2) → Valid (station (c .before) .station-from .result .time)
-time c = sound-parts _ (passed c .station) .time
+time : (c : tie.Else2) → Valid (station (c .before) .station-from .result .uplink .time)
+time c = sound-time _ (passed c .station)
 
 returns : tie.Need-returns
 unfolding builtLeft

@@ -573,7 +573,7 @@ abbrev b34 : Syntax.Body
 b34 = Syntax.cond (Syntax.copy (Syntax.place 18 [])) b32 b33
 
 abbrev b35 : Syntax.Body
-b35 = Syntax.assign (Syntax.place 5 []) (Syntax.rvOpd (Syntax.copy (Syntax.place 1 ((Syntax.field 6) ∷ []))))
+b35 = Syntax.assign (Syntax.place 5 []) (Syntax.rvOpd (Syntax.copy (Syntax.place 1 ((Syntax.field 1) ∷ []))))
 
 abbrev b36 : Syntax.Body
 b36 = Syntax.assign (Syntax.place 6 []) (Syntax.rvOpd (Syntax.int Syntax.w64 0))
@@ -2019,7 +2019,7 @@ module _ (claims· : Claims) where
   s38 = λ bs. Scalar.n-room T36 18 Syntax.tyBool
 
   abbrev s39 : (bs : List.List Nat.ℕ) → Typed.Both T37 T45
-  s39 = λ bs. WayStmt.k-way-copy-out T37 (Row.out 1 (T37 .locals)) (λ u. Row.drop 1 (T37 .locals) u) 5 ρ6 (λ u. At.getAt (Station.the-type .parts) 6
+  s39 = λ bs. WayStmt.k-way-copy-out T37 (Row.out 1 (T37 .locals)) (λ u. Row.drop 1 (T37 .locals) u) 5 ρ6 (λ u. At.getAt (Station.the-type .parts) 1
       (Station.struct .as-values (u .1 .0))) (λ T′. record { locals = Row.setRow 1 ε75 T′; slots = [] }) (λ u T′ m′. Row.set 1 ε75 (u .1 .0) T′ m′) (λ
       u. Unit) λ u. Unit
 
@@ -4991,20 +4991,20 @@ module _ (claims· : Claims) where
           d195 = Typed.s-seq 𝓤 H A W 𝓣 E G37 G45 b35 b164 Δ0 (Typed.both (s39 bs)) (at194 bs) (WayStmt.t-way-copy-out 𝓤 H A W E 𝓣 (Array'.Array
               (Referent.rtF (Referent.fInt Syntax.w8)) 4) Path'.refl (Copies.cArr (Referent.rtF (Referent.fInt Syntax.w8)) (Copies.cRf (Referent.fInt
               Syntax.w8)) 4 .copy 𝓤 H A W) (λ ρ. Unit) G37 (Row.out 1 (G37 .locals)) (λ u. Row.drop 1 (G37 .locals) u) (G37 .slots) 1 (λ t.
-              ((Syntax.field 6) ∷ t)) τ2 τ2 5 ρ6 (λ x. x) (λ u. At.getAt (Station.the-type .parts) 6 (Station.struct .as-values (u .1 .0))) (λ u.
+              ((Syntax.field 1) ∷ t)) τ2 τ2 5 ρ6 (λ x. x) (λ u. At.getAt (Station.the-type .parts) 1 (Station.struct .as-values (u .1 .0))) (λ u.
               (Row.hd 0 (Row.tl bs), Nat._+_ 0 1452)) (λ T′. record { locals = Row.setRow 1 ε75 T′; slots = G37 .slots }) (λ u T′ m′. Row.set 1 ε75 (u
               .1 .0) T′ m′) (λ u. Unit) (λ x. Unit) (Own.told-none 𝓤 H A (G37 .slots)) (DerefMove.learns-nothing 𝓤 H A (Array'.Array (Referent.rtF
               (Referent.fInt Syntax.w8)) 4)) (λ ρ told u asked. Way'.w-partˢ 𝓤 H A W E (Declared'.row Station.the-type) (Array'.Array (Referent.rtF
-              (Referent.fInt Syntax.w8)) 4) mirs.sched_core-Station τ2 6 1452 (u .1 .0) (At.getAt (Station.the-type .parts) 6 (Station.struct
+              (Referent.fInt Syntax.w8)) 4) mirs.sched_core-Station τ2 1 1452 (u .1 .0) (At.getAt (Station.the-type .parts) 1 (Station.struct
               .as-values (u .1 .0))) (Row.hd 0 (Row.tl bs), 0) (Way.w-look 𝓤 H A W E (Way.w-local 𝓤 H A W E G37 ρ u (G37 .slots) 1 (Declared'.row
               Station.the-type) ρ5 (λ x. x) (λ x. x) (u .1 .0) (Local.mem-whole 𝓤 H A W (Declared'.row Station.the-type) ρ (u .1 .0) (Row.hd 0 (Row.tl
               bs))) (Local.whole-mem 𝓤 H A W (Declared'.row Station.the-type) ρ (u .1 .0) (Row.hd 0 (Row.tl bs))))) Path'.refl λ q. Items.cut-array 𝓤
               H A q (Declared'.row Station.the-type) (Referent.rtF (Referent.fInt Syntax.w8)) 4 1452 (u .1 .0) (u .1 .0) (At.getAt (Station.the-type
-              .parts) 6 (Station.struct .as-values (u .1 .0))) (At.getAt (Station.the-type .parts) 6 (Station.struct .as-values (u .1 .0))) (
+              .parts) 1 (Station.struct .as-values (u .1 .0))) (At.getAt (Station.the-type .parts) 1 (Station.struct .as-values (u .1 .0))) (
                 Row.hd 0
                     (Row.tl bs),
                 0,
-              ) (Behind.look-at 𝓤 H A W q Station.the-type Laws'.the-laws 6 1452 Path'.refl Path'.refl (Row.hd 0 (Row.tl bs), 0) (u .1
+              ) (Behind.look-at 𝓤 H A W q Station.the-type Laws'.the-laws 1 1452 Path'.refl Path'.refl (Row.hd 0 (Row.tl bs), 0) (u .1
               .0) (Station.struct .as-values (u .1 .0)) Path'.refl)) (Reads.room-gone 𝓤 H A τ2) (Yields.makes-mem 𝓤 H A W (λ ρ. Unit) (Array'.Array
               (Referent.rtF (Referent.fInt Syntax.w8)) 4) Path'.refl ρ6 (λ x. x) λ ρ told. Whole'.arr-mem 𝓤 H A W (Referent.rtF (Referent.fInt
               Syntax.w8)) 4 tt ρ) Path'.refl Path'.refl Path'.refl) d194
