@@ -10,7 +10,6 @@ use Rattle.tdma_time.specs.Time.{Valid, slotOf, clock}
 use Rattle.uplink.specs.HalfSlot.{Half}
 use Rattle.uplink.specs.declared.Entry.{Entry}
 use Rattle.uplink.specs.UplinkEntry.{entryAt, holder, tableView}
-use Rattle.sched_core.specs.Station.{tableOf}
 use Rattle.history.specs.Call.{Call, build, block}
 use Rattle.history.specs.UplinkModel.{modelEntry, takenBy}
 use Rattle.history.specs.Model.{modelStep, modelAt}
@@ -26,18 +25,18 @@ use Rattle.history.proofs.BlockGrants.{block-kept, block-listed, block-
 module _ (x : TdmaTime) (v : Valid x) where
   module _ (cs : List Call) (k : ℕ) (l : k < slotsAgreed) where
     abbrev slot : ℕ
-    slot = slotOf (memoryAt x cs .station .time) + k
+    slot = slotOf (memoryAt x cs .station .uplink .time) + k
 
     -- table and model agree on the entries of the 68 slots from now on
-    same-entry : entryAt (tableOf (memoryAt x cs .station)) slot ≡ modelEntry (modelAt x cs .uplink .taken) slot
+    same-entry : entryAt (memoryAt x cs .station .uplink .rows) slot ≡ modelEntry (modelAt x cs .uplink .taken) slot
     same-entry =
         let a = histories x v cs .same .uplink in
         rw (a .now) (a .matched .agree (modelAt x cs .uplink .now + k) (omega arith) (omega arith))
 
     table-standing : (h : Half) (w : ℕ)
-        → (tableView (tableOf (memoryAt x cs .station)) slot h ≡ OptU32.Of w) ↔ Standing x cs (record { time = clock slot; half = h }) w
+        → (tableView (memoryAt x cs .station .uplink .rows) slot h ≡ OptU32.Of w) ↔ Standing x cs (record { time = clock slot; half = h }) w
     table-standing h w =
-        let same : tableView (tableOf (memoryAt x cs .station)) slot h ≡ takenBy (modelAt x cs .uplink .taken) (clock slot) h =
+        let same : tableView (memoryAt x cs .station .uplink .rows) slot h ≡ takenBy (modelAt x cs .uplink .taken) (clock slot) h =
         ap (λ (e : Entry). holder e h) same-entry ∙ holder-entry (modelAt x cs .uplink .taken) slot h in
         (λ e. taken-standing x v cs _ h w (sym same ∙ e), λ s. same ∙ standing-taken x v cs _ w s)
 

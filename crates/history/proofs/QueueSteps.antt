@@ -36,9 +36,10 @@ use Rattle.questions.specs.Questions.{Question, ask}
 use Rattle.questions.proofs.AskLaws.{ask-both}
 use Rattle.sched_core.specs.declared.Reply as core
 use Rattle.sched_core.specs.declared.RequestReply.{RequestReply}
-use Rattle.sched_core.specs.Station.{tableOf, advancedStation}
-use Rattle.sched_core.specs.Questions.{Memory, memory, legalTimeslot, queuedFor, requestQuestions, ackQuestions, tmaQuestions}
-use Rattle.sched_core.specs.Calls.{Outcome, outcome, grantQueued, requestAnswered, requestCall, advanceCall, advanceMemory}
+use Rattle.sched_core.specs.Station.{advancedStation}
+use Rattle.sched_core.specs.Questions.{Memory, memory, isStationSound, areLengthsRight, isQueueSound, ask}
+use Rattle.sched_core.specs.Questions.{legalTimeslot, isTimeslotLegal, isRequirementLegal, isAddressLegal, isHeaderLegal, isSduPresent, isQueueOpen}
+use Rattle.sched_core.specs.Calls.{Outcome, outcome, grantQueued, requestAnswered, requestOutcome, requestCall, advanceCall, advanceMemory}
 use Rattle.sched_core.specs.Calls.{withRecord, withSdu, ackCall, tmaCall}
 use Rattle.sched_core.specs.Invariant.{SoundMemory}
 use Rattle.sched_core.proofs.QuestionLaws.{timeslot-range, sdu-range, memory-passes}
@@ -67,14 +68,14 @@ listsOf m = queuesOf (m .station .queued) (m .records) (m .store)
 
 -- the same time, counters, table and queues
 pub record Same (m : Memory) (b : Model) : Type 0 where
-  pub uplink : Alike (m .station .time) (m .station .«next_usage_marker») (tableOf (m .station)) (b .uplink)
+  pub uplink : Alike (m .station .uplink) (b .uplink)
   pub queues : Held (listsOf m) (b .queues)
 
 module _ (m : Memory) (b : Model) (k : SoundMemory m) (a : Same m b) where
   abbrev ns : List ℕ
   ns = m .station .queued
 
-  abbrev up : Alike (m .station .time) (m .station .«next_usage_marker») (tableOf (m .station)) (b .uplink)
+  abbrev up : Alike (m .station .uplink) (b .uplink)
   up = a .uplink
 
   pub places : length (m .records) ≡ perTimeslot * length ns
@@ -102,11 +103,9 @@ module _ (m : Memory) (b : Model) (k : SoundMemory m) (a : Same m b) where
   pub advance-agrees : Agree Same (memoryStep advance m) (modelStep advance b)
   unfolding memoryStep modelStep
   advance-agrees =
-      let next : TdmaTime = nextTime (m .station .time) in
-      let rows = four (cleared (tableOf (m .station)) next) [] (store-shape (tableOf (m .station)) _ emptyEntry (k .table) .rows) in
       rw advance-is
       (record {
-        after = record { uplink = rw rows (advance-alike _ _ _ _ up); queues = a .queues };
+        after = record { uplink = advance-alike _ _ up; queues = a .queues };
         reply = refl;
       })
 
@@ -151,7 +150,7 @@ module _ (m : Memory) (b : Model) (k : SoundMemory m) (a : Same m b) where
 
     -- what the search answers
     abbrev given : CapAnswer
-    given = answer (tableOf (m .station)) (m .station .«next_usage_marker») (m .station .time) (asked c)
+    given = answer (m .station .uplink) (asked c)
 
     abbrev answeredAs : CapReply → Outcome RequestReply
     answeredAs x = grantQueued m (c .timeslot) (c .kind) (c .number) given x
@@ -165,13 +164,13 @@ module _ (m : Memory) (b : Model) (k : SoundMemory m) (a : Same m b) where
     answered-agrees legal fits noRun e = record { after = stays; reply = refl }
     answered-agrees legal fits tooLate e = record { after = stays; reply = refl }
     answered-agrees legal fits (grant g) e =
-        record { after = record { uplink = grant-alike _ _ _ _ up (asked c) g e; queues = bare-joins (c .timeslot) legal fits _ _ refl }; reply = refl }
+        record { after = record { uplink = grant-alike _ _ up (asked c) g e; queues = bare-joins (c .timeslot) legal fits _ _ refl }; reply = refl }
 
     searched : legalTimeslot (c .timeslot) ≡ true → ltb queued perTimeslot ≡ true
         → Agree Same (answered requestReply (answeredAs (given .reply))) (requested c (modelVerdict (b .uplink) (asked c)) b)
     searched legal fits =
         subst (λ (r : CapReply). Agree Same (answered requestReply (answeredAs r)) (requested c (modelVerdict (b .uplink) (asked c)) b))
-        (sym (answer-reply _ _ _ _ up (asked c) (modelVerdict (b .uplink) (asked c)) refl)) (answered-agrees legal fits _ refl)
+        (sym (answer-reply _ _ up (asked c) (modelVerdict (b .uplink) (asked c)) refl)) (answered-agrees legal fits _ refl)
 
     -- its own questions decide, and the book counts what the station counts
     request-asks : requestCall m (c .timeslot) (c .code) (c .kind) (c .number) ≡ ask (requestAsked c b) (answeredAs (given .reply)) no

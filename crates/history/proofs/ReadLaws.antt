@@ -14,8 +14,7 @@ use Rattle.questions.specs.declared.Refusal.{Refusal}
 use Rattle.questions.specs.Questions.{refusalNumber, ask}
 use Rattle.sched_core.specs.declared.OwnerReply.{OwnerReply}
 use Rattle.sched_core.specs.declared.UsageReply.{UsageReply}
-use Rattle.sched_core.specs.Station.{tableOf}
-use Rattle.sched_core.specs.Questions.{Memory, soundStation, timeQuestions}
+use Rattle.sched_core.specs.Questions.{Memory, soundStation, ask}
 use Rattle.sched_core.specs.Calls.{ownerCall, usageCall}
 use Rattle.history.specs.Call.{Query, owner, usage, timeRead, read, done, refused, stepped, unlessRefused}
 use Rattle.history.specs.Memory.{ownerReply, usageReply, memoryStep}
@@ -30,24 +29,24 @@ read-agrees R (owner x half) m s h e = rw e (go (valid x))
   where
     go : (b : Bool)
         → Agree R
-        (stepped m (ownerReply (cond b (OwnerReply.Owner (ownerOf half (entryAt (tableOf (m .station)) (slotOf x)))) (OwnerReply.Refused Refusal.Unsound))))
-        (cond b (stepped s done) (stepped s (refused (refusalNumber Refusal.Unsound))))
+        (stepped m (ownerReply (cond b (OwnerReply.Owner (ownerOf half (entryAt (m .station .uplink .rows) (slotOf x)))) (OwnerReply.Refused Refusal.Unsound))))
+        (cond (eqb (cond b 0 1) 0) (stepped s done) (stepped s (refused (cond b 0 1))))
     go true = record { after = h; reply = refl }
     go false = record { after = h; reply = refl }
 read-agrees R (usage x) m s h e = rw e (go (valid x))
   where
     go : (b : Bool)
         → Agree R
-        (stepped m (usageReply (cond b (UsageReply.Usage (usageOf (entryAt (tableOf (m .station)) (slotOf x)))) (UsageReply.Refused Refusal.Unsound))))
-        (cond b (stepped s done) (stepped s (refused (refusalNumber Refusal.Unsound))))
+        (stepped m (usageReply (cond b (UsageReply.Usage (usageOf (entryAt (m .station .uplink .rows) (slotOf x)))) (UsageReply.Refused Refusal.Unsound))))
+        (cond (eqb (cond b 0 1) 0) (stepped s done) (stepped s (refused (cond b 0 1))))
     go true = record { after = h; reply = refl }
     go false = record { after = h; reply = refl }
 
 -- ---- what they answer
 
-module _ (s : Station) (sound : soundStation s ≡ true) (c : ℕ) (e : Entry) (same : entryAt (tableOf s) c ≡ e) where
-  entry-read : entryAt (tableOf s) (slotOf (timeOf c)) ≡ e
-  entry-read = entry-clock (tableOf s) (slotOf (timeOf c)) c (ap clock (slotOf-timeOf c) ∙ omega arith) ∙ same
+module _ (s : Station) (sound : soundStation s ≡ true) (c : ℕ) (e : Entry) (same : entryAt (s .uplink .rows) c ≡ e) where
+  entry-read : entryAt (s .uplink .rows) (slotOf (timeOf c)) ≡ e
+  entry-read = entry-clock (s .uplink .rows) (slotOf (timeOf c)) c (ap clock (slotOf-timeOf c) ∙ omega arith) ∙ same
 
   pub owner-shown : (half : PhyBlockNum) → ownerCall s (timeOf c) half ≡ OwnerReply.Owner (ownerOf half e)
   unfolding ownerCall ask

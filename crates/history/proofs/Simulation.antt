@@ -1,32 +1,41 @@
 -- The station's uplink (time, counters, table) and that of the reference model stay alike through an advance and a grant, and answer alike.
 -- Assumes nothing.
 use mathlib.Core.Path.{_≡_, refl, ap, _∙_}
-use mathlib.Core.List.{List, [], _∷_}
+use mathlib.Core.List.{List}
 use Prim.Native.Nat.{ℕ, _+_, _<_}
 use native.Mathlib.Omega.{arith}
 use Rattle.tdma_time.specs.declared.TdmaTime.{TdmaTime}
 use Rattle.tdma_time.specs.Time.{Valid, cycle, slotOf, clock, nextTime}
 use Rattle.tdma_time.proofs.TimeLaws.{slotOf-timeOf, timeOf-valid, slotOf-below}
 use Rattle.uplink.specs.declared.CapAnswer.{CapAnswer}
+use Rattle.uplink.specs.declared.Uplink.{Uplink}
 use Rattle.uplink.specs.Search.{Run}
-use Rattle.uplink.specs.UplinkEntry.{Table, emptyTable, tableView, cleared}
+use Rattle.uplink.specs.UplinkEntry.{Table, tableView}
+use Rattle.uplink.specs.Uplink.{newUplink as new, advancedUplink as advanced}
 use Rattle.uplink.specs.Request.{Request, Verdict, noRun, tooLate, grant, verdict, capacity, reservedBy, markerOf, markersAfter, replyTo, tableAfter}
-use Rattle.uplink.specs.Request.{countersAfter, tableOf, given, answer}
-use Rattle.uplink.proofs.Basics.{four}
-use Rattle.uplink.proofs.ReserveLaws.{reserve-shape}
+use Rattle.uplink.specs.Request.{countersAfter, given, answer}
 use Rattle.uplink.proofs.RequestLaws.{wanted-pos}
 use Rattle.uplink.proofs.VerdictLaws.{AgreeFrom, Granted, verdict-grant, granted-near, granted-length, verdict-agree, capacity-agree}
 use Rattle.history.specs.UplinkModel.{UplinkModel, newUplink, takeHalves, modelView, modelVerdict, advancedUplink, takenFor}
 use Rattle.history.proofs.Match.{Matched, same-halves, halves-some, reserve-matched, advance-matched, new-matched}
 
 -- time, counters and table are those of the model's uplink
-pub record Alike (x : TdmaTime) (ms : List ℕ) (tb : Table) (u : UplinkModel) : Type 0 where
-  pub valid : Valid x
-  pub now : slotOf x ≡ u .now
-  pub markers : ms ≡ u .markers
-  pub matched : Matched (u .now) tb (u .taken)
+pub record Alike (s : Uplink) (u : UplinkModel) : Type 0 where
+  pub valid : Valid (s .time)
+  pub now : slotOf (s .time) ≡ u .now
+  pub markers : s .«next_usage_marker» ≡ u .markers
+  pub matched : Matched (u .now) (s .rows) (u .taken)
 
-module _ (x : TdmaTime) (ms : List ℕ) (tb : Table) (u : UplinkModel) (a : Alike x ms tb u) where
+module _ (s : Uplink) (u : UplinkModel) (a : Alike s u) where
+  abbrev x : TdmaTime
+  x = s .time
+
+  abbrev ms : List ℕ
+  ms = s .«next_usage_marker»
+
+  abbrev tb : Table
+  tb = s .rows
+
   below-cycle : u .now < cycle
   below-cycle = rw (← a .now) (slotOf-below x (a .valid))
 
@@ -60,32 +69,27 @@ module _ (x : TdmaTime) (ms : List ℕ) (tb : Table) (u : UplinkModel) (a : Alik
       (reserve-matched (u .now) _ (halves-some _) (r .number) (markerOf ms r) (g .slots)
       (granted-near (modelView (u .taken)) (u .now) r g (verdict-grant (modelView (u .taken)) (u .now) r g e)) _ _ (a .matched))
 
-  answer-is : (r : Request) (w : Verdict) → modelVerdict u r ≡ w → answer tb ms x r ≡ given tb ms r w
+  answer-is : (r : Request) (w : Verdict) → modelVerdict u r ≡ w → answer s r ≡ given s r w
   unfolding answer
-  answer-is r w e = ap (given tb ms r) (same-verdict r ∙ e)
-
-  -- the rows that an answer holds are the table
-  given-table : (r : Request) (g : Run) → tableOf (given tb ms r (grant g)) ≡ tableAfter tb ms r (grant g)
-  unfolding given tableAfter
-  given-table r g = four (tableAfter tb ms r (grant g)) [] (reserve-shape _ (r .number) _ (g .slots) tb (a .matched .shape) .rows)
+  answer-is r w e = ap (given s r) (same-verdict r ∙ e)
 
   pub grant-alike : (r : Request) (g : Run) → modelVerdict u r ≡ grant g
-      → Alike x (answer tb ms x r .«next_usage_marker») (tableOf (answer tb ms x r)) (takenFor r g u)
+      → Alike (answer s r .uplink) (takenFor r g u)
   unfolding given takenFor countersAfter
   grant-alike r g e =
-      record {
+      rw (answer-is r (grant g) e)
+      (record {
         valid = a .valid;
         now = a .now;
-        markers =
-            ap (λ (y : CapAnswer). y .«next_usage_marker») (answer-is r (grant g) e) ∙ ap (λ (l : List ℕ). markersAfter l r) (a .markers);
-        matched = rw (ap tableOf (answer-is r (grant g) e) ∙ given-table r g) (after-matched r g e);
-      }
+        markers = ap (λ (l : List ℕ). markersAfter l r) (a .markers);
+        matched = after-matched r g e;
+      })
 
-  pub answer-reply : (r : Request) (w : Verdict) → modelVerdict u r ≡ w → answer tb ms x r .reply ≡ replyTo (modelView (u .taken)) (u .markers) r w
+  pub answer-reply : (r : Request) (w : Verdict) → modelVerdict u r ≡ w → answer s r .reply ≡ replyTo (modelView (u .taken)) (u .markers) r w
   unfolding given
   answer-reply r w e = ap (λ (y : CapAnswer). y .reply) (answer-is r w e) ∙ same-reply r w e
 
-  pub advance-alike : Alike (nextTime x) ms (cleared tb (nextTime x)) (advancedUplink u)
+  pub advance-alike : Alike (advanced s) (advancedUplink u)
   unfolding advancedUplink
   advance-alike =
       let next : slotOf (nextTime x) ≡ clock (u .now + 1) = slotOf-timeOf (slotOf x + 1) ∙ ap (λ (n : ℕ). clock (n + 1)) (a .now) in
@@ -96,6 +100,6 @@ module _ (x : TdmaTime) (ms : List ℕ) (tb : Table) (u : UplinkModel) (a : Alik
         matched = rw next (advance-matched (u .now) tb (u .taken) below-cycle (a .matched));
       }
 
-pub new-alike : (x : TdmaTime) → Valid x → Alike x (4 ∷ 4 ∷ 4 ∷ 4 ∷ []) emptyTable (newUplink x)
+pub new-alike : (x : TdmaTime) → Valid x → Alike (new x) (newUplink x)
 unfolding newUplink
 new-alike x v = record { valid = v; now = refl; markers = refl; matched = new-matched (slotOf x) }

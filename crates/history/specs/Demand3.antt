@@ -27,7 +27,6 @@ use Rattle.mac_reader.specs.Reader.{headers, noHeader, replyOf, readBlock}
 use Rattle.dl_queue.specs.Queue.{Item}
 use Rattle.sched_core.specs.declared.OwnerReply.{OwnerReply}
 use Rattle.sched_core.specs.declared.UsageReply.{UsageReply}
-use Rattle.sched_core.specs.Station.{tableOf}
 use Rattle.sched_core.specs.Calls.{ownerCall, usageCall}
 use Rattle.sched_core.specs.Invariant.{SoundMemory}
 use Rattle.history.specs.Call.{CapacityRequest, Call, advance, request, enqueueAck, enqueueRecord, build, read, granted, block}
@@ -141,15 +140,15 @@ pub record Demand3 (x : TdmaTime) (cs : List Call) : Type 0 where
       → List·Memᴰ y (reserved a′ (modelAt x (before ++ request a ∷ between))) → ⊥
   -- in the 68 slots from now on the table has taken exactly the half-slots reserved and not passed, each under its request's number
   pub table : (k : ℕ) → k < slotsAgreed → (h : Half) (w : ℕ)
-      → (tableView (tableOf (memoryAt x cs .station)) (slotOf (memoryAt x cs .station .time) + k) h ≡ OptU32.Of w)
-      ↔ Standing x cs (record { time = clock (slotOf (memoryAt x cs .station .time) + k); half = h }) w
+      → (tableView (memoryAt x cs .station .uplink .rows) (slotOf (memoryAt x cs .station .uplink .time) + k) h ≡ OptU32.Of w)
+      ↔ Standing x cs (record { time = clock (slotOf (memoryAt x cs .station .uplink .time) + k); half = h }) w
   -- asked for a time in these 68 slots, owner call and usage call answer as the model has the slot's halves taken, with the marker that their request
   -- drew or none
   pub owners : (k : ℕ) → k < slotsAgreed → (half : PhyBlockNum)
-      → let c = slotOf (memoryAt x cs .station .time) + k in
+      → let c = slotOf (memoryAt x cs .station .uplink .time) + k in
       ownerCall (memoryAt x cs .station) (timeOf c) half ≡ OwnerReply.Owner (ownerOf half (modelEntry (modelAt x cs .uplink .taken) c))
   pub usages : (k : ℕ) → k < slotsAgreed
-      → let c = slotOf (memoryAt x cs .station .time) + k in
+      → let c = slotOf (memoryAt x cs .station .uplink .time) + k in
       usageCall (memoryAt x cs .station) (timeOf c) ≡ UsageReply.Usage (usageOf (modelEntry (modelAt x cs .uplink .taken) c))
   -- what the code holds is sound: question 1 is never answered no
   pub sound : SoundMemory (memoryAt x cs)

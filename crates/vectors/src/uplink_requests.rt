@@ -1,34 +1,36 @@
 // Document 01, "Request and grant" and "Uplink entry": requests one after the other, and what the table then shows.
 use optional::OptU8;
 use optional::OptU32;
+use reservation_requirement::RequirementRead;
+use reservation_requirement::ReservationRequirement;
 use tdma_time::TdmaTime;
 use uplink::AccessAssignUlUsage;
-use uplink::CapAnswer;
 use uplink::CapReply;
 use uplink::Entry;
 use uplink::PhyBlockNum;
+use uplink::Uplink;
 ghost use Prim.Native.Nat.{_≤_};
 ghost use Rattle.tdma_time.specs.Time.{Valid};
 
-// An empty table, with the counters at `marker`; its reply means nothing.
-fn new(marker: u8) -> CapAnswer {
-    CapAnswer {
-        reply: CapReply::NoRun,
-        row1: [Entry::EMPTY; 18],
-        row2: [Entry::EMPTY; 18],
-        row3: [Entry::EMPTY; 18],
-        row4: [Entry::EMPTY; 18],
-        next_usage_marker: [marker; 4],
-    }
+// An uplink with an empty table and the counters at `marker`.
+fn new(marker: u8) -> Uplink {
+    let first = TdmaTime {
+        t: 1,
+        f: 1,
+        m: 1,
+        h: 0,
+    };
+    uplink::uplink_of(first, [[Entry::EMPTY; 18]; 4], [marker; 4])
 }
 
-// The table that an answer leaves.
-fn table_of(a: CapAnswer) -> [[Entry; 18]; 4] {
-    let row1 = a.row1;
-    let row2 = a.row2;
-    let row3 = a.row3;
-    let row4 = a.row4;
-    [row1, row2, row3, row4]
+// The same uplink at another time.
+fn at(u: Uplink, now: TdmaTime) -> Uplink
+    requires { ⌜ Valid now ⌝ }
+    ensures { λ r. ⌜ Valid (r .time) ⌝ }
+{
+    let mut v = u;
+    v.time = now;
+    v
 }
 
 // A marker, or 0.
@@ -57,14 +59,11 @@ fn reply(r: CapReply) {
     }
 }
 
-// A request on what an answer leaves, and its own answer.
-fn request(before: CapAnswer, now: TdmaTime, timeslot: u8, code: u8, number: u32) -> CapAnswer
+// A request at a time, and the uplink after it.
+fn request(before: Uplink, now: TdmaTime, timeslot: u8, code: u8, number: u32) -> Uplink
     requires { ⌜ Valid now ⌝ }
     requires { ⌜ (1 ≤ timeslot) × (timeslot ≤ 4) ⌝ }
 {
-    let counters = before.next_usage_marker;
-    let a = ul_grant::ul_process_cap_req(table_of(before), counters, now, timeslot, code, number);
-    let said = a.reply;
     show::word(b"request at");
     show::number(now.h as u64);
     show::number(now.m as u64);
@@ -75,9 +74,17 @@ fn request(before: CapAnswer, now: TdmaTime, timeslot: u8, code: u8, number: u32
     show::word(b" code");
     show::number(code as u64);
     show::word(b":");
+    let read = ReservationRequirement::try_from(code);
+    let RequirementRead::Of(requirement) = read else {
+        show::end();
+        return before;
+    };
+    let u = at(before, now);
+    let a = ul_grant::ul_process_cap_req(u, timeslot, requirement, number);
+    let said = a.reply;
     reply(said);
     show::end();
-    a
+    a.uplink
 }
 
 // An owner, or -.
@@ -89,17 +96,17 @@ fn owner(o: OptU32) {
 }
 
 // The owners of the first half, the second and both, and the usage.
-fn entry(table: [[Entry; 18]; 4], at: TdmaTime)
-    requires { ⌜ Valid at ⌝ }
+fn entry(u: Uplink, ts: TdmaTime)
+    requires { ⌜ Valid ts ⌝ }
 {
     show::word(b"entry of frame");
-    show::number(at.f as u64);
+    show::number(ts.f as u64);
     show::word(b": owners");
-    owner(uplink::ul_get_slot_owner(table, at, PhyBlockNum::Block1));
-    owner(uplink::ul_get_slot_owner(table, at, PhyBlockNum::Block2));
-    owner(uplink::ul_get_slot_owner(table, at, PhyBlockNum::Both));
+    owner(uplink::ul_get_slot_owner(u, ts, PhyBlockNum::Block1));
+    owner(uplink::ul_get_slot_owner(u, ts, PhyBlockNum::Block2));
+    owner(uplink::ul_get_slot_owner(u, ts, PhyBlockNum::Both));
     show::word(b" usage");
-    let usage = uplink::ul_get_usage(table, at);
+    let usage = uplink::ul_get_usage(u, ts);
     match usage {
         AccessAssignUlUsage::CommonOnly => show::number(0),
         AccessAssignUlUsage::CommonAndAssigned => show::number(1),
@@ -123,16 +130,16 @@ fn halves() {
     let a = request(new(4), now, 1, 0, 100);
     let b = request(a, now, 1, 0, 200);
     let c = request(b, now, 1, 0, 300);
-    entry(table_of(c), now);
+    entry(c, now);
     let later = TdmaTime {
         t: 1,
         f: 2,
         m: 1,
         h: 0,
     };
-    entry(table_of(c), later);
+    entry(c, later);
     let d = request(c, now, 1, 1, 400);
-    entry(table_of(d), later);
+    entry(d, later);
 }
 
 // More than 13 usable slots before the run, and no run.
@@ -155,7 +162,7 @@ fn refusals() {
         m: 1,
         h: 0,
     };
-    entry(table_of(f), frame1);
+    entry(f, frame1);
 }
 
 // Over the end of a multiframe, and over the end of the last hyperframe.
@@ -173,7 +180,7 @@ fn wraps() {
         m: 6,
         h: 7,
     };
-    entry(table_of(a), frame3);
+    entry(a, frame3);
     let last = TdmaTime {
         t: 4,
         f: 17,
@@ -187,17 +194,14 @@ fn wraps() {
         m: 1,
         h: 0,
     };
-    entry(table_of(b), frame1);
-    let next = TdmaTime {
-        t: 4,
+    entry(b, frame1);
+    let before = TdmaTime {
+        t: 3,
         f: 2,
         m: 1,
         h: 0,
     };
-    entry(
-        uplink::clear_ul_schedule_for_tx_time(table_of(b), next),
-        frame1,
-    );
+    entry(uplink::advanced(at(b, before)), frame1);
 }
 
 pub fn run() {
