@@ -64,6 +64,13 @@ fn request(before: Uplink, now: TdmaTime, timeslot: u8, code: u8, number: u32) -
     requires { ⌜ Valid now ⌝ }
     requires { ⌜ (1 ≤ timeslot) × (timeslot ≤ 4) ⌝ }
 {
+    let read = ReservationRequirement::try_from(code);
+    let RequirementRead::Of(requirement) = read else {
+        return before;
+    };
+    let u = at(before, now);
+    let a = ul_grant::ul_process_cap_req(u, timeslot, requirement, number);
+    let said = a.reply;
     show::word(b"request at");
     show::number(now.h as u64);
     show::number(now.m as u64);
@@ -74,14 +81,6 @@ fn request(before: Uplink, now: TdmaTime, timeslot: u8, code: u8, number: u32) -
     show::word(b" code");
     show::number(code as u64);
     show::word(b":");
-    let read = ReservationRequirement::try_from(code);
-    let RequirementRead::Of(requirement) = read else {
-        show::end();
-        return before;
-    };
-    let u = at(before, now);
-    let a = ul_grant::ul_process_cap_req(u, timeslot, requirement, number);
-    let said = a.reply;
     reply(said);
     show::end();
     a.uplink
