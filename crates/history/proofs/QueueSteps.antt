@@ -1,28 +1,23 @@
 -- Memory and reference model hold the same (`Same`), and an advance, a request, an ack and a record keep it so and reply alike. Assumes nothing.
 use mathlib.Core.Path.{_≡_, refl, sym, ap, subst, _∙_}
-use mathlib.Core.Bool.{Bool, true, cond}
-use mathlib.Core.List.{List, [], _∷_}
+use mathlib.Core.Bool.{Bool, true}
+use mathlib.Core.List.{List, []}
 use Prim.Native.Nat.{ℕ, _-_, _*_, _<_}
 use native.Mathlib.Omega.{arith}
-use lib.Dec.{leb, ltb}
+use lib.Dec.{ltb}
 use lib.ListN.{length, getD, take, List·getD-map}
 use lib.Seq.{take-at, length-take-le}
 use borrow.Author.Tests.{ltb-true}
 use Rattle.sizes.specs.Sizes.{perTimeslot, cellOctets, timeslotOctets}
 use Rattle.bitbuffer.specs.Bits.{bitsOf}
 use Rattle.bitbuffer.proofs.Laws.{length-bitsOf}
-use Rattle.tdma_time.specs.declared.TdmaTime.{TdmaTime}
-use Rattle.tdma_time.specs.Time.{nextTime, timeslot}
+use Rattle.tdma_time.specs.Time.{timeslot}
 use Rattle.uplink.specs.declared.CapAnswer.{CapAnswer}
 use Rattle.uplink.specs.declared.CapReply.{CapReply}
-use Rattle.uplink.specs.UplinkEntry.{cleared, emptyEntry}
 use Rattle.uplink.specs.Request.{Verdict, noRun, tooLate, grant, replyTo, answer}
-use Rattle.uplink.proofs.Basics.{four}
-use Rattle.uplink.proofs.TableLaws.{store-shape}
-use Rattle.mac_pdus.specs.Legal.{legalOffered}
 use Rattle.dl_record.specs.declared.Record.{Record}
-use Rattle.dl_record.specs.Record.{ackRecord, resourceOf}
-use Rattle.dl_record.specs.Questions.{legalAddress, presentSdu}
+use Rattle.dl_record.specs.Record.{ackRecord}
+use Rattle.dl_record.specs.Questions.{presentSdu}
 use Rattle.sdu_store.specs.Cells.{cellOf}
 use Rattle.sdu_store.proofs.CellBits.{length-cellOf, bits-cellOf}
 use Rattle.dl_queue.specs.Queue.{item, zeroCell, queuesOf, enqueued, withCell}
@@ -37,15 +32,14 @@ use Rattle.questions.proofs.AskLaws.{ask-both}
 use Rattle.sched_core.specs.declared.Reply as core
 use Rattle.sched_core.specs.declared.RequestReply.{RequestReply}
 use Rattle.sched_core.specs.Station.{advancedStation}
-use Rattle.sched_core.specs.Questions.{Memory, memory, isStationSound, areLengthsRight, isQueueSound, ask}
-use Rattle.sched_core.specs.Questions.{legalTimeslot, isTimeslotLegal, isRequirementLegal, isAddressLegal, isHeaderLegal, isSduPresent, isQueueOpen}
-use Rattle.sched_core.specs.Calls.{Outcome, outcome, grantQueued, requestAnswered, requestOutcome, requestCall, advanceCall, advanceMemory}
+use Rattle.sched_core.specs.Questions.{Memory, memory, legalTimeslot, queuedFor, requestQuestions, ackQuestions, tmaQuestions}
+use Rattle.sched_core.specs.Calls.{Outcome, outcome, grantQueued, requestAnswered, requestCall, advanceCall, advanceMemory}
 use Rattle.sched_core.specs.Calls.{withRecord, withSdu, ackCall, tmaCall}
 use Rattle.sched_core.specs.Invariant.{SoundMemory}
 use Rattle.sched_core.proofs.QuestionLaws.{timeslot-range, sdu-range, memory-passes}
 use Rattle.sched_core.proofs.KeptLaws.{sound-yes}
 use Rattle.history.specs.Call.{CapacityRequest, asked, AckOffer, RecordOffer, recordOf, advance, request, enqueueAck, enqueueRecord}
-use Rattle.history.specs.Call.{done, refused, Stepped, stepped, unlessRefused}
+use Rattle.history.specs.Call.{done, Stepped, unlessRefused}
 use Rattle.history.specs.Queues.{Queues, queuedAt, appended}
 use Rattle.history.specs.UplinkModel.{modelView, modelVerdict}
 use Rattle.history.specs.Model.{NamedSdu, Model, became, bare, ofSdu, counted, requestAsked, requested, modelStep}

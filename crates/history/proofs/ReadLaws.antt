@@ -14,7 +14,7 @@ use Rattle.questions.specs.declared.Refusal.{Refusal}
 use Rattle.questions.specs.Questions.{refusalNumber, ask}
 use Rattle.sched_core.specs.declared.OwnerReply.{OwnerReply}
 use Rattle.sched_core.specs.declared.UsageReply.{UsageReply}
-use Rattle.sched_core.specs.Questions.{Memory, soundStation, ask}
+use Rattle.sched_core.specs.Questions.{Memory, soundStation, timeQuestions}
 use Rattle.sched_core.specs.Calls.{ownerCall, usageCall}
 use Rattle.history.specs.Call.{Query, owner, usage, timeRead, read, done, refused, stepped, unlessRefused}
 use Rattle.history.specs.Memory.{ownerReply, usageReply, memoryStep}
@@ -30,7 +30,7 @@ read-agrees R (owner x half) m s h e = rw e (go (valid x))
     go : (b : Bool)
         → Agree R
         (stepped m (ownerReply (cond b (OwnerReply.Owner (ownerOf half (entryAt (m .station .uplink .rows) (slotOf x)))) (OwnerReply.Refused Refusal.Unsound))))
-        (cond (eqb (cond b 0 1) 0) (stepped s done) (stepped s (refused (cond b 0 1))))
+        (cond b (stepped s done) (stepped s (refused (refusalNumber Refusal.Unsound))))
     go true = record { after = h; reply = refl }
     go false = record { after = h; reply = refl }
 read-agrees R (usage x) m s h e = rw e (go (valid x))
@@ -38,7 +38,7 @@ read-agrees R (usage x) m s h e = rw e (go (valid x))
     go : (b : Bool)
         → Agree R
         (stepped m (usageReply (cond b (UsageReply.Usage (usageOf (entryAt (m .station .uplink .rows) (slotOf x)))) (UsageReply.Refused Refusal.Unsound))))
-        (cond (eqb (cond b 0 1) 0) (stepped s done) (stepped s (refused (cond b 0 1))))
+        (cond b (stepped s done) (stepped s (refused (refusalNumber Refusal.Unsound))))
     go true = record { after = h; reply = refl }
     go false = record { after = h; reply = refl }
 

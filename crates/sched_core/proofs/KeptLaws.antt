@@ -164,7 +164,7 @@ empty-queue-sound k a b ea eb = queue-all (zeros k) (replicate a emptyRecord) (z
 pub new-sound : (x : TdmaTime) → Valid x → SoundMemory (newMemory x)
 unfolding newMemory
 new-sound x h =
-    parts-memory (newUplink x) (zeros 4) (replicate 64 emptyRecord) (zeros 16384)
+    parts-memory (newUplink x) (zeros timeslots) (replicate queuePlaces emptyRecord) (zeros storeOctets)
     (record {
       shape = empty-shape;
       four-counters = refl;
