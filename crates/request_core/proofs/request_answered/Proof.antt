@@ -39,7 +39,8 @@ returns c =
     let s = begun k in
     let a = s .args in
     subst (Plans s) (sym (c .request-refused .ensures))
-    (λ st. refused-planned requestNumber (a .station) st (leaves s) RequestReply.Refused Refusal.NoRun refl (λ rs q. answered-no-run (memory (a .station) rs st) (a .timeslot) (asked s .code) (a .kind) (a .number) _ (k .ul-process-cap-req .ensures) (c .before .enum-told .given .1)))
+    (λ st. refused-planned requestNumber (a .station) st (leaves s) RequestReply.Refused Refusal.NoRun refl
+    (λ rs q. answered-no-run (memory (a .station) rs st) (a .timeslot) (asked s .code) (a .kind) (a .number) _ (k .ul-process-cap-req .ensures) (c .before .enum-told .given .1)))
 
 returns-2 : tie.Need-returns-2
 returns-2 c =
@@ -47,7 +48,8 @@ returns-2 c =
     let s = begun k in
     let a = s .args in
     subst (Plans s) (sym (c .request-refused2 .ensures))
-    (λ st. refused-planned requestNumber (a .station) st (leaves s) RequestReply.Refused Refusal.TooLate refl (λ rs q. answered-too-late (memory (a .station) rs st) (a .timeslot) (asked s .code) (a .kind) (a .number) _ (k .ul-process-cap-req .ensures) (c .before .enum-told2 .given .1)))
+    (λ st. refused-planned requestNumber (a .station) st (leaves s) RequestReply.Refused Refusal.TooLate refl
+    (λ rs q. answered-too-late (memory (a .station) rs st) (a .timeslot) (asked s .code) (a .kind) (a .number) _ (k .ul-process-cap-req .ensures) (c .before .enum-told2 .given .1)))
 
 returns-3 : tie.Need-returns-3
 returns-3 c =
@@ -61,4 +63,5 @@ returns-3 c =
 pub request-answered-spec : {M : Type 1} → statement M
 request-answered-spec =
     tie.close
-    (tie.spec (λ c κs. search needs) (λ c. search needs) (λ c κs. search needs) (λ c. search needs) (λ c κs. search needs) (λ c. search needs) queue-grant-requires returns returns-2 returns-3)
+    (tie.spec (λ c κs. search needs) (λ c. search needs) (λ c κs. search needs) (λ c. search needs) (λ c κs. search needs) (λ c. search needs)
+    queue-grant-requires returns returns-2 returns-3)

@@ -111,4 +111,6 @@ returns-5 c =
 pub request-plan-spec : {M : Type 1} → statement M
 request-plan-spec =
     tie.close
-    (tie.spec (λ c κs. search needs) (λ c κs. search needs) returns (λ c κs. search needs) (λ c. search needs) (λ c. search needs) (λ c κs. search needs) returns-2 (λ c κs. search needs) (λ c κs. search needs) returns-3 has-room-requires (λ c κs. search needs) returns-4 request-answered-requires returns-5)
+    (tie.spec (λ c κs. search needs) (λ c κs. search needs) returns (λ c κs. search needs) (λ c. search needs) (λ c. search needs)
+    (λ c κs. search needs) returns-2 (λ c κs. search needs) (λ c κs. search needs) returns-3 has-room-requires (λ c κs. search needs) returns-4
+    request-answered-requires returns-5)

@@ -59,4 +59,5 @@ returns-3 c =
 pub ul-process-cap-req-spec : {M : Type 1} → statement M
 ul-process-cap-req-spec =
     tie.close
-    (tie.spec (λ c κs. search needs) (λ c κs. search needs) (λ c κs. search needs) ul-find-grant-opportunity-requires (λ c. search needs) (λ c. search needs) returns grant-requires returns-2 returns-3)
+    (tie.spec (λ c κs. search needs) (λ c κs. search needs) (λ c κs. search needs) ul-find-grant-opportunity-requires (λ c. search needs)
+    (λ c. search needs) returns grant-requires returns-2 returns-3)

@@ -74,4 +74,7 @@ returns-2 c =
 pub ul-find-grant-opportunity-spec : {M : Type 1} → statement M
 ul-find-grant-opportunity-spec =
     tie.close
-    (tie.spec Inv-frames μ-frames (λ c κs. search needs) (λ c. search needs) (λ c. search needs) (λ c. search needs) (λ c. search needs) frames-holds (λ c. search needs) (λ c. search needs) (λ c. search needs) frames-again (λ c. search needs) (λ c. search needs) (λ c. search needs) (λ c. search needs) (λ c κs. search needs) (λ c. search needs) (λ c. search needs) (λ c. search needs) (λ c. search needs) frames-again-2 (λ c. search needs) (λ c. search needs) (λ c. search needs) frames-again-3 returns returns-2)
+    (tie.spec Inv-frames μ-frames (λ c κs. search needs) (λ c. search needs) (λ c. search needs) (λ c. search needs) (λ c. search needs) frames-holds
+    (λ c. search needs) (λ c. search needs) (λ c. search needs) frames-again (λ c. search needs) (λ c. search needs) (λ c. search needs)
+    (λ c. search needs) (λ c κs. search needs) (λ c. search needs) (λ c. search needs) (λ c. search needs) (λ c. search needs) frames-again-2
+    (λ c. search needs) (λ c. search needs) (λ c. search needs) frames-again-3 returns returns-2)

@@ -29,4 +29,5 @@ returns-4 c =
 pub ul-get-usage-spec : {M : Type 1} → statement M
 ul-get-usage-spec =
     tie.close
-    (tie.spec (λ c κs. search needs) (λ c κs. search needs) (λ c κs. search needs) returns (λ c. search needs) (λ c. search needs) returns-2 returns-3 returns-4)
+    (tie.spec (λ c κs. search needs) (λ c κs. search needs) (λ c κs. search needs) returns (λ c. search needs) (λ c. search needs) returns-2 returns-3
+    returns-4)
