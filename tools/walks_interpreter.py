@@ -10,7 +10,7 @@ BELOW = 'tools/walks.py'
 STANDS = runpy.run_path(BELOW)['STANDS']
 
 # In their twin the array stands wherever the struct's name does.
-LEAVES = ['calls::request', 'calls::queue_record', 'calls::build']
+LEAVES = ['calls::request', 'calls::queue_ack', 'calls::queue_record', 'calls::build']
 
 # What they call, of this crate: its body in their twin, any value of its type.
 QUEUE = '[dl_record::Record::EMPTY; 64]'

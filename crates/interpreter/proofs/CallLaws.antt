@@ -6,6 +6,7 @@ use Rattle.optional.specs.declared.OptU16.{OptU16}
 use Rattle.dl_record.specs.declared.Record.{Record}
 use Rattle.dl_record.specs.declared.QueuedHeader.{QueuedHeader}
 use Rattle.dl_record.specs.Record.{emptyHeader}
+use Rattle.sched_core.specs.declared.Reply.{Reply}
 use Rattle.sched_core.specs.declared.RequestReply.{RequestReply}
 use Rattle.sched_core.specs.declared.Answer.{Answer}
 use Rattle.sched_core.specs.declared.RequestAnswer.{RequestAnswer}
@@ -21,11 +22,16 @@ pub request-answered : (r : RequestLeft) (a : RequestAnswer) (rs : List Record) 
     → r ≡ record { reply = a .reply; station = a .station; records = rs } → outcome (a .reply) (memory (a .station) rs st) ≡ o → outcome (r .reply) (memory (r .station) (r .records) st) ≡ o
 request-answered r a rs st o e h = ap (λ (x : RequestLeft). outcome (x .reply) (memory (x .station) (x .records) st)) e ∙ h
 
+pub ack-queued : (r : QueueLeft) (a : Answer) (rs : List Record) (st : List ℕ) (o : Outcome Reply)
+    → r ≡ record { reply = a .reply; station = a .station; records = rs } → outcome (a .reply) (memory (a .station) rs st) ≡ o
+    → outcome (r .reply) (memory (r .station) (r .records) st) ≡ o
+ack-queued r a rs st o e h = ap (λ (x : QueueLeft). outcome (x .reply) (memory (x .station) (x .records) st)) e ∙ h
+
 pub record-queued : (r : QueueLeft) (a : Answer) (rs : List Record) (st : List ℕ) (m : Memory) (t kind n : ℕ) (tag : OptU16) (header : QueuedHeader)
     (bits : ℕ) (sdu : List ℕ) → r ≡ record { reply = a .reply; station = a .station; records = rs } → header ≡ emptyHeader
     → outcome (a .reply) (memory (a .station) rs st) ≡ tmaCall m t kind n tag header bits sdu → outcome (r .reply) (memory (r .station) (r .records) st) ≡ tmaCall m t kind n tag emptyHeader bits sdu
 record-queued r a rs st m t kind n tag header bits sdu e none h =
-    ap (λ (x : QueueLeft). outcome (x .reply) (memory (x .station) (x .records) st)) e ∙ h ∙ ap (λ (x : QueuedHeader). tmaCall m t kind n tag x bits sdu) none
+    ack-queued r a rs st _ e h ∙ ap (λ (x : QueuedHeader). tmaCall m t kind n tag x bits sdu) none
 
 pub build-answered : (r : BuildCoreAnswer) (a : BuildAnswer) (rs : List Record) (st block : List ℕ) (o : BuildOutcome)
     → r ≡ record { reply = a .reply; tags = a .tags; «tag_count» = a .«tag_count»; station = a .station; records = rs }

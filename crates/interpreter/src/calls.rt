@@ -13,7 +13,7 @@ ghost use mathlib.Core.Path.{_≡_};
 ghost use Rattle.dl_record.specs.Record.{emptyHeader};
 ghost use Rattle.optional.specs.declared.OptU16.{OptU16};
 ghost use Rattle.sched_core.specs.Questions.{memory};
-ghost use Rattle.sched_core.specs.Calls.{outcome, requestCall, tmaCall, buildCall, BuildAnswered};
+ghost use Rattle.sched_core.specs.Calls.{outcome, requestCall, ackCall, tmaCall, buildCall, BuildAnswered};
 
 // The reply to a request, and the station and the queue after it.
 pub struct RequestLeft {
@@ -22,7 +22,7 @@ pub struct RequestLeft {
     pub records: [Record; 64],
 }
 
-// The same for a record that is queued.
+// The same for an ack or a record that is queued.
 pub struct QueueLeft {
     pub reply: Reply,
     pub station: Station,
@@ -93,6 +93,23 @@ pub fn request(
     let mut queue = records;
     let a = bs_sched::ul_process_cap_req(s, &mut queue, store, timeslot, code, kind, number);
     request_left(a, queue)
+}
+
+// An acknowledgement of a random access is queued.
+pub fn queue_ack(
+    s: Station,
+    records: [Record; 64],
+    store: &[u8],
+    timeslot: u8,
+    kind: u8,
+    number: u32,
+) -> QueueLeft
+    ensures { λ r. ⌜ outcome (r .reply) (memory (r .station) (r .records) (now (store .entry)))
+        ≡ ackCall (memory s records (now (store .entry))) timeslot kind number ⌝ }
+{
+    let mut queue = records;
+    let a = bs_sched::dl_enqueue_random_access_ack(s, &mut queue, store, timeslot, kind, number);
+    queue_left(a, queue)
 }
 
 // A record is queued with its SDU: a tag, and no other header part.
