@@ -38,20 +38,23 @@ withBits-written k n b x v h =
     sym (valueBits-join (k + n) b (q * 2 ^ n + v) (x % 2 ^ b) (mod-lt x (pow-pos b)))
     ∙ ap₂ (λ (l m : List ℕ). l ++ m) (sym (valueBits-join k n q v h)) (valueBits-mod b x)
     ∙ append-assoc (valueBits k q) (valueBits n v) (valueBits b x)
-    ∙ sym (written-middle (valueBits k q) (valueBits n (x / 2 ^ b)) (valueBits n v) (valueBits b x) k (length-valueBits k q) (rw (length-valueBits n (x / 2 ^ b), length-valueBits n v)))
+    ∙ sym (written-middle (valueBits k q) (valueBits n (x / 2 ^ b)) (valueBits n v) (valueBits b x) k (length-valueBits k q)
+    (rw (length-valueBits n (x / 2 ^ b), length-valueBits n v)))
     ∙ ap (λ (l : List ℕ). written l k (valueBits n v)) (sym parted)
   where
     parted : valueBits (k + n + b) x ≡ valueBits k (x / 2 ^ (n + b)) ++ (valueBits n (x / 2 ^ b) ++ valueBits b x)
     parted =
         valueBits-append (k + n) b x
-        ∙ ap (λ (l : List ℕ). l ++ valueBits b x) (valueBits-append k n (x / 2 ^ b) ∙ ap (λ (m : ℕ). valueBits k m ++ valueBits n (x / 2 ^ b)) (shr-shr x b n ∙ ap (λ (m : ℕ). x / 2 ^ m) (omega arith)))
+        ∙ ap (λ (l : List ℕ). l ++ valueBits b x) (valueBits-append k n (x / 2 ^ b) ∙ ap (λ (m : ℕ). valueBits k m ++ valueBits n (x / 2 ^ b))
+        (shr-shr x b n ∙ ap (λ (m : ℕ). x / 2 ^ m) (omega arith)))
         ∙ append-assoc (valueBits k (x / 2 ^ (n + b))) (valueBits n (x / 2 ^ b)) (valueBits b x)
 
 -- the number as a machine of `w` bits works it out
 pub withBits-or : (k n b x v w : ℕ) → x < 2 ^ (k + (n + b)) → v < 2 ^ n → k + n + b < w
     → bitOr (bitOr (x / 2 ^ (n + b) * 2 ^ n % 2 ^ w) v * 2 ^ b % 2 ^ w) (x % (1 * 2 ^ b % 2 ^ w)) ≡ withBits x n b v
 withBits-or k n b x v w hx hv hw =
-    ap₂ (λ (p q : ℕ). bitOr (p * 2 ^ b % 2 ^ w) (x % q)) (ap (λ (p : ℕ). bitOr p v) (shl-exact k n w top (omega arith)) ∙ or-shifted q n v hv) (one-shl w (omega arith))
+    ap₂ (λ (p q : ℕ). bitOr (p * 2 ^ b % 2 ^ w) (x % q)) (ap (λ (p : ℕ). bitOr p v) (shl-exact k n w top (omega arith)) ∙ or-shifted q n v hv)
+    (one-shl w (omega arith))
     ∙ ap (λ (p : ℕ). bitOr p (x % 2 ^ b)) (shl-exact (k + n) b w (rw (pow-add 2 k n) (digits-lt top hv)) (omega arith))
     ∙ or-shifted (q * 2 ^ n + v) b (x % 2 ^ b) (mod-lt x (pow-pos b))
   where
@@ -178,7 +181,8 @@ pair-part s at n h0 h8 h fits = go (leb (at % 8 + n) 8) refl
         let e : 8 < at % 8 + n = leb-false (at % 8 + n) 8 t in
         let j : (at + n - 1) / 8 ≡ at / 8 + 1 = omega arith in
         ap (λ (m : ℕ). valueBits n ((x * 256 + getD s m 0) / 2 ^ (16 - (at % 8 + n)))) j
-        ∙ sym (part-number s (at / 8) (at % 8) n (16 - (at % 8 + n)) 16 (x * 256 + getD s (at / 8 + 1) 0) _ (two-octets s (at / 8) (omega arith) (fits (at / 8 + 1))) (omega arith))
+        ∙ sym (part-number s (at / 8) (at % 8) n (16 - (at % 8 + n)) 16 (x * 256 + getD s (at / 8 + 1) 0) _
+        (two-octets s (at / 8) (omega arith) (fits (at / 8 + 1))) (omega arith))
         ∙ ap (λ (m : ℕ). part (bitsOf s) m n) place
 
 -- ---- a turn of a loop that goes on by `n` bits
@@ -212,7 +216,8 @@ valueBits-zero (suc n) = ap₂ _∷_ (ap (λ (m : ℕ). m % 2) (zero-div (2 ^ n)
 pub zero-turn : (l : List ℕ) (at n left : ℕ) → n ≤ left
     → written (written l at (valueBits n 0)) (at + n) (valueBits (left - n) 0) ≡ written l at (valueBits left 0)
 zero-turn l at n left h =
-    ap (λ (m : ℕ). written (written l at (valueBits n m)) (at + n) (valueBits (left - n) 0)) (sym (ap (λ (m : ℕ). m % 2 ^ n) (zero-div (2 ^ (left - n))) ∙ mod-eq-of-lt (pow-pos n)))
+    ap (λ (m : ℕ). written (written l at (valueBits n m)) (at + n) (valueBits (left - n) 0))
+    (sym (ap (λ (m : ℕ). m % 2 ^ n) (zero-div (2 ^ (left - n))) ∙ mod-eq-of-lt (pow-pos n)))
     ∙ value-turn l at n left 0 h
 
 -- it reads a number

@@ -72,7 +72,8 @@ frame18-within p (OptU8.Of f) h = let q = and2 (eqb p 0) (fits 2 f) h in (eqb-tr
 chan-alloc-within : (c : ChanAllocElement) → legalChanAlloc c ≡ true → ChanAllocWithin c
 unfolding legalChanAlloc
 chan-alloc-within c h =
-    let p = and10 (fits 2 (c .«alloc_type»)) (fits 4 (c .«ts_assigned»)) (fits 2 (c .«ul_dl_assigned»)) (ltb 0 (c .«ul_dl_assigned»)) (fits 1 (c .«clch_permission»))
+    let p = and10 (fits 2 (c .«alloc_type»)) (fits 4 (c .«ts_assigned»)) (fits 2 (c .«ul_dl_assigned»)) (ltb 0 (c .«ul_dl_assigned»))
+    (fits 1 (c .«clch_permission»))
     (fits 1 (c .«cell_change_flag»)) (fits 12 (c .«carrier_num»)) (eqb (c .«ext_carrier_num_flag») 0) (fits 2 (c .«mon_pattern»))
     (legalFrame18 (c .«mon_pattern») (c .«frame18_mon_pattern»)) h in
     let z : c .«ext_carrier_num_flag» ≡ 0 = eqb-true (c .«ext_carrier_num_flag») 0 (p .7) in
@@ -95,7 +96,8 @@ opt-chan-alloc-within (OptChanAlloc.Of c) h = chan-alloc-within c h
 label-within : (e : ℕ) → labelFits (OptU16.Of e) ≡ true → e < 2 ^ 10
 label-within e h = ltb-true e 1024 h
 
-address-within : (k : AddressKind) (n : ℕ) (l : OptU16) (m : OptU8) → n < 2 ^ 24 → labelFits l ≡ true → optFits 6 m ≡ true → AddressWithin (addressOnAir k n l m)
+address-within : (k : AddressKind) (n : ℕ) (l : OptU16) (m : OptU8) → n < 2 ^ 24 → labelFits l ≡ true → optFits 6 m ≡ true
+    → AddressWithin (addressOnAir k n l m)
 unfolding addressOnAir
 address-within AddressKind.Absent n OptU16.Absent m hn hl hm = tt
 address-within AddressKind.Absent n (OptU16.Of e) m hn hl hm = label-within e hl
@@ -153,8 +155,10 @@ pub legal-within : (h : MacResource) → legalFields h ≡ true → ResourceWith
 unfolding onAir withinWidths
 legal-within h e =
     let q = fields h e in
-    let p = and10 (fits 1 (h .«fill_bits»)) (fits 1 (h .«pos_of_grant»)) (fits 2 (h .«encryption_mode»)) (fits 1 (h .«random_access_flag»)) (fits 6 (h .«length_ind»))
-    (fits 24 (h .number)) (labelFits (h .«event_label»)) (optFits 6 (h .«usage_marker»)) (optFits 4 (h .«power_control_element»)) (optFits 8 (h .«slot_granting_element»))
+    let p = and10 (fits 1 (h .«fill_bits»)) (fits 1 (h .«pos_of_grant»)) (fits 2 (h .«encryption_mode»)) (fits 1 (h .«random_access_flag»))
+    (fits 6 (h .«length_ind»))
+    (fits 24 (h .number)) (labelFits (h .«event_label»)) (optFits 6 (h .«usage_marker»)) (optFits 4 (h .«power_control_element»))
+    (optFits 8 (h .«slot_granting_element»))
     (q .widths) in
     record {
       «fill_bits» = ltb-true (h .«fill_bits») 2 (p .0);
@@ -166,7 +170,8 @@ legal-within h e =
       «power_control_element» = opt-within 4 (h .«power_control_element») (p .8);
       «slot_granting_element» = opt-within 8 (h .«slot_granting_element») (p .9);
       «chan_alloc_element» = opt-chan-alloc-within (h .«chan_alloc_element») (q .alloc);
-      null = null-within (h .«address_kind») (h .number) (h .«event_label») (h .«usage_marker») (h .«power_control_element») (h .«slot_granting_element») (h .«chan_alloc_element») (allAbsent h) (parts h (q .parts) .null) (no-elements h);
+      null = null-within (h .«address_kind») (h .number) (h .«event_label») (h .«usage_marker») (h .«power_control_element»)
+          (h .«slot_granting_element») (h .«chan_alloc_element») (allAbsent h) (parts h (q .parts) .null) (no-elements h);
     }
 
 -- ---- what is on the air, offered and written again, is the same

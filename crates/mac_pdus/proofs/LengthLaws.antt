@@ -1,7 +1,7 @@
 -- How many bits the header's parts take. Assumes nothing.
 use mathlib.Core.Path.{_≡_, refl, sym}
 use mathlib.Core.List.{[], _++_}
-use Prim.Native.Nat.{ℕ, zero, suc, _+_, _≤_, _<_}
+use Prim.Native.Nat.{ℕ, zero, suc, _+_, _≤_}
 use native.Mathlib.Omega.{arith}
 use lib.ListN.{length, length-append}
 use Rattle.bitbuffer.proofs.Laws.{length-valueBits}
@@ -40,7 +40,8 @@ elements-length p g a = simp length-append
 pub resource-length : (r : ResourceHeader)
     → length (resourceBits r)
     ≡ length (fixedBits (r .«fill_bits») (r .«pos_of_grant») (r .«encryption_mode») (r .«random_access_flag») (r .«length_ind»))
-    + (length (addressBits (r .address)) + length (elementsBits (addressType (r .address)) (r .«power_control_element») (r .«slot_granting_element») (r .«chan_alloc_element»)))
+    + (length (addressBits (r .address)) + length (elementsBits (addressType (r .address)) (r .«power_control_element») (r .«slot_granting_element»)
+    (r .«chan_alloc_element»)))
 unfolding resourceBits
 resource-length r = simp length-append
 
@@ -91,17 +92,27 @@ elements-size (suc n) p g a = simp length-append (omega (arith, opt-size 4 p, op
 pub header-size : (r : ResourceHeader) → headerLength r ≡ length (resourceBits r)
 unfolding headerLength
 header-size r =
-    omega (arith, resource-length r, fixed-size (r .«fill_bits») (r .«pos_of_grant») (r .«encryption_mode») (r .«random_access_flag») (r .«length_ind»), address-size (r .address), elements-size (addressType (r .address)) (r .«power_control_element») (r .«slot_granting_element») (r .«chan_alloc_element»))
+    omega (
+      arith,
+      resource-length r,
+      fixed-size (r .«fill_bits») (r .«pos_of_grant») (r .«encryption_mode») (r .«random_access_flag»)
+          (r .«length_ind»),
+      address-size (r .address),
+      elements-size (addressType (r .address)) (r .«power_control_element»)
+          (r .«slot_granting_element») (r .«chan_alloc_element»),
+    )
 
 pub header-none : (r : ResourceHeader) (a : ℕ) → addressType (r .address) ≡ 0 → a ≡ addressLength (r .address) → 13 + a ≡ headerLength r
 unfolding headerLength
 header-none r a z e = rw z (omega arith)
 
-pub header-some : (r : ResourceHeader) (a b c d : ℕ) → (addressType (r .address) ≡ 0 → ⊥) → a ≡ addressLength (r .address) → b ≡ optLength 4 (r .«power_control_element»)
+pub header-some : (r : ResourceHeader) (a b c d : ℕ) → (addressType (r .address) ≡ 0 → ⊥) → a ≡ addressLength (r .address) → b
+    ≡ optLength 4 (r .«power_control_element»)
     → c ≡ optLength 8 (r .«slot_granting_element») → d ≡ optChanAllocLength (r .«chan_alloc_element») → 13 + a + b + c + d ≡ headerLength r
 unfolding headerLength
 header-some r a b c d z ea eb ec ed =
-    rw (if-not-zero (addressType (r .address)) 0 (optLength 4 (r .«power_control_element») + optLength 8 (r .«slot_granting_element») + optChanAllocLength (r .«chan_alloc_element»)) z)
+    rw (if-not-zero (addressType (r .address)) 0 (optLength 4 (r .«power_control_element») + optLength 8
+    (r .«slot_granting_element») + optChanAllocLength (r .«chan_alloc_element»)) z)
     (omega arith)
 
 -- ---- bounds
@@ -117,29 +128,6 @@ frame18-bounds (OptU8.Of f) = (omega arith, omega arith)
 opt-chan-alloc-bounds : (a : OptChanAlloc) → (1 ≤ optChanAllocLength a) × (optChanAllocLength a ≤ 28)
 opt-chan-alloc-bounds OptChanAlloc.Absent = (omega arith, omega arith)
 opt-chan-alloc-bounds (OptChanAlloc.Of c) = let h = frame18-bounds (c .«frame18_mon_pattern») in (omega arith, omega arith)
-
-address-bounds : (a : Address) → 0 < addressType a → 13 ≤ addressLength a
-unfolding addressType
-address-bounds Null h = absurd (omega arith)
-address-bounds (Ssi a) h = omega arith
-address-bounds (EventLabel e) h = omega arith
-address-bounds (Ussi a) h = omega arith
-address-bounds (Smi a) h = omega arith
-address-bounds (SsiEventLabel a e) h = omega arith
-address-bounds (SsiUsageMarker a m) h = omega arith
-address-bounds (SmiEventLabel a e) h = omega arith
-
--- a header with an address or a label has 29 bits or more
-pub header-least : (r : ResourceHeader) → 0 < addressType (r .address) → 29 ≤ headerLength r
-unfolding headerLength
-header-least r h =
-    let n = optLength 4 (r .«power_control_element») + optLength 8 (r .«slot_granting_element») + optChanAllocLength (r .«chan_alloc_element») in
-    let a = opt-bounds 4 (r .«power_control_element») in
-    let b = opt-bounds 8 (r .«slot_granting_element») in
-    let d = opt-chan-alloc-bounds (r .«chan_alloc_element») in
-    let l = address-bounds (r .address) h in
-    let e = if-not-zero (addressType (r .address)) 0 n (λ z. omega arith) in
-    omega arith
 
 -- the address of a queued record: SSI, with a marker or without
 pub data Queued : Address → Type 0 where

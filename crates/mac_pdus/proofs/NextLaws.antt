@@ -67,7 +67,8 @@ module _ (l : List ℕ) where
           }
 
       read : ℕ → ChanAllocRead
-      read p = ifZero {X = ChanAllocRead} p (record { c = element p (OptU8.Of (bitsValue (part l last 2))); next = last + 2 }) (record { c = element p OptU8.Absent; next = last })
+      read p = ifZero {X = ChanAllocRead} p (record { c = element p (OptU8.Of (bitsValue (part l last 2))); next = last + 2 })
+          (record { c = element p OptU8.Absent; next = last })
 
       go : (p : ℕ) → read p .next ≡ at + chanAllocLength (read p .c .«frame18_mon_pattern»)
       go zero = omega arith
@@ -103,7 +104,8 @@ module _ (l : List ℕ) where
       let g = optRead 8 l (p .next) in
       let a = optChanAllocRead l (g .next) in
       subst (λ (t : ElementsRead). t .next ≡ at + elementsLength t)
-      (elements-then {X = ElementsRead} (suc n) l at p g a (λ p g a next. record { «power_control_element» = p; «slot_granting_element» = g; «chan_alloc_element» = a; next = next }) (λ z. omega arith) refl refl refl)
+      (elements-then {X = ElementsRead} (suc n) l at p g a (λ p g a next. record
+      { «power_control_element» = p; «slot_granting_element» = g; «chan_alloc_element» = a; next = next }) (λ z. omega arith) refl refl refl)
       (omega (arith, opt-next 4 at, opt-next 8 (p .next), opt-chan-alloc-next (g .next)))
 
   pub resource-next : (at : ℕ) → resourceNext l at ≡ at + headerLength (resourceParts l at)

@@ -2,7 +2,6 @@
 use mathlib.Core.Path.{_≡_, refl}
 use mathlib.Core.Bool.{Bool, true, false, _||_}
 use Prim.Native.Nat.{ℕ, _<_, _≤_}
-use native.Mathlib.Omega.{arith}
 use lib.Dec.{eqb}
 use borrow.Author.Tests.{lt-ltb}
 use Rattle.optional.specs.declared.OptU8.{OptU8}
@@ -10,7 +9,7 @@ use Rattle.optional.specs.declared.OptU16.{OptU16}
 use Rattle.mac_pdus.specs.declared.AddressKind.{AddressKind}
 use Rattle.mac_pdus.specs.declared.MacResource.{MacResource}
 use Rattle.mac_pdus.specs.declared.Address.{Address}
-use Rattle.mac_pdus.specs.Headers.{addressType, headerLength}
+use Rattle.mac_pdus.specs.Headers.{headerLength}
 use Rattle.mac_pdus.specs.Legal.{fits, absentU8, absentU16, optFits, labelFits, hasAddress, withinWidths, legalParts, legalFields, loneParts, legalLone, queuedKind, legalQueued, withLength, addressOnAir, onAir}
 use Rattle.mac_pdus.proofs.Conjunctions.{false-not-true, and3, and10}
 use Rattle.mac_pdus.proofs.LengthLaws.{Queued, ssi, marked, queued-length}
@@ -50,11 +49,14 @@ or-absent false b h = h
 widths-kept : (h : MacResource) (f n : ℕ) → withinWidths h ≡ true → f < 2 → n < 64 → withinWidths (withLength h f n) ≡ true
 unfolding withinWidths withLength
 widths-kept h f n e hf hn =
-    let p = and10 (fits 1 (h .«fill_bits»)) (fits 1 (h .«pos_of_grant»)) (fits 2 (h .«encryption_mode»)) (fits 1 (h .«random_access_flag»)) (fits 6 (h .«length_ind»))
-    (fits 24 (h .number)) (labelFits (h .«event_label»)) (optFits 6 (h .«usage_marker»)) (optFits 4 (h .«power_control_element»)) (optFits 8 (h .«slot_granting_element»)) e in
+    let p = and10 (fits 1 (h .«fill_bits»)) (fits 1 (h .«pos_of_grant»)) (fits 2 (h .«encryption_mode»)) (fits 1 (h .«random_access_flag»))
+    (fits 6 (h .«length_ind»))
+    (fits 24 (h .number)) (labelFits (h .«event_label»)) (optFits 6 (h .«usage_marker»)) (optFits 4 (h .«power_control_element»))
+    (optFits 8 (h .«slot_granting_element»)) e in
     rw (lt-ltb f 2 hf, lt-ltb n 64 hn, p .1, p .2, p .3, p .5, p .6, p .7, p .8, p .9)
 
-parts-kept : (h : MacResource) (f n : ℕ) → hasAddress (h .«address_kind») ≡ true → absentU16 (h .«event_label») ≡ true → legalParts h ≡ true → legalParts (withLength h f n) ≡ true
+parts-kept : (h : MacResource) (f n : ℕ) → hasAddress (h .«address_kind») ≡ true → absentU16 (h .«event_label») ≡ true → legalParts h ≡ true
+    → legalParts (withLength h f n) ≡ true
 unfolding legalParts withLength
 parts-kept h f n a l e =
     let p = parts h e in
@@ -68,7 +70,8 @@ queued-lone h f n e hf h0 hn =
     let q = queued h e in
     let s = fields h (q .fields) in
     let a = queued-address (h .«address_kind») (q .kind) in
-    rw (widths-kept h f n (s .widths) hf hn, parts-kept h f n a (q .label) (s .parts)) (unfold withLength in rw (s .alloc, lt-ltb 0 n h0, queued-parts (h .«address_kind») (h .«event_label») (h .«usage_marker») (q .kind)))
+    rw (widths-kept h f n (s .widths) hf hn, parts-kept h f n a (q .label) (s .parts))
+    (unfold withLength in rw (s .alloc, lt-ltb 0 n h0, queued-parts (h .«address_kind») (h .«event_label») (h .«usage_marker») (q .kind)))
 
 -- its address is SSI, with a marker or without
 queued-on-air : (k : AddressKind) (n : ℕ) (l : OptU16) (m : OptU8) → queuedKind k ≡ true → absentU16 l ≡ true → Queued (addressOnAir k n l m)
@@ -87,14 +90,5 @@ queued-on-air AddressKind.Ussi n l m hk hl = false-not-true hk
 queued-on-air AddressKind.Smi n l m hk hl = false-not-true hk
 
 pub queued-header-length : (h : MacResource) → legalQueued h ≡ true → (43 ≤ headerLength (onAir h)) × (headerLength (onAir h) ≤ 88)
-queued-header-length h e = let q = queued h e in queued-length (onAir h) (unfold onAir in queued-on-air (h .«address_kind») (h .number) (h .«event_label») (h .«usage_marker») (q .kind) (q .label))
-
-on-air-type : (a : Address) → Queued a → 0 < addressType a
-unfolding addressType
-on-air-type _ ssi = omega arith
-on-air-type _ marked = omega arith
-
-pub queued-type : (h : MacResource) → legalQueued h ≡ true → 0 < addressType (addressOnAir (h .«address_kind») (h .number) (h .«event_label») (h .«usage_marker»))
-queued-type h e =
-    let q = queued h e in
-    on-air-type _ (queued-on-air (h .«address_kind») (h .number) (h .«event_label») (h .«usage_marker») (q .kind) (q .label))
+queued-header-length h e = let q = queued h e in queued-length (onAir h)
+    (unfold onAir in queued-on-air (h .«address_kind») (h .number) (h .«event_label») (h .«usage_marker») (q .kind) (q .label))

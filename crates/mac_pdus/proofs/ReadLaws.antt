@@ -62,17 +62,20 @@ pub address-run {ℓ} : {X : Type ℓ} (l : List ℕ) (at : ℕ) (k : Address �
 unfolding addressAt field
 address-run l at k = address-of-run (bitsValue (part l at 3)) l (at + 3) k
 
-pub chan-alloc-run {ℓ} : {X : Type ℓ} (l : List ℕ) (at : ℕ) (k : ChanAllocElement → ℕ → X) → k (chanAllocRead l at .c) (chanAllocRead l at .next) ≡ chanAllocAt l at k
+pub chan-alloc-run {ℓ} : {X : Type ℓ} (l : List ℕ) (at : ℕ) (k : ChanAllocElement → ℕ → X) → k (chanAllocRead l at .c) (chanAllocRead l at .next)
+    ≡ chanAllocAt l at k
 unfolding chanAllocAt field
 chan-alloc-run l at k = if-zero-map (λ (r : ChanAllocRead). k (r .c) (r .next)) (bitsValue (part l (at + 2 + 4 + 2 + 1 + 1 + 12 + 1) 2)) _ _
 
-pub opt-chan-alloc-run {ℓ} : {X : Type ℓ} (l : List ℕ) (at : ℕ) (k : OptChanAlloc → ℕ → X) → k (optChanAllocRead l at .a) (optChanAllocRead l at .next) ≡ optChanAllocAt l at k
+pub opt-chan-alloc-run {ℓ} : {X : Type ℓ} (l : List ℕ) (at : ℕ) (k : OptChanAlloc → ℕ → X) → k (optChanAllocRead l at .a)
+    (optChanAllocRead l at .next) ≡ optChanAllocAt l at k
 unfolding optChanAllocAt field
 opt-chan-alloc-run {X} l at k =
     let f : OptChanAllocRead → X = λ r. k (r .a) (r .next) in
     if-zero-map f (bitsValue (part l at 1)) _ _
     ∙ ap (ifZero (bitsValue (part l at 1)) (k OptChanAlloc.Absent (at + 1)))
-    (ap f (sym (chan-alloc-run l (at + 1) (λ c next. record { a = OptChanAlloc.Of c; next = next }))) ∙ chan-alloc-run l (at + 1) (λ c next. k (OptChanAlloc.Of c) next))
+    (ap f (sym (chan-alloc-run l (at + 1) (λ c next. record { a = OptChanAlloc.Of c; next = next }))) ∙ chan-alloc-run l (at + 1)
+    (λ c next. k (OptChanAlloc.Of c) next))
 
 -- the same, from what the function that reads handed back
 pub opt-then {ℓ} : {X : Type ℓ} (w : ℕ) (l : List ℕ) (at : ℕ) (r : OptU8Read) (k : OptU8 → ℕ → X) → r ≡ optRead w l at → k (r .m) (r .next) ≡ optAt w l at k
@@ -81,7 +84,8 @@ opt-then w l at r k e = ap (λ (x : OptU8Read). k (x .m) (x .next)) e ∙ opt-ru
 pub address-then {ℓ} : {X : Type ℓ} (l : List ℕ) (at : ℕ) (r : AddressRead) (k : Address → ℕ → X) → r ≡ addressRead l at → k (r .a) (r .next) ≡ addressAt l at k
 address-then l at r k e = ap (λ (x : AddressRead). k (x .a) (x .next)) e ∙ address-run l at k
 
-pub opt-chan-alloc-then {ℓ} : {X : Type ℓ} (l : List ℕ) (at : ℕ) (r : OptChanAllocRead) (k : OptChanAlloc → ℕ → X) → r ≡ optChanAllocRead l at → k (r .a) (r .next) ≡ optChanAllocAt l at k
+pub opt-chan-alloc-then {ℓ} : {X : Type ℓ} (l : List ℕ) (at : ℕ) (r : OptChanAllocRead) (k : OptChanAlloc → ℕ → X) → r ≡ optChanAllocRead l at
+    → k (r .a) (r .next) ≡ optChanAllocAt l at k
 opt-chan-alloc-then l at r k e = ap (λ (x : OptChanAllocRead). k (x .a) (x .next)) e ∙ opt-chan-alloc-run l at k
 
 pub elements-then {ℓ} : {X : Type ℓ} (n : ℕ) (l : List ℕ) (at : ℕ) (p g : OptU8Read) (a : OptChanAllocRead) (k : OptU8 → OptU8 → OptChanAlloc → ℕ → X)
@@ -96,7 +100,8 @@ elements-then n l at p g a k h ep eg ea =
     ∙ opt-then 4 l at p (λ w z. optAt 8 l z (λ y z. optChanAllocAt l z (λ x z. k w y x z))) ep)
 
 abbrev pub elementsRead : ℕ → List ℕ → ℕ → ElementsRead
-elementsRead n l at = elementsAt n l at (λ p g a next. record { «power_control_element» = p; «slot_granting_element» = g; «chan_alloc_element» = a; next = next })
+elementsRead n l at = elementsAt n l at (λ p g a next. record
+    { «power_control_element» = p; «slot_granting_element» = g; «chan_alloc_element» = a; next = next })
 
 pub elements-resume {ℓ} : {X : Type ℓ} (n : ℕ) (l : List ℕ) (at : ℕ) (t : ElementsRead) (k : OptU8 → OptU8 → OptChanAlloc → ℕ → X)
     → t ≡ elementsRead n l at → k (t .«power_control_element») (t .«slot_granting_element») (t .«chan_alloc_element») (t .next) ≡ elementsAt n l at k
@@ -108,7 +113,8 @@ elements-resume (suc n) l at t k e =
     let a = optChanAllocRead l (g .next) in
     let some : suc n ≡ 0 → ⊥ = λ z. omega arith in
     ap (λ (x : ElementsRead). k (x .«power_control_element») (x .«slot_granting_element») (x .«chan_alloc_element») (x .next))
-    (e ∙ sym (elements-then (suc n) l at p g a (λ p g a next. record { «power_control_element» = p; «slot_granting_element» = g; «chan_alloc_element» = a; next = next }) some refl refl refl))
+    (e ∙ sym (elements-then (suc n) l at p g a (λ p g a next. record
+    { «power_control_element» = p; «slot_granting_element» = g; «chan_alloc_element» = a; next = next }) some refl refl refl))
     ∙ elements-then (suc n) l at p g a k some refl refl refl
 
 -- the header, from what the parts read
@@ -155,4 +161,5 @@ resource-parts {X} l at k =
 pub resource-then {ℓ} : {X : Type ℓ} (l : List ℕ) (at : ℕ) (x : ResourceRead) (k : ResourceHeader → ℕ → X)
     → x ≡ resourceAt l at (λ r next. record { r = r; next = next }) → k (x .r) (x .next) ≡ resourceAt l at k
 resource-then l at x k e =
-    ap (λ (y : ResourceRead). k (y .r) (y .next)) (e ∙ sym (resource-parts {X = ResourceRead} l at (λ r next. record { r = r; next = next }))) ∙ resource-parts l at k
+    ap (λ (y : ResourceRead). k (y .r) (y .next)) (e ∙ sym (resource-parts {X = ResourceRead} l at (λ r next. record { r = r; next = next })))
+    ∙ resource-parts l at k

@@ -105,19 +105,23 @@ resource-back r h l at rest k P e go =
     field-back 1 (r .«random_access_flag») (h .«random_access_flag») l a₄ _ _ P e₄ λ a₅ e₅.
     field-back 6 (r .«length_ind») (h .«length_ind») l a₅ _ _ P e₅ λ a₆ e₆.
     address-back (r .address) (h .address) l a₆ _ _ P e₆ λ a₇ e₇.
-    elements-back (addressType (r .address)) (r .«power_control_element») (r .«slot_granting_element») (r .«chan_alloc_element») (h .«power_control_element») (h .«slot_granting_element») (h .«chan_alloc_element») (h .null) l a₇ _ _ P e₇ go
+    elements-back (addressType (r .address)) (r .«power_control_element») (r .«slot_granting_element») (r .«chan_alloc_element»)
+    (h .«power_control_element») (h .«slot_granting_element») (h .«chan_alloc_element») (h .null) l a₇ _ _ P e₇ go
 
 -- the header at the front of a run, with what follows left for the next reader
 pub read-back : (r : ResourceHeader) (rest : List ℕ) → ResourceWithin r → resourceAt (resourceBits r ++ rest) 0 (λ h at. h) ≡ r
 read-back r rest h = resource-back r h (resourceBits r ++ rest) 0 rest (λ h at. h) (λ x. x ≡ r) refl (λ a e. refl)
 
 -- the header that was written into a run, and the position after it
-parts-back : (l : List ℕ) (at : ℕ) (r : ResourceHeader) → ResourceWithin r → at + length (resourceBits r) ≤ length l → resourceParts (written l at (resourceBits r)) at ≡ r
+parts-back : (l : List ℕ) (at : ℕ) (r : ResourceHeader) → ResourceWithin r → at + length (resourceBits r) ≤ length l
+    → resourceParts (written l at (resourceBits r)) at ≡ r
 parts-back l at r h room =
     resource-parts {X = ResourceHeader} (written l at (resourceBits r)) at (λ r next. r)
-    ∙ resource-back {X = ResourceHeader} r h (written l at (resourceBits r)) at _ (λ r next. r) (λ x. x ≡ r) (drop-written l at (resourceBits r) room) (λ a e. refl)
+    ∙ resource-back {X = ResourceHeader} r h (written l at (resourceBits r)) at _ (λ r next. r) (λ x. x ≡ r) (drop-written l at (resourceBits r) room)
+    (λ a e. refl)
 
-pub header-back : {X : Type 0} (l : List ℕ) (at : ℕ) (r : ResourceHeader) (k : ResourceHeader → ℕ → X) → ResourceWithin r → at + length (resourceBits r) ≤ length l
+pub header-back : {X : Type 0} (l : List ℕ) (at : ℕ) (r : ResourceHeader) (k : ResourceHeader → ℕ → X) → ResourceWithin r
+    → at + length (resourceBits r) ≤ length l
     → resourceAt (written l at (resourceBits r)) at k ≡ k r (at + headerLength r)
 header-back {X} l at r k h room =
     let m = written l at (resourceBits r) in

@@ -1,11 +1,10 @@
 -- MAC-FRAG, MAC-END and the null PDU, each as one number. Assumes nothing.
-use mathlib.Core.Path.{_≡_, refl, subst}
+use mathlib.Core.Path.{sym, _≡_, refl, subst}
 use mathlib.Core.List.{_++_}
 use Prim.Native.Nat.{ℕ, _+_, _*_, _<_}
 use native.Mathlib.Omega.{arith}
-use lib.ListN.{length, length-append}
+use lib.ListN.{length}
 use Rattle.bitbuffer.specs.Bits.{valueBits, PieceOf}
-use Rattle.bitbuffer.proofs.Laws.{length-valueBits}
 use Rattle.bitbuffer.proofs.Pieces.{last, cons, zeros}
 use Rattle.mac_pdus.specs.declared.MacFragDl.{MacFragDl}
 use Rattle.mac_pdus.specs.declared.MacEndDl.{MacEndDl}
@@ -22,18 +21,15 @@ pub end-piece : (e : MacEndDl) → EndWithin e → PieceOf 13 (3072 + (e .«fill
 unfolding endBits
 end-piece e h =
     subst
-    (λ (v : ℕ). PieceOf 13 v (valueBits 2 1 ++ (valueBits 1 1 ++ (valueBits 1 (e .«fill_bits») ++ (valueBits 1 (e .«pos_of_grant») ++ (valueBits 6 (e .«length_ind») ++ (valueBits 1 0 ++ valueBits 1 0)))))))
+    (λ (v : ℕ). PieceOf 13 v (valueBits 2 1 ++ (valueBits 1 1
+    ++ (valueBits 1 (e .«fill_bits») ++ (valueBits 1 (e .«pos_of_grant») ++ (valueBits 6 (e .«length_ind») ++ (valueBits 1 0 ++ valueBits 1 0)))))))
     (omega arith)
-    (cons 2 1 (omega arith) (cons 1 1 (omega arith) (cons 1 (e .«fill_bits») (h .«fill_bits») (cons 1 (e .«pos_of_grant») (h .«pos_of_grant») (cons 6 (e .«length_ind») (h .«length_ind») (zeros 1 (last 1 0 (omega arith))))))))
+    (cons 2 1 (omega arith) (cons 1 1 (omega arith) (cons 1 (e .«fill_bits») (h .«fill_bits»)
+    (cons 1 (e .«pos_of_grant») (h .«pos_of_grant») (cons 6 (e .«length_ind») (h .«length_ind») (zeros 1 (last 1 0 (omega arith))))))))
 
 pub null-piece : PieceOf 16 16 (resourceBits nullHeader)
 unfolding resourceBits fixedBits addressBits elementsBits addressType valueBits
 null-piece = record { bits = refl; size = refl; small = omega arith }
 
-pub frag-size : (f : MacFragDl) → length (fragBits f) ≡ 4
-unfolding fragBits
-frag-size f = simp (length-append, length-valueBits)
-
-pub end-size : (e : MacEndDl) → length (endBits e) ≡ 13
-unfolding endBits
-end-size e = simp (length-append, length-valueBits)
+pub null-size : length (resourceBits nullHeader) ≡ 16
+null-size = sym (null-piece .size)

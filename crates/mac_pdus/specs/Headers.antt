@@ -176,7 +176,8 @@ fragBits f = valueBits 2 1 ++ (valueBits 1 0 ++ valueBits 1 (f .«fill_bits»))
 unfoldable pub endBits : MacEndDl → List ℕ
 endBits e =
     valueBits 2 1
-    ++ (valueBits 1 1 ++ (valueBits 1 (e .«fill_bits») ++ (valueBits 1 (e .«pos_of_grant») ++ (valueBits 6 (e .«length_ind») ++ (valueBits 1 0 ++ valueBits 1 0)))))
+    ++ (valueBits 1 1 ++ (valueBits 1 (e .«fill_bits») ++ (valueBits 1 (e .«pos_of_grant»)
+    ++ (valueBits 6 (e .«length_ind») ++ (valueBits 1 0 ++ valueBits 1 0)))))
 
 unfoldable pub headerBits : PduHeader → List ℕ
 headerBits (PduHeader.Resource r) = resourceBits r

@@ -2,14 +2,14 @@
 use mathlib.Core.Path.{_≡_, refl, sym, ap, _∙_}
 use mathlib.Core.List.{List, [], _∷_, _++_, append-assoc, append-nil}
 use Prim.Native.Nat.{ℕ, zero, suc, _+_, _-_, _*_, _%_, _≤_, _<_}
-use native.Mathlib.Nat.{zero-add, add-zero, suc-add}
+use native.Mathlib.Nat.{zero-add, suc-add}
 use native.Mathlib.Omega.{arith}
 use lib.ListN.{length, drop, getD, replicate, length-append, length-replicate}
 use lib.Seq.{drop-append-add, drop-cons, drop-drop, drop-length}
 use borrow.Author.Tests.{eq-eqb}
-use Rattle.bitbuffer.specs.Bits.{valueBits, bitsValue, bitsOf, written}
-use Rattle.bitbuffer.proofs.Laws.{length-bitsOf, value-valueBits, written-eq}
-use Rattle.bitbuffer.proofs.Octets.{drop-bitsOf, written-add}
+use Rattle.bitbuffer.specs.Bits.{valueBits, bitsValue, bitsOf}
+use Rattle.bitbuffer.proofs.Laws.{length-bitsOf, value-valueBits}
+use Rattle.bitbuffer.proofs.Octets.{drop-bitsOf}
 use Rattle.mac_pdus.specs.Headers.{resourceBits, fixedBits, addressBits, elementsBits, addressType, headerBits}
 use Rattle.mac_reader.specs.Reader.{headers, blockPdus, replyOf, readBlock}
 use Rattle.mac_reader.proofs.Replies.{listed-or-not}
@@ -119,17 +119,3 @@ block-reads-back o ps s k pos few n f e =
     (sym (listed-or-not (blockPdus o s)) ∙ ap replyOf (pdus-read-back ps 16 w 0 (bitsOf (s ++ replicate 14 0)) (replicate k 0 ++ bitsOf (replicate 14 0)) (omega arith) f
     (bitsOf-append s (replicate 14 0) ∙ ap (λ (x : List ℕ). x ++ bitsOf (replicate 14 0)) e ∙ append-assoc (blockBits ps) (replicate k 0) (bitsOf (replicate 14 0)))
     (some k)))
-
--- ---- a builder's turn: what is written behind the PDUs so far, into zeros
-
-zeros-written : (f : List ℕ) (k : ℕ) → length f ≤ k → written (replicate k 0) 0 f ≡ f ++ replicate (k - length f) 0
-zeros-written f k h =
-    let z : 0 + length f ≡ length f = omega arith in
-    let q : k ≡ length f + (k - length f) = omega arith in
-    written-eq (replicate k 0) 0 f (rw length-replicate (omega arith))
-    ∙ ap (λ (x : List ℕ). f ++ x) (ap (λ (n : ℕ). drop n (replicate k 0)) z ∙ ap (λ (n : ℕ). drop (length f) (replicate n 0)) q ∙ drop-replicate (length f) (k - length f))
-
-pub more-written : (l f : List ℕ) (k : ℕ) → length f ≤ k → written (l ++ replicate k 0) (length l) f ≡ (l ++ f) ++ replicate (k - length f) 0
-more-written l f k h =
-    ap (λ (n : ℕ). written (l ++ replicate k 0) n f) (sym (add-zero (length l)))
-    ∙ written-add l (replicate k 0) 0 f ∙ ap (λ (x : List ℕ). l ++ x) (zeros-written f k h) ∙ sym (append-assoc l f (replicate (k - length f) 0))

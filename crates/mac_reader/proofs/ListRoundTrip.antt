@@ -1,6 +1,6 @@
 -- The headers of a block that was built are the headers that are read. Assumes nothing.
 use mathlib.Core.Path.{_≡_, refl, sym, ap, _∙_}
-use mathlib.Core.Bool.{Bool, true, false, cond}
+use mathlib.Core.Bool.{Bool, true, false, cond, or-true}
 use mathlib.Core.Logic.{_⊎_, ⊎-elim}
 use mathlib.Core.List.{List, [], _∷_, _++_, append-assoc}
 use Prim.Native.Nat.{ℕ, zero, suc, _+_, _*_, _/_, _≤_, _<_}
@@ -9,11 +9,11 @@ use lib.ListN.{length, drop, length-append, length-drop}
 use lib.Seq.{drop-at, drop-drop}
 use lib.Dec.{ltb}
 use borrow.Author.Tests.{ltb-false, le-leb, eq-eqb, ne-eqb}
-use Rattle.bitbuffer.specs.Bits.{valueBits}
 use Rattle.bitbuffer.proofs.Laws.{field-back}
 use Rattle.mac_pdus.specs.declared.ResourceHeader.{ResourceHeader}
-use Rattle.mac_pdus.specs.Headers.{addressType, addressBits, elementsBits, fixedBits, resourceBits, fragBits, endBits, headerBits, nullHeader}
+use Rattle.mac_pdus.specs.Headers.{addressType, fixedBits, resourceBits, fragBits, endBits, headerBits, nullHeader}
 use Rattle.mac_pdus.proofs.RoundTrip.{resource-back}
+use Rattle.mac_pdus.proofs.ShortHeaders.{null-size}
 use Rattle.mac_pdus.specs.declared.PduHeader.{PduHeader}
 use Rattle.mac_reader.specs.declared.PduStep.{PduStep}
 use Rattle.mac_reader.specs.declared.PduStep.the-variants.{Last, More}
@@ -23,7 +23,7 @@ use Rattle.mac_pdus.specs.Within.{ResourceWithin, EndWithin}
 use Rattle.mac_pdus.specs.Legal.{withinWidths, allAbsent, legalParts, legalFields, legalLone, offered, loneTakes}
 use Rattle.mac_pdus.proofs.LegalLaws.{taken-within}
 use Rattle.mac_reader.specs.Reader.{octetsInside, headerEnd, startsFragment, wellPlaced, resourceStep, endStep, endAt, fragmentAt, pduAt, headers, before, readPdus}
-use Rattle.mac_reader.proofs.Steps.{at-end, last-read, more-read, or-true}
+use Rattle.mac_reader.proofs.Steps.{at-end, last-read, more-read}
 use Rattle.mac_reader.specs.PduList.{Pdu, whole, first, frag, final, null, header, body, pduBits, blockBits, placed, WholeFits, FirstFits, FragFits, FinalFits, Fits}
 
 -- ---- one PDU
@@ -67,7 +67,8 @@ octets-pass : (w at len : ℕ) → 2 ≤ len → len ≤ 34 → at + 8 * len ≤
 unfolding octetsInside
 octets-pass w at len a b c = rw (le-leb 2 len a, le-leb len 34 b, le-leb (at + 8 * len) w c)
 
-header-inside : (w at head len size : ℕ) → head ≤ size → at + size ≤ w → len ≡ size / 8 → (size ≡ 8 * len) ⊎ (at + size ≡ w) → at + head ≤ headerEnd w (at + 8 * len)
+header-inside : (w at head len size : ℕ) → head ≤ size → at + size ≤ w → len ≡ size / 8 → (size ≡ 8 * len) ⊎ (at + size ≡ w) → at + head ≤ headerEnd w
+    (at + 8 * len)
 header-inside w at head len size k i d e = go (ltb w (at + 8 * len + 8)) refl
   where
     go : (b : Bool) → ltb w (at + 8 * len + 8) ≡ b → at + head ≤ cond b w (at + 8 * len)
@@ -79,26 +80,40 @@ header-inside w at head len size k i d e = go (ltb w (at + 8 * len + 8)) refl
 whole-placed : (w at head size : ℕ) (r : ResourceHeader) → WholeFits w at r size → head ≤ size → wellPlaced w at r (at + head) ≡ true
 unfolding wellPlaced
 whole-placed w at head size r h k =
-    rw (h .sound .taken, le-leb (at + head) w (omega arith), octets-pass w at (r .«length_ind») (h .low) (h .high) (omega arith), le-leb (at + head) (headerEnd w (at + 8 * r .«length_ind»)) (header-inside w at head (r .«length_ind») size k (h .inside) (h .code) (h .ends)))
+    rw (
+      h .sound .taken,
+      le-leb (at + head) w (omega arith),
+      octets-pass w at (r .«length_ind») (h .low) (h .high) (omega arith),
+      le-leb (at + head)
+          (headerEnd w (at + 8 * r .«length_ind»)) (header-inside w at head (r .«length_ind») size k (h .inside) (h .code) (h .ends)),
+    )
     (or-true (startsFragment r))
 
-whole-step : (w at head size : ℕ) (r : ResourceHeader) → WholeFits w at r size → head ≤ size → resourceStep w at r (at + head) ≡ More (PduHeader.Resource r) (at + 8 * r .«length_ind»)
+whole-step : (w at head size : ℕ) (r : ResourceHeader) → WholeFits w at r size → head ≤ size → resourceStep w at r (at + head)
+    ≡ More (PduHeader.Resource r) (at + 8 * r .«length_ind»)
 unfolding resourceStep
 whole-step w at head size r h k =
-    rw (whole-placed w at head size r h k, ne-eqb (addressType (r .address)) 0 (λ z. omega (arith, h .sound .address)), ne-eqb (r .«length_ind») 63 (λ z. omega arith))
+    rw (
+      whole-placed w at head size r h k,
+      ne-eqb (addressType (r .address)) 0 (λ z. omega (arith, h .sound .address)),
+      ne-eqb (r .«length_ind») 63
+          (λ z. omega arith),
+    )
 
 first-step : (w at head size : ℕ) (r : ResourceHeader) → FirstFits w at r size → head ≤ size → resourceStep w at r (at + head) ≡ Last (PduHeader.Resource r)
 unfolding resourceStep wellPlaced
 first-step w at head size r h k =
-    rw (h .sound .taken, le-leb (at + head) w (omega arith), ne-eqb (addressType (r .address)) 0 (λ z. omega (arith, h .sound .address)), eq-eqb (r .«length_ind») 63 (h .code))
+    rw (
+      h .sound .taken,
+      le-leb (at + head) w (omega arith),
+      ne-eqb (addressType (r .address)) 0 (λ z. omega (arith, h .sound .address)),
+      eq-eqb
+          (r .«length_ind») 63 (h .code),
+    )
 
 null-taken : loneTakes nullHeader ≡ true
 unfolding loneTakes offered legalLone legalFields withinWidths legalParts allAbsent
 null-taken = refl
-
-null-size : length (resourceBits nullHeader) ≡ 16
-unfolding resourceBits fixedBits addressBits elementsBits addressType valueBits
-null-size = refl
 
 null-inside : (w at : ℕ) → at + 16 ≤ w → at + 16 ≤ headerEnd w (at + 16)
 null-inside w at h = go (ltb w (at + 16 + 8))
@@ -119,7 +134,8 @@ final-step w at m size h = rw (octets-pass w at (m .«length_ind») (h .low) (h 
 -- ---- the list
 
 -- where a PDU stands, the next stands behind it
-behind : (l : List ℕ) (at : ℕ) (p : Pdu) (ps : List Pdu) (rest : List ℕ) → drop at l ≡ blockBits (p ∷ ps) ++ rest → drop (at + length (pduBits p)) l ≡ blockBits ps ++ rest
+behind : (l : List ℕ) (at : ℕ) (p : Pdu) (ps : List Pdu) (rest : List ℕ) → drop at l ≡ blockBits (p ∷ ps) ++ rest → drop (at + length (pduBits p)) l
+    ≡ blockBits ps ++ rest
 unfolding blockBits
 behind l at p ps rest e =
     sym (drop-drop (length (pduBits p)) at l) ∙ ap (drop (length (pduBits p))) (simp append-assoc at e)
@@ -190,7 +206,8 @@ unfolding placed
 whole-rest n w at size len l ps d ends f e =
     ⊎-elim
     (λ q. ap (λ (m : ℕ). readPdus n w l (at + m)) (sym q) ∙ e)
-    (λ q. at-end n w l (at + 8 * len) (omega arith) ∙ ap (λ (x : List Pdu). headers (placed (at + size) x)) (sym (none-behind w (at + size) ps (omega arith) f)))
+    (λ q. at-end n w l (at + 8 * len) (omega arith) ∙ ap (λ (x : List Pdu). headers (placed (at + size) x))
+    (sym (none-behind w (at + size) ps (omega arith) f)))
     ends
 
 alone : (at : ℕ) (p : Pdu) (ps : List Pdu) → ps ≡ [] → headers (record { at = at; header = header p } ∷ []) ≡ headers (placed at (p ∷ ps))

@@ -6,8 +6,8 @@ use Prim.Native.Nat.{ℕ, zero, suc, _+_, _-_, _*_, _≤_, _<_}
 use native.Mathlib.Nat.{zero-add, suc-add}
 use native.Mathlib.Numerals.{add-one}
 use native.Mathlib.Omega.{arith}
-use lib.ListN.{length, take, drop, getD, set, replicate, length-append}
-use lib.Seq.{set-at, drop-cons, take-suc, append-snoc, length-take-le, take-all}
+use lib.ListN.{length, getD, take, drop, set, replicate, length-append}
+use lib.Seq.{append-snoc, set-at, take-all, paste-suc}
 use lib.Dec.{ltb, leb, eqb}
 use Rattle.questions.specs.declared.Refusal.{Refusal}
 use Rattle.bitbuffer.specs.Bits.{bitsValue, part, field}
@@ -164,12 +164,7 @@ module _ (w : ℕ) (l : List ℕ) (pdus : List PlacedHeader) (n at : ℕ) (g : G
 -- ---- the copy
 
 pub copy-more : (s d : List ℕ) (i : ℕ) → i < length s → i < length d → set (take i s ++ drop i d) i (getD s i 0) ≡ take (i + 1) s ++ drop (i + 1) d
-copy-more s d i hs hd =
-    ap (λ (r : List ℕ). set (take i s ++ r) i (getD s i 0)) (drop-cons d i 0 hd)
-    ∙ set-at (take i s) (getD d i 0) (drop (suc i) d) (getD s i 0) i (length-take-le i s (omega arith))
-    ∙ sym (append-snoc (take i s) (getD s i 0) (drop (suc i) d))
-    ∙ ap (λ (r : List ℕ). r ++ drop (suc i) d) (sym (take-suc s i 0 hs))
-    ∙ ap (λ (k : ℕ). take k s ++ drop k d) (sym (add-one i))
+copy-more s d i hs hd = rw add-one (simp zero-add at (paste-suc d 0 s i 0 (rw zero-add hd) hs))
 
 pub copied : (s pad : List ℕ) (i : ℕ) → length s ≡ 34 → i ≤ 34 → 34 ≤ i → pad ≡ take i s ++ drop i (replicate 48 0) → pad ≡ s ++ replicate 14 0
 copied s pad i n a b e =

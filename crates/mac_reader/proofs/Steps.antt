@@ -2,7 +2,7 @@
 use mathlib.Core.Path.{_≡_, refl}
 use mathlib.Core.Bool.{Bool, true, false, not, _&&_, _||_}
 use mathlib.Core.List.{List, [], _∷_}
-use Prim.Native.Nat.{ℕ, zero, suc, _+_, _-_, _*_, _≤_, _<_}
+use Prim.Native.Nat.{ℕ, zero, suc, _+_, _*_, _≤_, _<_}
 use native.Mathlib.Omega.{arith}
 use lib.Dec.{leb, eqb}
 use borrow.Author.Tests.{lt-ltb, le-ltb, leb-true, not-true, not-false}
@@ -19,7 +19,8 @@ at-end zero w l at h = refl
 at-end (suc n) w l at h = rw (lt-ltb w (at + 16) h)
 
 -- a step that is the last, and one that is not
-pub last-read : (n w : ℕ) (l : List ℕ) (at : ℕ) (h : PduHeader) → at + 16 ≤ w → pduAt w l at ≡ Last h → readPdus (suc n) w l at ≡ headers (record { at = at; header = h } ∷ [])
+pub last-read : (n w : ℕ) (l : List ℕ) (at : ℕ) (h : PduHeader) → at + 16 ≤ w → pduAt w l at ≡ Last h → readPdus (suc n) w l at
+    ≡ headers (record { at = at; header = h } ∷ [])
 unfolding readPdus
 last-read n w l at h k e = rw (le-ltb w (at + 16) k, e)
 
@@ -56,10 +57,6 @@ other-type (suc zero) w l start at p q = absurd (q refl)
 other-type (suc (suc t)) w l start at p q = refl
 
 -- tests joined by or
-pub or-true : (a : Bool) → a || true ≡ true
-or-true true = refl
-or-true false = refl
-
 pub or-false : (a b : Bool) → a ≡ false → a || b ≡ true → b ≡ true
 or-false a b p h = rw p at h
 
@@ -77,7 +74,3 @@ pub end-taken : (w at : ℕ) (m : MacEndDl) (x y : ℕ) (b : Bool) → b ≡ oct
     → More (PduHeader.End m) (at + 8 * m .«length_ind») ≡ endStep w at m x y
 unfolding endStep
 end-taken w at m x y b e h = rw (← e, not-false (eqb x 0 && eqb y 0 && b) h)
-
--- "those four bits": in a block of 8 * o - 4 bits, fewer than eight left behind whole octets are four
-pub four-bits : (o e : ℕ) → 0 < o → 8 * e ≤ 8 * o - 4 → 8 * o - 4 < 8 * e + 8 → 8 * o - 4 ≡ 8 * e + 4
-four-bits o e p a b = omega arith

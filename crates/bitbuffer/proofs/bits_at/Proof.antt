@@ -17,9 +17,14 @@ returns c =
     let b = c .before .before .before .before in
     let a = b .args in
     let one = one-shl {k = a .n} 64 (omega arith) in
-    rw (one, c .joined .ensures) (valueBits-mod (a .n) _ ∙ pair-part (a .s .now) (a .at) (a .n) (b .pre .2) (b .pre .3) (b .pre .0) (λ i. c .before .shared-slice-known3 .given i .fits), mod-lt _ (pow-pos (a .n)))
+    rw (one, c .joined .ensures) (
+      valueBits-mod (a .n) _ ∙ pair-part (a .s .now) (a .at) (a .n) (b .pre .2) (b .pre .3) (b .pre .0)
+          (λ i. c .before .shared-slice-known3 .given i .fits),
+      mod-lt _ (pow-pos (a .n)),
+    )
 
 pub bits-at-spec : {M : Type 1} → statement M
 bits-at-spec =
     tie.close
-    (tie.spec (λ c. search needs) (λ c. search needs) (λ c. search needs) (λ c. search needs) (λ c κs. search needs) (λ c. search needs) (λ c. search needs) (λ c. search needs) (λ c. search needs) (λ c. search needs) rem-result returns)
+    (tie.spec (λ c. search needs) (λ c. search needs) (λ c. search needs) (λ c. search needs) (λ c κs. search needs) (λ c. search needs)
+    (λ c. search needs) (λ c. search needs) (λ c. search needs) (λ c. search needs) rem-result returns)

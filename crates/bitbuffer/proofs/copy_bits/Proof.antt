@@ -13,10 +13,13 @@ returns-2 c =
     let y = z .before .before .before .before in
     let x = y .before .before .before .before in
     let a = x .before .before .before .before .before .args in
-    written-three _ _ _ (bitsOf (a .dst .now)) (a .at) (bitsOf (a .src .now)) (a .from) _ _ _ (a .n) (rw length-bitsOf (omega arith)) (omega arith) (omega arith)
+    written-three _ _ _ (bitsOf (a .dst .now)) (a .at) (bitsOf (a .src .now)) (a .from) _ _ _ (a .n) (rw length-bitsOf (omega arith)) (omega arith)
+    (omega arith)
     (x .copy-chunks2 .ensures) (y .copy-octets .ensures) (z .copy-chunks3 .ensures)
 
 pub copy-bits-spec : {M : Type 1} → statement M
 copy-bits-spec =
     tie.close
-    (tie.spec (λ c. search needs) (λ c. search needs) (λ c κs. search needs) (λ c. search needs) (λ c. search needs) (λ c κs. search needs) (λ c. search needs) (λ c. search needs) (λ c. search needs) (λ c. search needs) (λ c κs. search needs) (λ c. search needs) (λ c. search needs) (λ c. search needs) (λ c. search needs) (λ c. search needs) (λ c κs. search needs) (λ c. search needs) returns-2)
+    (tie.spec (λ c. search needs) (λ c. search needs) (λ c κs. search needs) (λ c. search needs) (λ c. search needs) (λ c κs. search needs)
+    (λ c. search needs) (λ c. search needs) (λ c. search needs) (λ c. search needs) (λ c κs. search needs) (λ c. search needs) (λ c. search needs)
+    (λ c. search needs) (λ c. search needs) (λ c. search needs) (λ c κs. search needs) (λ c. search needs) returns-2)

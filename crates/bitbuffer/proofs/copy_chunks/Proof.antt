@@ -36,7 +36,8 @@ loop-again c =
       omega arith,
       b .put-chunk .kept .0 ∙ p .loop .inv .2,
       ap (λ (l : List ℕ). written l (p .loop .to + k) (part src (p .loop .pos + k) (p .loop .left - k))) (b .put-chunk .ensures)
-          ∙ ap (λ (f : List ℕ). written (written (bitsOf (p .loop .dst)) (p .loop .to) f) (p .loop .to + k) (part src (p .loop .pos + k) (p .loop .left - k))) (b .before .bits-at .ensures .0)
+          ∙ ap (λ (f : List ℕ). written (written (bitsOf (p .loop .dst)) (p .loop .to) f) (p .loop .to + k)
+          (part src (p .loop .pos + k) (p .loop .left - k))) (b .before .bits-at .ensures .0)
           ∙ part-turn (bitsOf (p .loop .dst)) (p .loop .to) src (p .loop .pos) k (p .loop .left) (omega arith) (rw length-bitsOf (omega arith))
           ∙ p .loop .inv .3,
     )
@@ -47,4 +48,5 @@ returns c = part-done _ _ _ _ _ (c .loop-test .left) ∙ c .before .loop .inv .3
 pub copy-chunks-spec : {M : Type 1} → statement M
 copy-chunks-spec =
     tie.close
-    (tie.spec Inv-loop μ-loop loop-holds (λ c. search needs) (λ c. search needs) (λ c κs. search needs) put-chunk-requires (λ c. search needs) (λ c. search needs) (λ c. search needs) loop-again (λ c. search needs) returns)
+    (tie.spec Inv-loop μ-loop loop-holds (λ c. search needs) (λ c. search needs) (λ c κs. search needs) put-chunk-requires (λ c. search needs)
+    (λ c. search needs) (λ c. search needs) loop-again (λ c. search needs) returns)

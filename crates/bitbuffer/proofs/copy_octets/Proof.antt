@@ -26,7 +26,8 @@ loop-again c =
     let a = k .before .before .before .args in (
       omega arith,
       simp length-set (k .loop .inv .1),
-      octet-turn (a .dst .now) (k .loop .dst) (a .src .now) (a .at) (a .from) (k .loop .i) (c .octet-within .result) (k .loop .inv .2) (omega arith) (omega arith)
+      octet-turn (a .dst .now) (k .loop .dst) (a .src .now) (a .at) (a .from) (k .loop .i) (c .octet-within .result) (k .loop .inv .2) (omega arith)
+          (omega arith)
           (ap (valueBits 8) (c .octet-within .ensures)
           ∙ octet-part (a .src .now) (a .from) (k .loop .i) (omega arith) (c .before .shared-slice-known3 .given (a .from / 8 + k .loop .i + 1) .fits)),
     )
@@ -41,4 +42,6 @@ returns c =
 pub copy-octets-spec : {M : Type 1} → statement M
 copy-octets-spec =
     tie.close
-    (tie.spec Inv-loop μ-loop (λ c. search needs) loop-holds (λ c. search needs) (λ c. search needs) (λ c. search needs) (λ c. search needs) (λ c. search needs) (λ c κs. search needs) (λ c. search needs) (λ c. search needs) (λ c. search needs) (λ c. search needs) loop-again (λ c. search needs) returns)
+    (tie.spec Inv-loop μ-loop (λ c. search needs) loop-holds (λ c. search needs) (λ c. search needs) (λ c. search needs) (λ c. search needs)
+    (λ c. search needs) (λ c κs. search needs) (λ c. search needs) (λ c. search needs) (λ c. search needs) (λ c. search needs) loop-again
+    (λ c. search needs) returns)

@@ -34,7 +34,8 @@ turn : (c : tie.After-bits-at Inv-loop μ-loop)
     ≡ bitsValue (part (Bits c) (c .before .before .before .before .before .args .at) (c .before .before .before .before .before .args .width))
 turn c =
     let p = c .before .before .before in
-    number-turn (Bits c) (p .loop .pos) (c .before .chunk .result) (p .loop .left) (p .loop .sum) (c .bits-at .result) (omega arith) (rw length-bitsOf (omega arith))
+    number-turn (Bits c) (p .loop .pos) (c .before .chunk .result) (p .loop .left) (p .loop .sum) (c .bits-at .result) (omega arith)
+    (rw length-bitsOf (omega arith))
     (c .bits-at .ensures .0) (c .bits-at .ensures .1)
     ∙ p .loop .inv .1
 
@@ -63,4 +64,5 @@ returns c =
 pub read-bits-spec : {M : Type 1} → statement M
 read-bits-spec =
     tie.close
-    (tie.spec Inv-loop μ-loop loop-holds (λ c. search needs) (λ c. search needs) (λ c. search needs) (λ c κs. search needs) add-sum (λ c. search needs) (λ c. search needs) loop-again returns)
+    (tie.spec Inv-loop μ-loop loop-holds (λ c. search needs) (λ c. search needs) (λ c. search needs) (λ c κs. search needs) add-sum
+    (λ c. search needs) (λ c. search needs) loop-again returns)

@@ -27,4 +27,5 @@ returns-2 c =
 pub with-bits-spec : {M : Type 1} → statement M
 with-bits-spec =
     tie.close
-    (tie.spec cast-result returns (λ c. search needs) (λ c. search needs) (λ c. search needs) (λ c. search needs) (λ c. search needs) rem-behind (λ c. search needs) (λ c. search needs) (λ c. search needs) returns-2)
+    (tie.spec cast-result returns (λ c. search needs) (λ c. search needs) (λ c. search needs) (λ c. search needs) (λ c. search needs) rem-behind
+    (λ c. search needs) (λ c. search needs) (λ c. search needs) returns-2)

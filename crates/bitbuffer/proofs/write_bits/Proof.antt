@@ -42,7 +42,8 @@ loop-again c =
       omega arith,
       b .put-chunk .kept .0 ∙ p .loop .inv .2,
       ap (λ (l : List ℕ). written l (p .loop .pos + n) (valueBits left value)) (b .put-chunk .ensures)
-          ∙ ap (λ (m : ℕ). written (written (bitsOf (p .loop .s)) (p .loop .pos) (valueBits n (value / 2 ^ left % m))) (p .loop .pos + n) (valueBits left value)) (one-shl {k = n} 64 (omega arith))
+          ∙ ap (λ (m : ℕ). written (written (bitsOf (p .loop .s)) (p .loop .pos) (valueBits n (value / 2 ^ left % m))) (p .loop .pos + n)
+          (valueBits left value)) (one-shl {k = n} 64 (omega arith))
           ∙ value-turn (bitsOf (p .loop .s)) (p .loop .pos) n (p .loop .left) value (omega arith)
           ∙ p .loop .inv .3,
     )
@@ -53,4 +54,5 @@ returns c = value-done _ _ _ _ (c .loop-test .left) ∙ c .before .loop .inv .3
 pub write-bits-spec : {M : Type 1} → statement M
 write-bits-spec =
     tie.close
-    (tie.spec Inv-loop μ-loop loop-holds (λ c. search needs) (λ c. search needs) (λ c. search needs) (λ c. search needs) rem-put-chunk put-chunk-requires (λ c. search needs) (λ c. search needs) loop-again (λ c. search needs) returns)
+    (tie.spec Inv-loop μ-loop loop-holds (λ c. search needs) (λ c. search needs) (λ c. search needs) (λ c. search needs) rem-put-chunk
+    put-chunk-requires (λ c. search needs) (λ c. search needs) loop-again (λ c. search needs) returns)

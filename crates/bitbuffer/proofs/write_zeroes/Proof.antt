@@ -40,9 +40,11 @@ loop-again c =
 returns : tie.Need-returns Inv-loop μ-loop
 returns c =
     value-done _ _ _ _ (c .loop-test .left) ∙ c .before .loop .inv .2
-    ∙ ap (written (bitsOf (c .before .before .before .args .s .now)) (c .before .before .before .args .at)) (valueBits-zero (c .before .before .before .args .n))
+    ∙ ap (written (bitsOf (c .before .before .before .args .s .now)) (c .before .before .before .args .at))
+    (valueBits-zero (c .before .before .before .args .n))
 
 pub write-zeroes-spec : {M : Type 1} → statement M
 write-zeroes-spec =
     tie.close
-    (tie.spec Inv-loop μ-loop (λ c. (refl, refl, refl)) (λ c. search needs) (λ c. search needs) put-chunk-requires (λ c. search needs) (λ c. search needs) loop-again (λ c. search needs) returns)
+    (tie.spec Inv-loop μ-loop (λ c. (refl, refl, refl)) (λ c. search needs) (λ c. search needs) put-chunk-requires (λ c. search needs)
+    (λ c. search needs) loop-again (λ c. search needs) returns)

@@ -2,13 +2,13 @@
 mod Lts
 mod Tie
 use mathlib.Core.Path.{sym}
+use lib.Seq.{set-out}
 use borrow.Author.Needs.{needs}
-use Rattle.enqueue_core.proofs.PlanLaws.{set-past}
 use Rattle.bs_sched.proofs.put_record.Statement.{statement}
 use Rattle.bs_sched.proofs.put_record.Proof.Tie as tie
 
 past-the-end : tie.Need-returns-2
-past-the-end c = sym (set-past _ _ _ (c .if1 .left))
+past-the-end c = sym (set-out _ _ _ (c .if1 .left))
 
 pub put-record-spec : {M : Type 1} → statement M
 put-record-spec = tie.close (tie.spec (λ c. search needs) (λ c. search needs) (λ c. search needs) (λ c. search needs) past-the-end)

@@ -15,4 +15,6 @@ returns-8 c = rw (c .before .a3 .given .1)
 pub label-of-spec : {M : Type 1} → statement M
 label-of-spec =
     tie.close
-    (tie.spec (λ c. search needs) (λ c. search needs) (λ c. search needs) (λ c. search needs) (λ c. search needs) (λ c. search needs) (λ c. search needs) (λ c. search needs) (λ c. search needs) (λ c. search needs) returns-3 (λ c. search needs) (λ c. search needs) returns-6 (λ c. search needs) returns-8)
+    (tie.spec (λ c. search needs) (λ c. search needs) (λ c. search needs) (λ c. search needs) (λ c. search needs) (λ c. search needs)
+    (λ c. search needs) (λ c. search needs) (λ c. search needs) (λ c. search needs) returns-3 (λ c. search needs) (λ c. search needs) returns-6
+    (λ c. search needs) returns-8)

@@ -17,10 +17,14 @@ returns-2 c =
     let m8 = c .before in
     let m4 = m8 .before in
     let e = m4 .before in
-    let al = e .before in
-    (header-some _ _ _ _ _ (λ z. e .if1 .left (al .before .addr-type .ensures ∙ z)) (al .address-length .ensures .0) (m4 .opt-length .ensures .0) (m8 .opt-length2 .ensures .0) (c .opt-chan-alloc-length .ensures .0), omega arith)
+    let al = e .before in (
+      header-some _ _ _ _ _ (λ z. e .if1 .left (al .before .addr-type .ensures ∙ z)) (al .address-length .ensures .0) (m4 .opt-length .ensures .0)
+          (m8 .opt-length2 .ensures .0) (c .opt-chan-alloc-length .ensures .0),
+      omega arith,
+    )
 
 pub compute-header-len-spec : {M : Type 1} → statement M
 compute-header-len-spec =
     tie.close
-    (tie.spec (λ c. search needs) (λ c. search needs) (λ c. search needs) returns (λ c. search needs) (λ c. search needs) (λ c. search needs) (λ c. search needs) (λ c. search needs) (λ c. search needs) (λ c. search needs) returns-2)
+    (tie.spec (λ c. search needs) (λ c. search needs) (λ c. search needs) returns (λ c. search needs) (λ c. search needs) (λ c. search needs)
+    (λ c. search needs) (λ c. search needs) (λ c. search needs) (λ c. search needs) returns-2)

@@ -26,7 +26,8 @@ returns-2 c =
     let r = told .before .before in
     let e1 = r .before in
     let q = e1 .before .before in
-    c .no-headers .ensures ∙ got-refused _ _ _ _ _ (q .loop .inv .0) (e1 .before .loop-test .taken) (e1 .if1 .left) (sym (r .read-pdu .ensures) ∙ told .enum-told .given .1)
+    c .no-headers .ensures ∙ got-refused _ _ _ _ _ (q .loop .inv .0) (e1 .before .loop-test .taken) (e1 .if1 .left)
+    (sym (r .read-pdu .ensures) ∙ told .enum-told .given .1)
 
 returns-3 : tie.Need-returns-3 Inv-loop μ-loop
 returns-3 c =
@@ -50,4 +51,6 @@ returns-4 c = got-full _ _ _ _ _ (c .before .loop .inv .0) (search needs)
 pub read-list-spec : {M : Type 1} → statement M
 read-list-spec =
     tie.close
-    (tie.spec Inv-loop μ-loop loop-holds (λ c. search needs) returns (λ c κs. search needs) (λ c. search needs) (λ c κs. search needs) returns-2 (λ c. search needs) (λ c. search needs) (λ c. search needs) (λ c. search needs) returns-3 (λ c. search needs) (λ c. search needs) (λ c. search needs) (λ c. search needs) (λ c. search needs) loop-again returns-4)
+    (tie.spec Inv-loop μ-loop loop-holds (λ c. search needs) returns (λ c κs. search needs) (λ c. search needs) (λ c κs. search needs) returns-2
+    (λ c. search needs) (λ c. search needs) (λ c. search needs) (λ c. search needs) returns-3 (λ c. search needs) (λ c. search needs)
+    (λ c. search needs) (λ c. search needs) (λ c. search needs) loop-again returns-4)

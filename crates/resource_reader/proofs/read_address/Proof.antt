@@ -58,10 +58,15 @@ returns-8 : tie.Need-returns-8
 unfolding addressAt field
 returns-8 c =
     let r = c .before .match .rest in
-    let seven = last-code (c .before .before .before .before .before .read-bits .ensures .1) (c .before .before .before .before .if1 .left) (r .0 .0 .0 .0 .1) (c .before .before .before .if2 .left) (r .0 .0 .0 .1) (r .0 .0 .1) (r .0 .1) (r .1) in
+    let seven = last-code (c .before .before .before .before .before .read-bits .ensures .1) (c .before .before .before .before .if1 .left)
+    (r .0 .0 .0 .0 .1) (c .before .before .before .if2 .left) (r .0 .0 .0 .1) (r .0 .0 .1) (r .0 .1) (r .1) in
     (rw (sym (c .before .before .before .before .before .read-bits .ensures .0) ∙ seven) (cc), omega arith)
 
 pub read-address-spec : {M : Type 1} → statement M
 read-address-spec =
     tie.close
-    (tie.spec (λ c κs. search needs) (λ c. search needs) returns (λ c κs. search needs) (λ c. search needs) (λ c. search needs) returns-2 (λ c κs. search needs) (λ c. search needs) (λ c. search needs) (λ c. search needs) (λ c. search needs) (λ c κs. search needs) (λ c. search needs) (λ c. search needs) (λ c. search needs) (λ c κs. search needs) (λ c. search needs) (λ c. search needs) (λ c. search needs) (λ c κs. search needs) (λ c. search needs) (λ c. search needs) (λ c. search needs) returns-3 returns-4 returns-5 returns-6 returns-7 returns-8)
+    (tie.spec (λ c κs. search needs) (λ c. search needs) returns (λ c κs. search needs) (λ c. search needs) (λ c. search needs) returns-2
+    (λ c κs. search needs) (λ c. search needs) (λ c. search needs) (λ c. search needs) (λ c. search needs) (λ c κs. search needs)
+    (λ c. search needs) (λ c. search needs) (λ c. search needs) (λ c κs. search needs) (λ c. search needs) (λ c. search needs)
+    (λ c. search needs) (λ c κs. search needs) (λ c. search needs) (λ c. search needs) (λ c. search needs) returns-3 returns-4 returns-5
+    returns-6 returns-7 returns-8)

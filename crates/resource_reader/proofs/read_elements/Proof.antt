@@ -20,8 +20,11 @@ returns-2 : tie.Need-returns-2
 unfolding elementsAt
 returns-2 c =
     let g = c .before in
-    let p = g .before in
-    (elements-then _ _ _ _ _ _ (λ x y z n. record { «power_control_element» = x; «slot_granting_element» = y; «chan_alloc_element» = z; next = n }) (p .before .if1 .left) (p .read-opt-u8 .ensures .0) (g .read-opt-u82 .ensures .0) (c .read-opt-chan-alloc .ensures .0), omega arith)
+    let p = g .before in (
+      elements-then _ _ _ _ _ _ (λ x y z n. record { «power_control_element» = x; «slot_granting_element» = y; «chan_alloc_element» = z; next = n })
+          (p .before .if1 .left) (p .read-opt-u8 .ensures .0) (g .read-opt-u82 .ensures .0) (c .read-opt-chan-alloc .ensures .0),
+      omega arith,
+    )
 
 pub read-elements-spec : {M : Type 1} → statement M
 read-elements-spec =

@@ -19,8 +19,11 @@ returns c =
 returns-2 : tie.Need-returns-2
 unfolding optChanAllocAt field
 returns-2 c =
-    let e = positive _ (λ z. c .before .before .if1 .left (c .before .before .before .read-bits .ensures .0 ∙ z)) in
-    (rw e (ap {B = OptChanAllocRead} (λ (r : ChanAllocRead). record { a = OptChanAlloc.Of (r .c); next = r .next }) (c .before .read-chan-alloc .ensures .0) ∙ chan-alloc-run _ _ (λ c next. record { a = OptChanAlloc.Of c; next = next })), omega arith)
+    let e = positive _ (λ z. c .before .before .if1 .left (c .before .before .before .read-bits .ensures .0 ∙ z)) in (
+      rw e (ap {B = OptChanAllocRead} (λ (r : ChanAllocRead). record { a = OptChanAlloc.Of (r .c); next = r .next })
+          (c .before .read-chan-alloc .ensures .0) ∙ chan-alloc-run _ _ (λ c next. record { a = OptChanAlloc.Of c; next = next })),
+      omega arith,
+    )
 
 pub read-opt-chan-alloc-spec : {M : Type 1} → statement M
 read-opt-chan-alloc-spec =

@@ -31,11 +31,22 @@ returns c =
       };
       next = n;
     } in
-    rw (← q .before .before .before .before .before .read-bits .ensures .0, ← q .before .before .before .before .read-bits2 .ensures .0, ← q .before .before .before .read-bits3 .ensures .0, ← q .before .before .read-bits4 .ensures .0, ← q .before .read-bits5 .ensures .0)
-    (elements-resume _ l _ _ (k (q .read-address .result .a)) (c .read-elements .ensures .0 ∙ ap (λ (n : ℕ). elementsRead n l (q .read-address .result .next)) (c .before .addr-type .ensures))
+    rw (
+      ← q .before .before .before .before .before .read-bits .ensures .0,
+      ← q .before .before .before .before .read-bits2 .ensures .0,
+      ← q .before
+          .before .before .read-bits3 .ensures .0,
+      ← q .before .before .read-bits4 .ensures .0,
+      ← q .before .read-bits5 .ensures .0,
+    )
+    (elements-resume _ l _ _ (k (q .read-address .result .a))
+    (c .read-elements .ensures .0 ∙ ap (λ (n : ℕ). elementsRead n l (q .read-address .result .next)) (c .before .addr-type .ensures))
     ∙ address-then l _ _ (λ a n. elementsAt (addressType a) l n (k a)) (q .read-address .ensures .0))
 
 pub read-resource-spec : {M : Type 1} → statement M
 read-resource-spec =
     tie.close
-    (tie.spec (λ c. search needs) (λ c. search needs) (λ c. search needs) (λ c. search needs) (λ c. search needs) (λ c. search needs) (λ c κs. search needs) (λ c. search needs) (λ c κs. search needs) (λ c. search needs) (λ c κs. search needs) (λ c. search needs) (λ c κs. search needs) (λ c. search needs) (λ c κs. search needs) (λ c. search needs) (λ c κs. search needs) (λ c κs. search needs) (λ c κs. search needs) returns)
+    (tie.spec (λ c. search needs) (λ c. search needs) (λ c. search needs) (λ c. search needs) (λ c. search needs) (λ c. search needs)
+    (λ c κs. search needs) (λ c. search needs) (λ c κs. search needs) (λ c. search needs) (λ c κs. search needs) (λ c. search needs)
+    (λ c κs. search needs) (λ c. search needs) (λ c κs. search needs) (λ c. search needs) (λ c κs. search needs) (λ c κs. search needs)
+    (λ c κs. search needs) returns)

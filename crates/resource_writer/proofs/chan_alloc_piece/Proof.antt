@@ -15,8 +15,12 @@ returns c =
     let h = s .pre in
     let e = c .enum-told .given .1 in (
       omega arith,
-      rw (e, append-nil) (cons 2 (a .«alloc_type») (h .«alloc_type») (cons 4 (a .«ts_assigned») (h .«ts_assigned») (cons 2 (a .«ul_dl_assigned») (h .«ul_dl_assigned») (cons 1 (a .«clch_permission») (h .«clch_permission»)
-          (cons 1 (a .«cell_change_flag») (h .«cell_change_flag») (cons 12 (a .«carrier_num») (h .«carrier_num») (cons 1 (a .«ext_carrier_num_flag») (h .«ext_carrier_num_flag») (last 2 (a .«mon_pattern») (h .«mon_pattern»))))))))),
+      rw (e, append-nil) (cons 2 (a .«alloc_type») (h .«alloc_type»)
+          (cons 4 (a .«ts_assigned») (h .«ts_assigned») (cons 2 (a .«ul_dl_assigned») (h .«ul_dl_assigned»)
+          (cons 1 (a .«clch_permission») (h .«clch_permission»)
+          (cons 1 (a .«cell_change_flag») (h .«cell_change_flag»)
+          (cons 12 (a .«carrier_num») (h .«carrier_num»)
+          (cons 1 (a .«ext_carrier_num_flag») (h .«ext_carrier_num_flag») (last 2 (a .«mon_pattern») (h .«mon_pattern»))))))))),
     )
 
 returns-2 : tie.Need-returns-2
@@ -28,11 +32,21 @@ returns-2 c =
     let g = c .before .frame18 .given in
     let e = g .1 in (
       omega arith,
-      rw e (cons 2 (a .«alloc_type») (h .«alloc_type») (cons 4 (a .«ts_assigned») (h .«ts_assigned») (cons 2 (a .«ul_dl_assigned») (h .«ul_dl_assigned») (cons 1 (a .«clch_permission») (h .«clch_permission»)
-          (cons 1 (a .«cell_change_flag») (h .«cell_change_flag») (cons 12 (a .«carrier_num») (h .«carrier_num») (cons 1 (a .«ext_carrier_num_flag») (h .«ext_carrier_num_flag») (cons 2 (a .«mon_pattern») (h .«mon_pattern») (last 2 (g .0 .0) (rw e at (h .«frame18_mon_pattern») .1)))))))))),
+      rw e (cons 2 (a .«alloc_type») (h .«alloc_type») (cons 4 (a .«ts_assigned») (h .«ts_assigned»)
+          (cons 2 (a .«ul_dl_assigned») (h .«ul_dl_assigned») (cons 1 (a .«clch_permission») (h .«clch_permission»)
+          (cons 1 (a .«cell_change_flag») (h .«cell_change_flag»)
+          (cons 12 (a .«carrier_num») (h .«carrier_num»)
+          (cons 1 (a .«ext_carrier_num_flag») (h .«ext_carrier_num_flag»)
+          (cons 2 (a .«mon_pattern») (h .«mon_pattern») (last 2 (g .0 .0) (rw e at (h .«frame18_mon_pattern») .1)))))))))),
     )
 
 pub chan-alloc-piece-spec : {M : Type 1} → statement M
 chan-alloc-piece-spec =
     tie.close
-    (tie.spec (λ c. search needs) (λ c. search needs) (λ c. search needs) (λ c. search needs) (λ c. search needs) (λ c. search needs) (λ c. search needs) (λ c. search needs) (λ c. search needs) (λ c. search needs) (λ c. search needs) (λ c. search needs) (λ c. search needs) (λ c. search needs) (λ c. search needs) (λ c. search needs) (λ c. search needs) (λ c. search needs) (λ c. search needs) (λ c. search needs) (λ c. search needs) (λ c. search needs) (λ c. search needs) (λ c. search needs) (λ c. search needs) (λ c. search needs) (λ c. search needs) (λ c. search needs) (λ c. search needs) (λ c. search needs) (λ c. search needs) (λ c. search needs) (λ c. search needs) (λ c. search needs) (λ c. search needs) (λ c. search needs) (λ c. search needs) (λ c. search needs) (λ c. search needs) (λ c. search needs) (λ c. search needs) returns returns-2)
+    (tie.spec (λ c. search needs) (λ c. search needs) (λ c. search needs) (λ c. search needs) (λ c. search needs) (λ c. search needs)
+    (λ c. search needs) (λ c. search needs) (λ c. search needs) (λ c. search needs) (λ c. search needs) (λ c. search needs) (λ c. search needs)
+    (λ c. search needs) (λ c. search needs) (λ c. search needs) (λ c. search needs) (λ c. search needs) (λ c. search needs)
+    (λ c. search needs) (λ c. search needs) (λ c. search needs) (λ c. search needs) (λ c. search needs) (λ c. search needs)
+    (λ c. search needs) (λ c. search needs) (λ c. search needs) (λ c. search needs) (λ c. search needs) (λ c. search needs)
+    (λ c. search needs) (λ c. search needs) (λ c. search needs) (λ c. search needs) (λ c. search needs) (λ c. search needs)
+    (λ c. search needs) (λ c. search needs) (λ c. search needs) (λ c. search needs) returns returns-2)

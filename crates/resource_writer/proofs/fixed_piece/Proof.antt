@@ -10,10 +10,14 @@ returns : tie.Need-returns
 unfolding fixedBits
 returns c =
     let a = c .args in
-    let h = c .pre in
-    (omega arith, zeros 2 (cons 1 (a .fill) (h .0) (cons 1 (a .position) (h .1) (cons 2 (a .encryption) (h .2) (cons 1 (a .random) (h .3) (last 6 (a .len) (h .4)))))))
+    let h = c .pre in (
+      omega arith,
+      zeros 2 (cons 1 (a .fill) (h .0) (cons 1 (a .position) (h .1)
+          (cons 2 (a .encryption) (h .2) (cons 1 (a .random) (h .3) (last 6 (a .len) (h .4)))))),
+    )
 
 pub fixed-piece-spec : {M : Type 1} → statement M
 fixed-piece-spec =
     tie.close
-    (tie.spec (λ c. search needs) (λ c. search needs) (λ c. search needs) (λ c. search needs) (λ c. search needs) (λ c. search needs) (λ c. search needs) (λ c. search needs) returns)
+    (tie.spec (λ c. search needs) (λ c. search needs) (λ c. search needs) (λ c. search needs) (λ c. search needs) (λ c. search needs)
+    (λ c. search needs) (λ c. search needs) returns)

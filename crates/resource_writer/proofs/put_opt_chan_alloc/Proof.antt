@@ -35,4 +35,5 @@ returns-2 c =
 pub put-opt-chan-alloc-spec : {M : Type 1} → statement M
 put-opt-chan-alloc-spec =
     tie.close
-    (tie.spec (λ c. search needs) put-requires (λ c. search needs) chan-alloc-piece-requires put-requires-2 put-piece-requires (λ c. search needs) returns (λ c. search needs) returns-2)
+    (tie.spec (λ c. search needs) put-requires (λ c. search needs) chan-alloc-piece-requires put-requires-2 put-piece-requires (λ c. search needs)
+    returns (λ c. search needs) returns-2)

@@ -32,4 +32,5 @@ returns-2 c =
 pub put-opt-u8-spec : {M : Type 1} → statement M
 put-opt-u8-spec =
     tie.close
-    (tie.spec (λ c. search needs) put-requires (λ c. search needs) put-requires-2 (λ c. search needs) put-requires-3 (λ c. search needs) returns (λ c. search needs) returns-2)
+    (tie.spec (λ c. search needs) put-requires (λ c. search needs) put-requires-2 (λ c. search needs) put-requires-3 (λ c. search needs) returns
+    (λ c. search needs) returns-2)

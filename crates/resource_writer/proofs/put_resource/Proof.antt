@@ -22,8 +22,11 @@ unfolding resourceBits
 returns c =
     let p = c .before .before .before in
     let r = p .before .before .before .before .before .before .before .before .before .before .args .r in
-    let none = elements-none _ (r .«power_control_element») (r .«slot_granting_element») (r .«chan_alloc_element») (sym (p .before .before .before .before .before .before .before .before .addr-type .ensures) ∙ c .if1 .taken) in
-    rw (none, append-nil) (then (wrote-piece (p .before .before .before .before .before .before .before .fixed-piece .ensures .1) (p .before .before .before .before .put-piece .ensures .1)) (wrote-piece (p .before .before .before .before .before .before .address-piece .ensures .1) (p .put-piece2 .ensures .1)))
+    let none = elements-none _ (r .«power_control_element») (r .«slot_granting_element») (r .«chan_alloc_element»)
+    (sym (p .before .before .before .before .before .before .before .before .addr-type .ensures) ∙ c .if1 .taken) in
+    rw (none, append-nil) (then (wrote-piece (p .before .before .before .before .before .before .before .fixed-piece .ensures .1)
+    (p .before .before .before .before .put-piece .ensures .1))
+    (wrote-piece (p .before .before .before .before .before .before .address-piece .ensures .1) (p .put-piece2 .ensures .1)))
 
 put-elements-requires : tie.Need-put-elements-requires
 put-elements-requires c κs =
@@ -31,7 +34,8 @@ put-elements-requires c κs =
     let s = p .before .before .before .before .before .before .before .before .before .before in
     let r = s .args .r in
     let e = resource-length r in
-    let t = ap length (elements-other _ (r .«power_control_element») (r .«slot_granting_element») (r .«chan_alloc_element») (λ z. c .before .if1 .left (p .before .before .before .before .before .before .before .before .addr-type .ensures ∙ z))) in
+    let t = ap length (elements-other _ (r .«power_control_element») (r .«slot_granting_element») (r .«chan_alloc_element»)
+    (λ z. c .before .if1 .left (p .before .before .before .before .before .before .before .before .addr-type .ensures ∙ z))) in
     (omega (arith, s .pre .0, p .before .before .before .before .before .before), (omega (arith, s .pre .1), s .pre .2 .«chan_alloc_element»))
 
 returns-2 : tie.Need-returns-2
@@ -40,10 +44,15 @@ returns-2 c =
     let q = c .before .before in
     let p = q .before .before .before .before .before in
     let r = p .before .before .before .before .before .before .before .before .before .before .args .r in
-    let tail = elements-other _ (r .«power_control_element») (r .«slot_granting_element») (r .«chan_alloc_element») (λ z. q .before .before .if1 .left (p .before .before .before .before .before .before .before .before .addr-type .ensures ∙ z)) in
-    rw tail (then (wrote-piece (p .before .before .before .before .before .before .before .fixed-piece .ensures .1) (p .before .before .before .before .put-piece .ensures .1)) (then (wrote-piece (p .before .before .before .before .before .before .address-piece .ensures .1) (p .put-piece2 .ensures .1)) (q .put-elements .ensures)))
+    let tail = elements-other _ (r .«power_control_element») (r .«slot_granting_element») (r .«chan_alloc_element»)
+    (λ z. q .before .before .if1 .left (p .before .before .before .before .before .before .before .before .addr-type .ensures ∙ z)) in
+    rw tail (then (wrote-piece (p .before .before .before .before .before .before .before .fixed-piece .ensures .1)
+    (p .before .before .before .before .put-piece .ensures .1))
+    (then (wrote-piece (p .before .before .before .before .before .before .address-piece .ensures .1) (p .put-piece2 .ensures .1))
+    (q .put-elements .ensures)))
 
 pub put-resource-spec : {M : Type 1} → statement M
 put-resource-spec =
     tie.close
-    (tie.spec (λ c κs. search needs) (λ c κs. search needs) (λ c κs. search needs) put-piece-requires put-piece-requires-2 (λ c. search needs) returns put-elements-requires (λ c. search needs) returns-2)
+    (tie.spec (λ c κs. search needs) (λ c κs. search needs) (λ c κs. search needs) put-piece-requires put-piece-requires-2 (λ c. search needs) returns
+    put-elements-requires (λ c. search needs) returns-2)
