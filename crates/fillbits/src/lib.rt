@@ -8,7 +8,7 @@ ghost use Rattle.bitbuffer.specs.Bits.{bitsOf, part, Wrote};
 ghost use Rattle.fillbits.specs.Fill.{toOctet, fillWanted, fillBits, fromLastSet, fillAtEnd, reply, fillReply};
 
 // The fill bits from bit `total` to the next octet.
-pub fn compute_required_bytealigned(total: usize) -> usize
+fn compute_required_bytealigned(total: usize) -> usize
     ensures { λ r. ⌜ (r ≡ toOctet total) × (r < 8) ⌝ }
 {
     (8 - total % 8) % 8

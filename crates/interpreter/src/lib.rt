@@ -76,7 +76,7 @@ pub fn command_of(octet: u8) -> Command
 }
 
 // How many octets of operands a command has.
-pub fn operand_count(command: Command) -> usize
+fn operand_count(command: Command) -> usize
     ensures { λ r. ⌜ (r ≡ operandCount command) × (r ≤ 33) ⌝ }
 {
     match command {

@@ -198,7 +198,7 @@ fn no_headers(refusal: Refusal) -> BlockHeaders
 }
 
 // Lists the headers of the PDUs in the first `w` bits, at most 16.
-pub fn read_list(s: &[u8], w: usize) -> BlockHeaders
+fn read_list(s: &[u8], w: usize) -> BlockHeaders
     requires { ⌜ (w + 76 ≤ 8 * length (now s)) × (8 * length (now s) + 4096 < 2 ^ 64) ⌝ }
     ensures { λ r. ⌜ r ≡ replyOf (readPdus 16 w (bitsOf (now (s .entry))) 0) ⌝ }
 {
