@@ -42,7 +42,14 @@ request-cut m ops b h =
 queue-cut : (m : Memory) (stage ops b : List ℕ) → 10 ≤ length ops → queueStep m stage (ops ++ b) ≡ queueStep m stage ops
 unfolding queueStep
 queue-cut m stage ops b h =
-    rw (octet-cut ops b 0 (omega arith), octet-cut ops b 1 (omega arith), four-cut ops b 2 (omega arith), two-cut ops b 6 (omega arith), two-cut ops b 8 (omega arith))
+    rw (
+      octet-cut ops b 0 (omega arith),
+      octet-cut ops b 1 (omega arith),
+      four-cut ops b 2 (omega arith),
+      two-cut ops b 6 (omega arith),
+      two-cut ops b
+          8 (omega arith),
+    )
 
 part-cut : (ops b : List ℕ) (at n : ℕ) → at + n ≤ length ops → part (ops ++ b) at n ≡ part ops at n
 unfolding part
@@ -125,7 +132,8 @@ cut-before b s c ops w h =
     ∙ ap (λ (y : Step). joined (y .line) (wholeCommands (y .session) (drop m (ops ++ b)))) (step-cut s (commandOf c) ops b (fits c ops w))
     ∙ ap (λ (l : List ℕ). joined (x .line) (wholeCommands (x .session) l)) (drop-append-le m ops b (fits c ops w))
     ∙ ap (joined (x .line)) h
-    ∙ ap (λ (t : List ℕ). ran (turn r b .session) t (turn r b .left)) (sym (append-assoc (x .line) (r .printed) (wholeCommands (r .session) (r .left ++ b) .printed)))
+    ∙ ap (λ (t : List ℕ). ran (turn r b .session) t (turn r b .left))
+    (sym (append-assoc (x .line) (r .printed) (wholeCommands (r .session) (r .left ++ b) .printed)))
     ∙ ap (λ (q : Ran). turn q b) (sym (one-command s c ops w))
 
 pub cut-anywhere : (s : Session) (a b : List ℕ) → wholeCommands s (a ++ b) ≡ turn (wholeCommands s a) b

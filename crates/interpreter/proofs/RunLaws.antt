@@ -104,7 +104,8 @@ unfolding commands
 one-command s c ops h =
     let m = operandCount (commandOf c) in
     chosen (isWhole (c ∷ ops)) _ _ h
-    ∙ ap (joined (step s (commandOf c) ops .line)) (enough (length ops) (length (drop m ops)) (step s (commandOf c) ops .session) (drop m ops) (omega (arith, length-drop m ops)) (omega arith))
+    ∙ ap (joined (step s (commandOf c) ops .line)) (enough (length ops) (length (drop m ops)) (step s (commandOf c) ops .session) (drop m ops)
+    (omega (arith, length-drop m ops)) (omega arith))
 
 -- ---- the loop
 
@@ -124,9 +125,11 @@ written-behind : (a b f : List ℕ) (i : ℕ) → written (a ++ b) (length a + i
 unfolding written
 written-behind a b [] i = refl
 written-behind a b (x ∷ f) i =
-    ap (λ (l : List ℕ). written l (suc (length a + i)) f) (set-append-add a b i x) ∙ ap (λ (n : ℕ). written (a ++ set b i x) n f) (omega arith) ∙ written-behind a (set b i x) f (suc i)
+    ap (λ (l : List ℕ). written l (suc (length a + i)) f) (set-append-add a b i x) ∙ ap (λ (n : ℕ). written (a ++ set b i x) n f) (omega arith)
+    ∙ written-behind a (set b i x) f (suc i)
 
-wrote-behind : (out part : List ℕ) (count n : ℕ) (f : List ℕ) → count ≤ length out → Wrote (drop count out) 0 part n f → Wrote out count (take count out ++ part) (count + n) f
+wrote-behind : (out part : List ℕ) (count n : ℕ) (f : List ℕ) → count ≤ length out → Wrote (drop count out) 0 part n f
+    → Wrote out count (take count out ++ part) (count + n) f
 wrote-behind out part count n f h w =
     record {
       ends = omega (arith, w .ends);
@@ -145,7 +148,8 @@ wrote-back out part count n f h w =
     let all : count + (length out - count) ≡ length out = omega arith in
     let none : drop (length out - count) (drop count out) ≡ [] = drop-drop (length out - count) count out ∙ ap (λ (k : ℕ). drop k out) all ∙ drop-length out in
     let same : part ≡ part ++ drop (length out - count) (drop count out) = sym (ap (λ (l : List ℕ). part ++ l) none ∙ append-nil part) in
-    subst (λ l. Wrote out count (take count out ++ l) (count + n) f) same (wrote-behind out part count n f h (subst (λ l. Wrote l 0 part n f) (rest-of out count) w))
+    subst (λ l. Wrote out count (take count out ++ l) (count + n) f) same
+    (wrote-behind out part count n f h (subst (λ l. Wrote l 0 part n f) (rest-of out count) w))
 
 -- a turn
 running-step : (input : List ℕ) (s₀ s s' : Session) (out₀ out out' : List ℕ) (taken count n m : ℕ) (command : Command) (x : Step)
@@ -162,7 +166,8 @@ running-step input s₀ s s' out₀ out out' taken count n m command x k whole i
     let w1 : isWhole (c ∷ ops) ≡ true = ap (λ (l : List ℕ). isWhole l) (sym at) ∙ sym whole in
     let short : operandCount (commandOf c) ≤ length ops = leb-true _ _ (and-right (isKnown (commandOf c)) _ w1) in
     let size : length ops ≡ length input - (taken + 1) = length-drop (taken + 1) input in
-    let go : commands (length (drop taken input)) s (drop taken input) ≡ joined (x .line) (commands (length (drop (taken + 1 + m) input)) s' (drop (taken + 1 + m) input)) =
+    let go : commands (length (drop taken input)) s (drop taken input)
+    ≡ joined (x .line) (commands (length (drop (taken + 1 + m) input)) s' (drop (taken + 1 + m) input)) =
     ap (λ (l : List ℕ). commands (length l) s l) at ∙ one-command s c ops w1
     ∙ ap (λ (l : List ℕ). joined (step s (commandOf c) ops .line) (commands (length l) (step s (commandOf c) ops .session) l)) behind
     ∙ ap (λ (y : Step). joined (y .line) (commands (length (drop (taken + 1 + m) input)) (y .session) (drop (taken + 1 + m) input))) (sym known)
@@ -171,7 +176,8 @@ running-step input s₀ s s' out₀ out out' taken count n m command x k whole i
       text = k .text ++ x .line;
       wrote = then (k .wrote) w;
       rest = k .rest ∙ ap (joined (k .text)) go
-          ∙ ap (λ (l : List ℕ). ran (commands (length (drop (taken + 1 + m) input)) s' (drop (taken + 1 + m) input) .session) l (commands (length (drop (taken + 1 + m) input)) s' (drop (taken + 1 + m) input) .left))
+          ∙ ap (λ (l : List ℕ). ran (commands (length (drop (taken + 1 + m) input)) s' (drop (taken + 1 + m) input) .session) l
+          (commands (length (drop (taken + 1 + m) input)) s' (drop (taken + 1 + m) input) .left))
           (sym (append-assoc (k .text) (x .line) (commands (length (drop (taken + 1 + m) input)) s' (drop (taken + 1 + m) input) .printed)));
       inside = omega (arith, many);
       room = omega (arith, k .room);
@@ -189,8 +195,10 @@ running-turn input s₀ s out₀ out part store stage taken count m command r k 
     (wrote-back out part count (r .count) (x .line) fits (h .line))
 
 -- a turn that is an advance
-pub running-advance : (input : List ℕ) (s₀ : Session) (here : Station) (rs : List Record) (store stage out₀ out part : List ℕ) (taken count : ℕ) (command : Command) (a : Advanced)
-    → Running input s₀ (session (memory here rs store) stage) out₀ out taken count → isWhole (drop taken input) ≡ true → command ≡ commandOf (getD input taken 0)
+pub running-advance : (input : List ℕ) (s₀ : Session) (here : Station) (rs : List Record) (store stage out₀ out part : List ℕ) (taken count : ℕ)
+    (command : Command) (a : Advanced)
+    → Running input s₀ (session (memory here rs store) stage) out₀ out taken count → isWhole (drop taken input) ≡ true → command
+    ≡ commandOf (getD input taken 0)
     → command ≡ Command.Advance → count ≤ length out → Advances here a (take (length out - count) (drop count out)) part
     → Running input s₀ (session (memory (a .station) rs store) stage) out₀ (putBack out count part) (taken + 1) (count + a .count)
 running-advance input s₀ here rs store stage out₀ out part taken count command a k whole e adv fits h =

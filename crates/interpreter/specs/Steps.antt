@@ -22,7 +22,8 @@ pub record Executes (o : Outcome (List ℕ)) (r : Executed) (store' out out' : L
 -- an advance leaves any queue and any store
 abbrev pub Advances : Station → Advanced → List ℕ → List ℕ → Type 0
 Advances s a out out' =
-    (rs : List Record) (store : List ℕ) → Executes (advanceStep (memory s rs store)) (record { station = a .station; queue = rs; count = a .count }) store out out'
+    (rs : List Record) (store : List ℕ) → Executes (advanceStep (memory s rs store)) (record { station = a .station; queue = rs; count = a .count })
+    store out out'
 
 -- the same of any command, with the stage
 pub record Steps (x : Step) (r : Executed) (store' stage' out out' : List ℕ) : Type 0 where

@@ -3,11 +3,11 @@ use mathlib.Core.Path.{_≡_, refl, sym, ap, _∙_}
 use mathlib.Core.Bool.{Bool, true, false, not, cond}
 use mathlib.Core.List.{List, [], _∷_, _++_, append-nil}
 use Prim.Native.Nat.{ℕ, zero, suc, _+_, _-_, _*_, _%_, _≤_, _<_}
-use native.Mathlib.Nat.{not-suc-le-zero, le-of-suc-le-suc, add-zero}
+use native.Mathlib.Nat.{not-suc-le-zero, le-of-suc-le-suc, add-zero, zero-add}
 use native.Mathlib.Numerals.{add-one, sub-one}
 use native.Mathlib.Omega.{arith}
 use lib.ListN.{length, getD, set, take, drop, length-append, length-drop, drop-of-length-le}
-use lib.Seq.{sets, sets-eq, drop-cons, drop-drop, take-all}
+use lib.Seq.{sets, sets-eq, drop-cons, drop-drop, take-all, paste-suc}
 use borrow.Author.Tests.{not-true, not-false}
 use Rattle.optional.specs.declared.OptU8.{OptU8}
 use Rattle.optional.specs.declared.OptU16.{OptU16}
@@ -37,14 +37,6 @@ started-kind (suc zero) a b c d = absurd (b refl)
 started-kind (suc (suc zero)) a b c d = absurd (c refl)
 started-kind (suc (suc (suc zero))) a b c d = absurd (d refl)
 started-kind (suc (suc (suc (suc w)))) a b c d = refl
-
-pub four-elements : (v : List ℕ) → length v ≡ 4 → getD v 0 0 ∷ getD v 1 0 ∷ getD v 2 0 ∷ getD v 3 0 ∷ [] ≡ v
-four-elements [] h = absurd (omega (arith, h))
-four-elements (a ∷ []) h = absurd (omega (arith, h))
-four-elements (a ∷ b ∷ []) h = absurd (omega (arith, h))
-four-elements (a ∷ b ∷ c ∷ []) h = absurd (omega (arith, h))
-four-elements (a ∷ b ∷ c ∷ d ∷ []) h = refl
-four-elements (a ∷ b ∷ c ∷ d ∷ e ∷ v) h = absurd (omega (arith, h))
 
 -- the words of a channel allocation, one by one
 pub ten-words : (a : List ℕ) (o : OptChanAlloc) (bits sent : ℕ) → a ≡ allocWords o
@@ -155,13 +147,7 @@ module _ {A : Type 0} (f : List ℕ → A) (k : ℕ) where
 -- a list that is filled from the front: the next element joins those taken
 pub filled-next : {A : Type 0} (d : A) (n : ℕ) (s t : List A) → n < length s → n < length t
     → set (take n s ++ drop n t) n (getD s n d) ≡ take (n + 1) s ++ drop (n + 1) t
-filled-next {A} d n s t hs ht = rw add-one (go n s t hs ht)
-  where
-    go : (n : ℕ) (s t : List A) → n < length s → n < length t → set (take n s ++ drop n t) n (getD s n d) ≡ take (suc n) s ++ drop (suc n) t
-    go n [] t hs ht = absurd (not-suc-le-zero hs)
-    go n (x ∷ s) [] hs ht = absurd (not-suc-le-zero ht)
-    go zero (x ∷ s) (y ∷ t) hs ht = refl
-    go (suc n) (x ∷ s) (y ∷ t) hs ht = ap (λ r. x ∷ r) (go n s t (le-of-suc-le-suc hs) (le-of-suc-le-suc ht))
+filled-next d n s t hs ht = rw add-one (simp zero-add at (paste-suc t 0 s n d (rw zero-add ht) hs))
 
 pub filled-whole : {A : Type 0} (n : ℕ) (s t : List A) → length s ≤ n → length t ≤ n → take n s ++ drop n t ≡ s
 filled-whole n s t hs ht = rw (take-all n s hs, drop-of-length-le t {i = n} ht) (append-nil s)

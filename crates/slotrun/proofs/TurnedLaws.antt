@@ -1,6 +1,6 @@
 -- What a turn leaves, and the turns one after the other. Assumes nothing.
 use mathlib.Core.Path.{_≡_, refl, sym, ap, _∙_, subst}
-use mathlib.Core.Bool.{Bool, true, false, _&&_, not, false≢true}
+use mathlib.Core.Bool.{Bool, true, false, _&&_, not, and-false, false≢true}
 use mathlib.Core.List.{List, [], _∷_, _++_}
 use Prim.Native.Nat.{ℕ, _-_, _<_, _≤_}
 use native.Mathlib.Omega.{arith}
@@ -8,7 +8,6 @@ use lib.Dec.{ltb}
 use lib.ListN.{length, getD, take, drop, length-drop, take-append-drop}
 use lib.Seq.{slice, length-slice, length-take-le, take-take, take-at, drop-append-le}
 use borrow.Author.Tests.{lt-ltb, le-ltb}
-use Rattle.optional.proofs.Tests.{and-false}
 use Rattle.sched_core.specs.Questions.{memory}
 use Rattle.interpreter.specs.declared.Command.{Command}
 use Rattle.interpreter.specs.declared.RunAnswer.{RunAnswer}
@@ -75,7 +74,8 @@ read-turn s store' stage' input₀ input input' out out' held all x low high sam
     let behind = subst (λ (l : List ℕ). Turned s l (ltb held all) x store' stage' input' out out') (brought input₀ input held all low same) t in
     record {
       next = next;
-      turned = subst (λ (b : Bool). Turned s (take held input₀ ++ next) b x store' stage' input' out out') (some-brought next held all (length-slice held all input high)) behind;
+      turned = subst (λ (b : Bool). Turned s (take held input₀ ++ next) b x store' stage' input' out out')
+          (some-brought next held all (length-slice held all input high)) behind;
     }
 
 -- ---- turns
@@ -88,16 +88,13 @@ pub reached-next : {s : Session} {held : List ℕ} {x : Turn} {store' stage' inp
     → ReadTurn s held x store' stage' input' out out' → Reached (session (memory (x .station) (x .queue) store') stage') (take (x .held) input')
 reached-next {s} {held} k t =
     let e = turns-next begun (k .parts) (t .next) in
-    let same : turn (turns begun (k .parts)) (t .next) ≡ joined (turns begun (k .parts) .printed) (wholeCommands s (held ++ t .next)) = rw (k .session-is, k .left-is) in
+    let same : turn (turns begun (k .parts)) (t .next) ≡ joined (turns begun (k .parts) .printed) (wholeCommands s (held ++ t .next)) = rw
+    (k .session-is, k .left-is) in
     record {
       parts = k .parts ++ (t .next ∷ []);
       session-is = ap (λ (r : Ran). r .session) (e ∙ same) ∙ sym (t .turned .session-after);
       left-is = ap (λ (r : Ran). r .left) (e ∙ same) ∙ sym (t .turned .left);
     }
-
-pub not-false : {b : Bool} → not b ≡ false → b ≡ true
-not-false {b = true} h = refl
-not-false {b = false} h = sym h
 
 on-known : (a u : Bool) → a && not u ≡ true → u ≡ false
 on-known a true h = absurd (false≢true (sym (and-false a) ∙ h))

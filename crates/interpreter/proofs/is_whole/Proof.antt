@@ -13,9 +13,11 @@ returns-2 c =
     let k = c .before in
     let m = k .before in
     let s = m .before .before .before .before in
-    whole-here (s .args .input .now) (s .args .at) (m .command-of .result) (k .is-known .result) (c .operand-count .result) (omega arith) (m .command-of .ensures) (k .is-known .ensures) (c .operand-count .ensures .0)
+    whole-here (s .args .input .now) (s .args .at) (m .command-of .result) (k .is-known .result) (c .operand-count .result) (omega arith)
+    (m .command-of .ensures) (k .is-known .ensures) (c .operand-count .ensures .0)
 
 pub is-whole-spec : {M : Type 1} → statement M
 is-whole-spec =
     tie.close
-    (tie.spec returns (λ c. search needs) (λ c κs. search needs) (λ c κs. search needs) (λ c κs. search needs) (λ c. search needs) (λ c. search needs) returns-2)
+    (tie.spec returns (λ c. search needs) (λ c κs. search needs) (λ c κs. search needs) (λ c κs. search needs) (λ c. search needs) (λ c. search needs)
+    returns-2)

@@ -27,7 +27,8 @@ loop-holds c = (search needs, search needs, refl, running-start _ _ _)
 is-whole-requires : tie.Need-is-whole-requires Inv-loop μ-loop
 is-whole-requires c κs = search needs
 
-whole : (t : tie.Then1 Inv-loop μ-loop) → isWhole (drop (t .before .before .loop .taken) (t .before .before .before .before .before .before .before .args .input .now)) ≡ true
+whole : (t : tie.Then1 Inv-loop μ-loop) → isWhole (drop (t .before .before .loop .taken)
+    (t .before .before .before .before .before .before .before .args .input .now)) ≡ true
 whole t = sym (t .before .is-whole .ensures) ∙ t .if1 .taken
 
 inside : (t : tie.Then1 Inv-loop μ-loop) → t .before .before .loop .taken < length (t .before .before .before .before .before .before .before .args .input .now)
@@ -52,7 +53,16 @@ add-count c =
     let t = x .before .before .before .before .before .before in
     let l = t .before .before .loop in
     let i = inside t in
-    omega (arith, i, l .inv .3 .room, l .inv .2, x .advance-step .ensures [] [] .most, t .before .before .before .before .before .before .before .pre .2, t .before .before .before .before .before .before .before .pre .3)
+    omega (
+      arith,
+      i,
+      l .inv .3 .room,
+      l .inv .2,
+      x .advance-step .ensures [] [] .most,
+      t .before .before .before .before .before .before .before .pre
+          .2,
+      t .before .before .before .before .before .before .before .pre .3,
+    )
 
 loop-less : tie.Need-loop-less Inv-loop μ-loop
 loop-less c = let i = inside (c .before .before .before .before .before .before .before .before .before .before) in omega arith
@@ -69,7 +79,8 @@ loop-again c =
       l .inv .0,
       l .inv .1,
       length-wrote (wrote-back (l .out) _ (l .count) _ _ fits (x .advance-step .ensures [] [] .line)) ∙ l .inv .2,
-      running-advance _ _ _ _ _ _ _ (l .out) _ (l .taken) (l .count) _ (x .advance-step .result) (l .inv .3) (whole t) (k .command-of .ensures) (g .is-advance .ensures (x .before .before .if2 .taken)) fits (x .advance-step .ensures),
+      running-advance _ _ _ _ _ _ _ (l .out) _ (l .taken) (l .count) _ (x .advance-step .result) (l .inv .3) (whole t) (k .command-of .ensures)
+          (g .is-advance .ensures (x .before .before .if2 .taken)) fits (x .advance-step .ensures),
     )
 
 sub-execute : tie.Need-sub-execute Inv-loop μ-loop
@@ -95,8 +106,14 @@ execute-requires c κs =
     let k = c .before .before .before .before .before .before in
     let t = k .before .before in
     let l = t .before .before .loop in
-    let i = inside t in
-    (l .inv .0, l .inv .1, whole-fits (t .before .before .before .before .before .before .before .args .input .now) (l .taken) _ (whole t) (k .command-of .ensures), room-left (l .out) (l .count) 173 (omega (arith, l .inv .3 .room, l .inv .2, i, t .before .before .before .before .before .before .before .pre .2)))
+    let i = inside t in (
+      l .inv .0,
+      l .inv .1,
+      whole-fits (t .before .before .before .before .before .before .before .args .input .now) (l .taken) _ (whole t)
+          (k .command-of .ensures),
+      room-left (l .out) (l .count) 173
+          (omega (arith, l .inv .3 .room, l .inv .2, i, t .before .before .before .before .before .before .before .pre .2)),
+    )
 
 add-taken : tie.Need-add-taken Inv-loop μ-loop
 add-taken c =
@@ -112,10 +129,20 @@ add-count-2 c =
     let t = x .before .before .before .before .before .before .before .before .before in
     let l = t .before .before .loop in
     let i = inside t in
-    omega (arith, i, l .inv .3 .room, l .inv .2, x .execute .ensures .most, t .before .before .before .before .before .before .before .pre .2, t .before .before .before .before .before .before .before .pre .3)
+    omega (
+      arith,
+      i,
+      l .inv .3 .room,
+      l .inv .2,
+      x .execute .ensures .most,
+      t .before .before .before .before .before .before .before .pre .2,
+      t
+          .before .before .before .before .before .before .before .pre .3,
+    )
 
 loop-less-2 : tie.Need-loop-less-2 Inv-loop μ-loop
-loop-less-2 c = let i = inside (c .before .before .before .before .before .before .before .before .before .before .before .before .before .before .before .before .before .before .before) in omega arith
+loop-less-2 c = let i = inside (c .before .before .before .before .before .before .before .before .before .before .before .before .before .before
+    .before .before .before .before .before) in omega arith
 
 loop-again-2 : tie.Need-loop-again-2 Inv-loop μ-loop
 loop-again-2 c =
@@ -129,7 +156,8 @@ loop-again-2 c =
       x .execute .kept .1 .1 .0 ∙ l .inv .0,
       x .execute .kept .1 .1 .1 .0 ∙ l .inv .1,
       length-wrote (wrote-back (l .out) _ (l .count) _ _ fits (x .execute .ensures .line)) ∙ l .inv .2,
-      running-turn _ _ _ _ (l .out) _ _ _ (l .taken) (l .count) (m .operand-count .result) _ (x .execute .result) (l .inv .3) (whole t) (k .command-of .ensures) (m .operand-count .ensures .0) fits (x .execute .ensures),
+      running-turn _ _ _ _ (l .out) _ _ _ (l .taken) (l .count) (m .operand-count .result) _ (x .execute .result) (l .inv .3) (whole t)
+          (k .command-of .ensures) (m .operand-count .ensures .0) fits (x .execute .ensures),
     )
 
 same-length : tie.Need-same-length Inv-loop μ-loop
@@ -147,4 +175,7 @@ returns c = run-done _ _ _ _ _ _ _ (c .before .before .loop .inv .3) (sym (c .if
 pub run-spec : {M : Type 1} → statement M
 run-spec =
     tie.close
-    (tie.spec Inv-loop μ-loop loop-holds is-whole-requires shared-slice-read-command-of (λ c κs. search needs) add-operands (λ c κs. search needs) (λ c. search needs) (λ c. search needs) (λ c. search needs) advance-step-requires add-count loop-less loop-again sub-execute part-execute-start part-execute-end sub-execute-2 part-execute-start-2 part-execute-end-2 execute-requires (λ c κs. search needs) add-taken add-count-2 loop-less-2 loop-again-2 same-length same-length-2 same-length-3 returns)
+    (tie.spec Inv-loop μ-loop loop-holds is-whole-requires shared-slice-read-command-of (λ c κs. search needs) add-operands (λ c κs. search needs)
+    (λ c. search needs) (λ c. search needs) (λ c. search needs) advance-step-requires add-count loop-less loop-again sub-execute
+    part-execute-start part-execute-end sub-execute-2 part-execute-start-2 part-execute-end-2 execute-requires (λ c κs. search needs)
+    add-taken add-count-2 loop-less-2 loop-again-2 same-length same-length-2 same-length-3 returns)

@@ -21,4 +21,5 @@ returns c = let l = c .before .loop in (omega (arith, l .inv .1 .place), l .inv 
 pub keep-rest-spec : {M : Type 1} → statement M
 keep-rest-spec =
     tie.close
-    (tie.spec Inv-loop μ-loop (λ c. (search needs, kept-none _ _)) (λ c. search needs) (λ c. search needs) (λ c. search needs) (λ c. search needs) (λ c. search needs) loop-again (λ c. search needs) returns)
+    (tie.spec Inv-loop μ-loop (λ c. (search needs, kept-none _ _)) (λ c. search needs) (λ c. search needs) (λ c. search needs) (λ c. search needs)
+    (λ c. search needs) loop-again (λ c. search needs) returns)

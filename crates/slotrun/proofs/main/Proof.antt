@@ -4,11 +4,12 @@ use mathlib.Core.Path.{_≡_}
 use Prim.Native.Nat.{_≤_}
 use lib.ListN.{length, take}
 use borrow.Author.Needs.{needs}
+use borrow.Author.Tests.{not-false}
 use Rattle.sched_core.specs.Questions.{memory}
 use Rattle.sched_core.specs.Calls.{newMemory}
 use Rattle.interpreter.specs.Slotrun.{session, start}
 use Rattle.slotrun.specs.Turned.{Reached}
-use Rattle.slotrun.proofs.TurnedLaws.{reached-start, reached-next, room-to-read, not-false}
+use Rattle.slotrun.proofs.TurnedLaws.{reached-start, reached-next, room-to-read}
 use Rattle.slotrun.proofs.main.Statement.{statement}
 use Rattle.slotrun.proofs.main.Tie as tie
 
@@ -38,11 +39,13 @@ loop-again c =
       search needs,
       search needs,
       search needs,
-      room-to-read (t .turned) (not-false (c .before .before .if1 .left)),
+      room-to-read (t .turned) (not-false _ (c .before .before .if1 .left)),
       reached-next (l .inv .5) t,
     )
 
 pub main-spec : {M : Type 1} → statement M
 main-spec =
     tie.close
-    (tie.spec Inv-loop μ-loop (λ c κs. search needs) (λ c κs. search needs) (λ c κs. search needs) (λ c κs. search needs) (λ c κs. search needs) (λ c κs. search needs) loop-holds (λ c. search needs) (λ c. search needs) (λ c. search needs) (λ c. search needs) (λ c. search needs) (λ c κs. search needs) (λ c. search needs) (λ c. search needs) loop-again (λ c. search needs))
+    (tie.spec Inv-loop μ-loop (λ c κs. search needs) (λ c κs. search needs) (λ c κs. search needs) (λ c κs. search needs) (λ c κs. search needs)
+    (λ c κs. search needs) loop-holds (λ c. search needs) (λ c. search needs) (λ c. search needs) (λ c. search needs) (λ c. search needs)
+    (λ c κs. search needs) (λ c. search needs) (λ c. search needs) loop-again (λ c. search needs))

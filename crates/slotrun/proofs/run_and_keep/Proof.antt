@@ -25,4 +25,5 @@ returns c =
 
 pub run-and-keep-spec : {M : Type 1} → statement M
 run-and-keep-spec =
-    tie.close (tie.spec (λ c. search needs) aggregate requires (λ c. search needs) aggregate-2 (λ c κs. search needs) (λ c κs. search needs) (λ c. search needs) (λ c. search needs) (λ c. search needs) (λ c. search needs) returns)
+    tie.close (tie.spec (λ c. search needs) aggregate requires (λ c. search needs) aggregate-2 (λ c κs. search needs) (λ c κs. search needs)
+    (λ c. search needs) (λ c. search needs) (λ c. search needs) (λ c. search needs) returns)

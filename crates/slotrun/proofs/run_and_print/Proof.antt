@@ -11,4 +11,5 @@ aggregate c = simp length-take (omega arith)
 pub run-and-print-spec : {M : Type 1} → statement M
 run-and-print-spec =
     tie.close
-    (tie.spec (λ c κs. search needs) (λ c. search needs) aggregate (λ c κs. search needs) (λ c. search needs) (λ c. search needs) (λ c. search needs) (λ c. search needs))
+    (tie.spec (λ c κs. search needs) (λ c. search needs) aggregate (λ c κs. search needs) (λ c. search needs) (λ c. search needs) (λ c. search needs)
+    (λ c. search needs))

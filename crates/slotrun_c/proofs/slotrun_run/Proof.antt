@@ -37,4 +37,5 @@ returns-2 c =
 pub slotrun-run-spec : {M : Type 1} → statement M
 slotrun-run-spec =
     tie.close
-    (tie.spec returns (λ c κs. search needs) (λ c κs. search needs) (λ c κs. search needs) (λ c κs. search needs) (λ c. search needs) (λ c. search needs) run-requires (λ c. search needs) returns-2)
+    (tie.spec returns (λ c κs. search needs) (λ c κs. search needs) (λ c κs. search needs) (λ c κs. search needs) (λ c. search needs)
+    (λ c. search needs) run-requires (λ c. search needs) returns-2)

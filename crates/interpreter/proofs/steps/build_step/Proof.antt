@@ -25,4 +25,5 @@ returns c =
 pub build-step-spec : {M : Type 1} → statement M
 build-step-spec =
     tie.close
-    (tie.spec (λ c. search needs) (λ c κs. search needs) (λ c. search needs) (λ c. search needs) put-build-requires (λ c. search needs) (λ c. search needs) returns)
+    (tie.spec (λ c. search needs) (λ c κs. search needs) (λ c. search needs) (λ c. search needs) put-build-requires (λ c. search needs)
+    (λ c. search needs) returns)

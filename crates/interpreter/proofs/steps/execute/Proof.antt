@@ -64,4 +64,8 @@ returns-7 c = unknown-steps _ _ _ _ _ _ _ (c .enum-told7 .given .1)
 pub execute-spec : {M : Type 1} → statement M
 execute-spec =
     tie.close
-    (tie.spec (λ c. search needs) new-step-requires (λ c. search needs) (λ c κs. search needs) (λ c. search needs) request-step-requires (λ c. search needs) stage-step-requires (λ c. search needs) queue-step-requires (λ c. search needs) (λ c κs. search needs) (λ c. search needs) (λ c. search needs) (λ c. search needs) returns (λ c. search needs) returns-2 (λ c. search needs) (λ c. search needs) returns-3 (λ c. search needs) (λ c. search needs) returns-4 (λ c. search needs) (λ c. search needs) (λ c. search needs) returns-5 (λ c. search needs) (λ c. search needs) returns-6 returns-7)
+    (tie.spec (λ c. search needs) new-step-requires (λ c. search needs) (λ c κs. search needs) (λ c. search needs) request-step-requires
+    (λ c. search needs) stage-step-requires (λ c. search needs) queue-step-requires (λ c. search needs) (λ c κs. search needs) (λ c. search needs)
+    (λ c. search needs) (λ c. search needs) returns (λ c. search needs) returns-2 (λ c. search needs) (λ c. search needs) returns-3
+    (λ c. search needs) (λ c. search needs) returns-4 (λ c. search needs) (λ c. search needs) (λ c. search needs) returns-5
+    (λ c. search needs) (λ c. search needs) returns-6 returns-7)

@@ -18,9 +18,11 @@ returns-2 c =
     let p = c .before .before in
     let t = p .before .before .before .before in
     let i = t .before .before .before in
-    stage-filled _ _ _ _ _ _ _ (p .put-line2 .result) (i .if1 .left) refl refl (t .put-text .ensures .1 .bits) (p .put-line2 .ensures .0) (p .put-line2 .ensures .1)
+    stage-filled _ _ _ _ _ _ _ (p .put-line2 .result) (i .if1 .left) refl refl (t .put-text .ensures .1 .bits) (p .put-line2 .ensures .0)
+    (p .put-line2 .ensures .1)
 
 pub stage-step-spec : {M : Type 1} → statement M
 stage-step-spec =
     tie.close
-    (tie.spec (λ c. search needs) (λ c κs. search needs) (λ c. search needs) returns (λ c. search needs) (λ c. search needs) (λ c. search needs) (λ c. search needs) (λ c. search needs) (λ c κs. search needs) (λ c κs. search needs) (λ c. search needs) (λ c. search needs) returns-2)
+    (tie.spec (λ c. search needs) (λ c κs. search needs) (λ c. search needs) returns (λ c. search needs) (λ c. search needs) (λ c. search needs)
+    (λ c. search needs) (λ c. search needs) (λ c κs. search needs) (λ c κs. search needs) (λ c. search needs) (λ c. search needs) returns-2)

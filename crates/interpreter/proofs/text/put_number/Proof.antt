@@ -16,8 +16,11 @@ returns c =
     let t = c .before .before in
     let d = t .before .before .before in
     let p = d .before .before .before .before in
-    let few = fewest (d .decimal2 .result) _ (search needs) (d .decimal2 .ensures .1 .0) in
-    (omega (arith, few .1, d .decimal2 .ensures .0 .1, t .put-text .ensures .0, p .put .ensures .0), spaced _ (d .decimal2 .result) _ (search needs) (d .decimal2 .ensures .1 .0) (d .decimal2 .ensures .1 .1) (p .put .ensures .1) (t .put-text .ensures .1))
+    let few = fewest (d .decimal2 .result) _ (search needs) (d .decimal2 .ensures .1 .0) in (
+      omega (arith, few .1, d .decimal2 .ensures .0 .1, t .put-text .ensures .0, p .put .ensures .0),
+      spaced _ (d .decimal2 .result) _ (search needs)
+          (d .decimal2 .ensures .1 .0) (d .decimal2 .ensures .1 .1) (p .put .ensures .1) (t .put-text .ensures .1),
+    )
 
 pub put-number-spec : {M : Type 1} → statement M
 put-number-spec =

@@ -23,8 +23,13 @@ loop-holds c = (omega arith, omega arith, refl, no-numbers _ _ (c .before .args 
 loop-again : tie.Need-loop-again Inv-loop μ-loop
 loop-again c =
     let d = c .before .before in
-    let k = d .before .before .before .loop in
-    (omega arith, omega (arith, d .put-number .ensures .0), d .put-number .kept .0 ∙ k .inv .2, one-number-more _ (k .i) (search needs) (k .inv .3) (d .put-number .ensures .1))
+    let k = d .before .before .before .loop in (
+      omega arith,
+      omega (arith, d .put-number .ensures .0),
+      d .put-number .kept .0 ∙ k .inv .2,
+      one-number-more _ (k .i) (search needs) (k .inv .3)
+          (d .put-number .ensures .1),
+    )
 
 returns : tie.Need-returns Inv-loop μ-loop
 returns c =
@@ -34,4 +39,5 @@ returns c =
 pub put-numbers-spec : {M : Type 1} → statement M
 put-numbers-spec =
     tie.close
-    (tie.spec Inv-loop μ-loop loop-holds (λ c. search needs) (λ c. search needs) (λ c κs. search needs) (λ c. search needs) (λ c. search needs) loop-again (λ c. search needs) returns)
+    (tie.spec Inv-loop μ-loop loop-holds (λ c. search needs) (λ c. search needs) (λ c κs. search needs) (λ c. search needs) (λ c. search needs)
+    loop-again (λ c. search needs) returns)

@@ -12,8 +12,11 @@ returns : tie.Need-returns
 returns c =
     let s = c .before .before in
     let f = s .before .before .before .before in
-    let d = f .before .before in
-    (omega arith, octet-written (d .before .before .before .args .x) _ _ (omega arith) (d .before .hex-digit .ensures) (d .hex-digit2 .ensures) (f .put .ensures .1) (s .put2 .ensures .1))
+    let d = f .before .before in (
+      omega arith,
+      octet-written (d .before .before .before .args .x) _ _ (omega arith) (d .before .hex-digit .ensures) (d .hex-digit2 .ensures)
+          (f .put .ensures .1) (s .put2 .ensures .1),
+    )
 
 pub put-octet-spec : {M : Type 1} → statement M
 put-octet-spec =

@@ -1,11 +1,11 @@
 -- The four elements are the array. Assumes nothing.
 use borrow.Author.Needs.{needs}
-use Rattle.sched_words.proofs.WordLaws.{four-elements}
+use Rattle.uplink.proofs.Basics.{four}
 use Rattle.sched_words.proofs.station.four_words.Statement.{statement}
 use Rattle.sched_words.proofs.station.four_words.Tie as tie
 
 returns : tie.Need-returns
-returns c = (four-elements _ (search needs), search needs)
+returns c = (four _ 0 (search needs), search needs)
 
 pub four-words-spec : {M : Type 1} → statement M
 four-words-spec =
