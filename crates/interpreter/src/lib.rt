@@ -191,7 +191,8 @@ pub fn run(
     out: &mut [u8],
 ) -> RunAnswer
     requires { ⌜ (length (now store) ≡ 16384) × (length (now stage) ≡ 256) × (173 * length (now input) ≤ length (now out)) × (length (now out) < 2 ^ 64) ⌝ }
-    ensures { λ r. ⌜ Runs (commands (length (now (input .entry))) (session (memory station queue (now (store .entry))) (now (stage .entry))) (now (input .entry))) r (now (input .entry)) (now (store .exit)) (now (stage .exit)) (now (out .entry)) (now (out .exit)) ⌝ }
+    ensures { λ r. ⌜ Runs (commands (length (now (input .entry))) (session (memory station queue (now (store .entry))) (now (stage .entry))) (now (input .entry)))
+        r (now (input .entry)) (now (store .exit)) (now (stage .exit)) (now (out .entry)) (now (out .exit)) ⌝ }
 {
     let mut here = station;
     let mut records = queue;

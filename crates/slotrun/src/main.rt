@@ -89,7 +89,8 @@ fn run_and_print(
     out: &mut [u8],
 ) -> RunAnswer
     requires { ⌜ (length (now store) ≡ 16384) × (length (now stage) ≡ 256) × (173 * length (now input) ≤ length (now out)) × (length (now out) < 2 ^ 64) ⌝ }
-    ensures { λ r. ⌜ Runs (commands (length (now (input .entry))) (session (memory station queue (now (store .entry))) (now (stage .entry))) (now (input .entry))) r (now (input .entry)) (now (store .exit)) (now (stage .exit)) (now (out .entry)) (now (out .exit)) ⌝ }
+    ensures { λ r. ⌜ Runs (commands (length (now (input .entry))) (session (memory station queue (now (store .entry))) (now (stage .entry))) (now (input .entry)))
+        r (now (input .entry)) (now (store .exit)) (now (stage .exit)) (now (out .entry)) (now (out .exit)) ⌝ }
 {
     let r = interpreter::run(station, queue, store, stage, input, out);
     let count = r.count;
