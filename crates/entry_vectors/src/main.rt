@@ -3,9 +3,9 @@
 // says must come out.
 use dl_record::Record;
 use optional::OptU32;
+use questions::Refusal;
 use sched_core::BuildReply;
 use sched_core::OwnerReply;
-use sched_core::Refusal;
 use sched_core::RequestReply;
 use sched_core::Station;
 use sched_core::UsageReply;
@@ -25,7 +25,7 @@ fn at(f: u8, t: u8) -> TdmaTime {
 
 // The number of a refusal is the whole reply.
 fn refused(r: Refusal) {
-    show::number(interpreter::refusal_number(r) as u64);
+    show::number(questions::number(r) as u64);
 }
 
 fn granted(reply: RequestReply) {
