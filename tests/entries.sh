@@ -25,9 +25,11 @@ silent=$(ls crates/*/src/*.rt | grep -vE '^crates/(show|vectors|build_vectors|di
     in_head && /^ *ensures/ { said = 1 }
     in_head && /\{ *$/ { if (!said) print "entries: no ensures: " name; in_head = 0 }')
 [ -z "$silent" ] || { echo "$silent"; bad=1; }
-# The crates of the entries have no `requires` at all.
-if grep -nE '^ *requires' crates/bs_sched/src/*.rt crates/bs_sched_c/src/*.rt; then
-    bad=1
-fi
+# In the crates of the entries no `pub` function has a `requires`; a private one may, and each of its callers is proved to meet it.
+relying=$(awk '
+    /^ *pub (extern "C" )?fn / { in_head = 1; name = FILENAME ": " $0 }
+    in_head && /^ *requires/ { print "entries: requires: " name }
+    in_head && /\{ *$/ { in_head = 0 }' crates/bs_sched/src/*.rt crates/bs_sched_c/src/*.rt)
+[ -z "$relying" ] || { echo "$relying"; bad=1; }
 [ "$bad" = 0 ] || exit 1
 echo "entries: $count entries, none with a requires; every pub function has an ensures"

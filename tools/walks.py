@@ -17,7 +17,7 @@ STANDS = {
 }
 
 # The functions that read and write whole elements (`q[i]`, `q[i] = r`). In their twin the array stands wherever the struct's name does.
-LEAVES = ['put_record', 'load_64', 'ask_memory']
+LEAVES = ['put_record', 'load_timeslot', 'ask_memory']
 
 # What the leaves call, of this crate: its body in their twin, any value of its type.
 LEAF_CALLS = {'empty_record': '[0u16; 22]', 'filled_is_sound': 'true', 'unfilled_is_sound': 'true'}
@@ -25,15 +25,15 @@ LEAF_CALLS = {'empty_record': '[0u16; 22]', 'filled_is_sound': 'true', 'unfilled
 # Their callers, by level: each calls covered functions and derived ones of lower levels, and of a reference to such structs it takes
 # nothing else but the length.
 LEVELS = [
-    ['save_64'],
+    ['save_timeslot'],
     ['ul_process_cap_req', 'dl_enqueue_random_access_ack', 'dl_enqueue_tma', 'dl_build_block'],
 ]
 
 # For a derived function that others call: its body in the twin of its callers, any value of its type.
 STUBS = {
     'put_record': '',
-    'load_64': '[Record::EMPTY; 64]',
-    'save_64': '',
+    'load_timeslot': '[Record::EMPTY; sizes::PER_TIMESLOT]',
+    'save_timeslot': '',
     'ask_memory': 'Verdict::Passed',
     'ul_process_cap_req': 'RequestAnswer { reply: RequestReply::Refused(Refusal::Unsound), station: s }',
     'dl_enqueue_random_access_ack': 'Answer { reply: Reply::Done, station: s }',

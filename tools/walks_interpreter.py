@@ -18,7 +18,7 @@ LEAF_CALLS = {
     'calls::request_left': 'let reply = a.reply; let station = a.station; RequestLeft { reply: reply, station: station, records: %s }' % QUEUE,
     'calls::queue_left': 'let reply = a.reply; let station = a.station; QueueLeft { reply: reply, station: station, records: %s }' % QUEUE,
     'calls::build_left': 'let reply = a.reply; let tags = a.tags; let station = a.station; '
-                         'BuildCoreAnswer { reply: reply, tags: tags, tag_count: a.tag_count, station: station, records: %s }' % QUEUE,
+                         'BuildDone { reply: reply, tags: tags, tag_count: a.tag_count, station: station, records: %s }' % QUEUE,
     'calls::empty_header': 'let r = dl_record::Record::EMPTY; r.header',
 }
 

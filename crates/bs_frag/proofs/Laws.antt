@@ -9,6 +9,7 @@ use native.Mathlib.Omega.{arith}
 use lib.ListN.{length, take, drop}
 use lib.Seq.{take-at, drop-at, take-take}
 use borrow.Author.Tests.{lt-ltb, le-ltb, le-leb, lt-leb}
+use Rattle.sizes.specs.Sizes.{sduBits}
 use Rattle.bitbuffer.specs.Bits.{bitsOf, part, written, Wrote}
 use Rattle.bitbuffer.proofs.Laws.{length-part}
 use Rattle.bitbuffer.proofs.Octets.{part-split}
@@ -17,7 +18,8 @@ use Rattle.mac_pdus.specs.declared.ResourceHeader.{ResourceHeader}
 use Rattle.mac_pdus.specs.Headers.{resourceBits, fragBits, endBits, headerBits}
 use Rattle.mac_reader.specs.PduList.{Pdu, header, body, pduBits, blockBits}
 use Rattle.dl_record.specs.declared.Record.{Record}
-use Rattle.bs_frag.specs.NextPdu.{fillFlag, headerOf, headerSize, wholePdu, firstPdu, fragPdu, endPdu, endOctets, Next, beginWith, begin, continue, isStarted, next, sduAt, Chunked}
+use Rattle.dl_record.specs.Kind.{isStarted}
+use Rattle.bs_frag.specs.NextPdu.{fillFlag, headerOf, headerSize, wholePdu, firstPdu, fragPdu, endPdu, endOctets, Next, beginWith, begin, continue, next, sduAt, Chunked}
 use Rattle.bs_frag.specs.declared.Outcome.{Outcome}
 use Rattle.bs_frag.specs.declared.Outcome.the-variants.{Finished, Waiting, Started}
 
@@ -54,16 +56,16 @@ part-part l at n from k h i =
     (ap (λ (x : List ℕ). part x from k) (part-split l at from (k + rest) ∙ ap (λ (y : List ℕ). part l at from ++ y) (part-split l (at + from) k rest))
     ∙ part-inner l at from k (part l (at + from + k) rest) (omega arith))
 
-pub part-sdu : (store : List ℕ) (cell n from k : ℕ) → 2048 * cell + n ≤ length (bitsOf store) → from + k ≤ n
-    → part (sduAt store cell n) from k ≡ part (bitsOf store) (2048 * cell + from) k
+pub part-sdu : (store : List ℕ) (cell n from k : ℕ) → sduBits * cell + n ≤ length (bitsOf store) → from + k ≤ n
+    → part (sduAt store cell n) from k ≡ part (bitsOf store) (sduBits * cell + from) k
 unfolding sduAt
-part-sdu store cell n from k h i = part-part (bitsOf store) (2048 * cell) n from k h i
+part-sdu store cell n from k h i = part-part (bitsOf store) (sduBits * cell) n from k h i
 
-pub take-sdu : (store : List ℕ) (cell n k : ℕ) → k ≤ n → take k (sduAt store cell n) ≡ part (bitsOf store) (2048 * cell) k
+pub take-sdu : (store : List ℕ) (cell n k : ℕ) → k ≤ n → take k (sduAt store cell n) ≡ part (bitsOf store) (sduBits * cell) k
 unfolding sduAt part
-take-sdu store cell n k h = take-take k n (drop (2048 * cell) (bitsOf store)) h
+take-sdu store cell n k h = take-take k n (drop (sduBits * cell) (bitsOf store)) h
 
-pub whole-sdu : (store : List ℕ) (cell n : ℕ) → sduAt store cell n ≡ part (bitsOf store) (2048 * cell) n
+pub whole-sdu : (store : List ℕ) (cell n : ℕ) → sduAt store cell n ≡ part (bitsOf store) (sduBits * cell) n
 unfolding sduAt
 whole-sdu store cell n = refl
 

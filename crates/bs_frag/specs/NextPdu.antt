@@ -1,18 +1,19 @@
 -- A record's next PDU in the room that is left in a block: document 01, section "Block". Assumes nothing.
 use mathlib.Core.Path.{_≡_}
-use mathlib.Core.Bool.{Bool, true, false, _||_, cond}
+use mathlib.Core.Bool.{true, _||_, cond}
 use mathlib.Core.List.{List, [], _∷_, _++_}
 use Prim.Native.Nat.{ℕ, zero, suc, _+_, _-_, _*_, _/_, _^_, _<_, _≤_, min}
 use lib.Dec.{leb, ltb}
 use lib.ListN.{length, take}
+use Rattle.sizes.specs.Sizes.{sduBits, blockWidth}
 use Rattle.bitbuffer.specs.Bits.{bitsOf, part, Wrote}
 use Rattle.fillbits.specs.Fill.{fillWanted, fillBits}
 use Rattle.mac_pdus.specs.declared.ResourceHeader.{ResourceHeader}
 use Rattle.mac_pdus.specs.Headers.{headerLength}
 use Rattle.mac_pdus.specs.Legal.{legalQueued, onAir}
 use Rattle.mac_reader.specs.PduList.{Pdu, whole, first, frag, final, blockBits}
-use Rattle.dl_record.specs.declared.Kind.{Kind}
 use Rattle.dl_record.specs.declared.Record.{Record}
+use Rattle.dl_record.specs.Kind.{isStarted}
 use Rattle.dl_record.specs.Record.{resourceOf}
 use Rattle.bs_frag.specs.declared.Outcome.{Outcome}
 use Rattle.bs_frag.specs.declared.Outcome.the-variants.{Finished, Waiting, Started}
@@ -85,13 +86,6 @@ continue room r sdu =
     (cond (ltb room 16) (record { pdus = []; room = room; outcome = Started (r .sent) })
     (record { pdus = fragPdu (part sdu (r .sent) n) (room - 4 - n) ∷ []; room = 0; outcome = Started (r .sent + n) }))
 
-abbrev pub isStarted : Kind → Bool
-isStarted Kind.Grant = false
-isStarted Kind.Ack = false
-isStarted Kind.Record = false
-isStarted Kind.Waiting = false
-isStarted Kind.Started = true
-
 unfoldable pub next : ℕ → Record → List ℕ → Next
 next room r sdu = cond (isStarted (r .kind)) (continue room r sdu) (begin room r sdu)
 
@@ -99,21 +93,21 @@ next room r sdu = cond (isStarted (r .kind)) (continue room r sdu) (begin room r
 
 -- "The SDU store is 64 cells of 256 octets": the first n bits of a cell
 unfoldable pub sduAt : List ℕ → ℕ → ℕ → List ℕ
-sduAt store cell n = part (bitsOf store) (2048 * cell) n
+sduAt store cell n = part (bitsOf store) (sduBits * cell) n
 
 -- what can be sent: a legal header, an SDU that fits a cell, and no more sent than there is
 pub record Sendable (r : Record) : Type 0 where
   pub legal : legalQueued (resourceOf r 0 0) ≡ true
-  pub bits : r .bits ≤ 2048
+  pub bits : r .bits ≤ sduBits
   pub sent : r .sent ≤ r .bits
 
 -- a block of w bits of which `at` are written, a store, and a record whose SDU is in the given cell
 pub record Ready (block : List ℕ) (at w : ℕ) (store : List ℕ) (cell : ℕ) (r : Record) : Type 0 where
   pub place : at ≤ w
-  pub width : w ≤ 268
+  pub width : w ≤ blockWidth
   pub room : w ≤ 8 * length block
   pub small : 8 * length block < 2 ^ 64
-  pub inside : 2048 * cell + 2048 ≤ 8 * length store
+  pub inside : sduBits * cell + sduBits ≤ 8 * length store
   pub bounded : 8 * length store < 2 ^ 64
   pub sendable : Sendable r
 

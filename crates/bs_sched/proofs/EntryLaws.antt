@@ -1,68 +1,36 @@
--- An entry loads the queue, calls a body by value and saves what it answers: on a queue of 64 that is the call on the queue itself.
+-- The entries' answers: questions 1 and 2 asked apart, a plan stored in the queue, and the plan of a build. Assumes nothing.
 use mathlib.Core.Path.{_≡_, refl, sym, ap, _∙_}
 use mathlib.Core.Bool.{Bool, true, false, cond}
 use mathlib.Core.List.{List, [], _∷_, _++_}
 use Prim.Native.Nat.{ℕ, _*_}
 use native.Mathlib.Omega.{arith}
-use lib.ListN.{length, set}
-use lib.Seq.{length-paste}
+use lib.ListN.{length, getD, set, take, drop}
+use lib.Seq.{paste}
+use borrow.Author.Tests.{eqb-true}
+use Rattle.sizes.specs.Sizes.{timeslots, perTimeslot, cellOctets, blockOctets}
 use Rattle.dl_record.specs.declared.Record.{Record}
-use Rattle.dl_queue.specs.Queue.{Item, recordsOf}
-use Rattle.dl_queue.proofs.SetLaws.{length-records}
+use Rattle.dl_queue.specs.Questions.{soundPlaces}
+use Rattle.dl_send.specs.declared.Progress.{Progress}
+use Rattle.dl_build.specs.Build.{BuiltIn}
 use Rattle.sched_core.specs.declared.Station.{Station}
 use Rattle.questions.specs.declared.Refusal.{Refusal}
 use Rattle.sched_core.specs.declared.BuildReply.{BuildReply}
-use Rattle.sched_core.specs.declared.BuildCoreAnswer.{BuildCoreAnswer}
 use Rattle.questions.specs.Questions.{Question, question, ask}
-use Rattle.sched_core.specs.Questions.{Memory, memory, memoryQuestions, buildLent}
-use Rattle.sched_core.specs.Calls.{Outcome, outcome, judged, BuildOutcome, notBuilt, current, buildsNow, builtNow, blockBuilt, BuildAnswered, buildCall}
+use Rattle.sched_core.specs.Station.{withQueued}
+use Rattle.sched_core.specs.Questions.{Memory, memory, soundStation, asksBlock, memoryQuestions, buildLent}
+use Rattle.sched_core.specs.Calls.{Outcome, outcome, judged, notBuilt, current, buildsNow, builtNow, buildCall}
 use Rattle.questions.proofs.AskLaws.{AllYes, ask-elim}
 use Rattle.enqueue_core.specs.Plan.{SoundQueue, Planned}
 use Rattle.enqueue_core.proofs.PlanLaws.{Told, yes-told}
+use Rattle.build_core.proofs.BuildCallLaws as plan
 use Rattle.bs_sched.specs.declared.Verdict.{Verdict}
 use Rattle.bs_sched.specs.declared.BuildAnswer.{BuildAnswer}
-use Rattle.bs_sched.specs.Queue.{first64, copied}
 use Rattle.bs_sched.specs.Entries.{buildAnswerOf, buildLeft, leftBy}
-use Rattle.bs_sched.proofs.QueueLaws.{first64-whole, copied-whole}
-
-module _ (q l z rs : List Record) (places : length q ≡ 64) (loaded : l ≡ first64 q) (saved : z ≡ copied rs 64 q) where
-  loaded-whole : l ≡ q
-  loaded-whole = loaded ∙ first64-whole q places
-
-  saved-whole : length rs ≡ length l → z ≡ rs
-  saved-whole e = saved ∙ copied-whole rs q 64 (e ∙ ap length loaded-whole ∙ places) places
 
 -- a plan whose record is stored in the queue is the call on the queue itself
 pub plan-stored : {R : Type 0} {number : R → ℕ} (call : Memory → Outcome R) (s : Station) (before after : List ℕ) {reply : R} {next : Station} {place : ℕ} {r : Record} (q z : List Record)
     → z ≡ set q place r → Planned number call s before after reply next place r → SoundQueue s q before → outcome reply (memory next z after) ≡ call (memory s q before)
 plan-stored call s before after {reply} {next} q z stored planned sound = ap (λ (x : List Record). outcome reply (memory next x after)) stored ∙ planned .whole q sound
-
--- a build keeps the 64 places
-build-places : (m : Memory) (block : List ℕ) → length (m .records) ≡ 64 → length (buildCall m block .memory .records) ≡ 64
-unfolding buildCall
-build-places m block e = ask-elim (λ (o : BuildOutcome). length (o .memory .records) ≡ 64) (memoryQuestions m (buildLent block)) _ _ (λ r. e) (λ yes. go (buildsNow (m .station)))
-  where
-    left : List (Item (List ℕ))
-    left = builtNow m .left
-
-    go : (b : Bool) → length (cond b (blockBuilt m (current (m .station)) (builtNow m)) (notBuilt BuildReply.NoBlock m block) .memory .records) ≡ 64
-    go true = length-paste (m .records) (16 * current (m .station)) (recordsOf 16 left) 16 (omega (arith, e)) (omega (arith, length-records 16 left)) ∙ e
-    go false = e
-
--- what a body of a build answered, as the entry's answer
-abbrev answerOf : BuildCoreAnswer → BuildAnswer
-answerOf d = record { reply = d .reply; tags = d .tags; «tag_count» = d .«tag_count»; station = d .station }
-
-pub build-saved : (q l z : List Record) (d : BuildCoreAnswer) → length q ≡ 64 → l ≡ first64 q → z ≡ copied (d .records) 64 q
-    → (s : Station) (st block st' block' : List ℕ) → BuildAnswered (buildCall (memory s l st) block) d st' block'
-    → buildLeft (answerOf d) z st' block' ≡ leftBy (buildCall (memory s q st) block)
-build-saved q l z d places loaded saved s st block st' block' done =
-    let whole : l ≡ q = loaded-whole q l z (d .records) places loaded saved in
-    let size : length l ≡ 64 = ap length whole ∙ places in
-    let kept : length (d .records) ≡ length l = ap (λ (a : BuildCoreAnswer). length (a .records)) (done .answer) ∙ build-places (memory s l st) block size ∙ sym size in
-    let e : buildLeft (answerOf d) (d .records) st' block' ≡ leftBy (buildCall (memory s l st) block) = rw (done .answer, done .store, done .block) in
-    ap (λ (x : List Record). buildLeft (answerOf d) x st' block') (saved-whole q l z (d .records) places loaded saved kept) ∙ e
-    ∙ ap (λ (x : List Record). leftBy (buildCall (memory s x st) block)) whole
 
 -- ---- questions 1 and 2, asked apart
 
@@ -117,3 +85,20 @@ module _ (s : Station) (rs : List Record) (st : List ℕ) where
         let m = memory s rs st in
         let yes = asked-yes (memoryQuestions m (buildLent block)) (sym passed ∙ e) in
         ap leftBy (sym (rw (yes .0, yes .1 .0, yes .1 .1 .0, yes .1 .1 .1 .0, nothing)))
+
+    -- every question is answered yes, and the plan of the current timeslot is stored
+    module _ (passed : Told s rs st (asksBlock block .holds)) (builds : buildsNow s ≡ true) where
+      pub records-sound : length (s .queued) ≡ timeslots
+          → soundPlaces perTimeslot (getD (s .queued) (current s) 0) (take perTimeslot (drop (perTimeslot * current s) rs)) (drop (cellOctets * (perTimeslot * current s)) st) ≡ true
+      records-sound four =
+          plan.records-sound (memory s rs st) block (passed .station) (passed .queue .places) (passed .queue .cells) (eqb-true _ _ (passed .lengths)) (passed .queue .sound) builds four
+
+      pub plan-built : (p : Progress) (answer : BuildAnswer) (z : List Record) (st' block' : List ℕ)
+          → BuiltIn (builtNow (memory s rs st)) blockOctets st (perTimeslot * current s) p st' block'
+          → answer ≡ record { reply = BuildReply.Built; tags = p .tags; «tag_count» = p .«tag_count»; station = withQueued s (set (s .queued) (current s) (p .left)) }
+          → z ≡ paste rs (perTimeslot * current s) (p .records) perTimeslot → buildLeft answer z st' block' ≡ leftBy (buildCall (memory s rs st) block)
+      plan-built p answer z st' block' h ea ez =
+          rw (ea, h .tags, h .tag-count)
+          (ap leftBy
+          (plan.plan-called (memory s rs st) block (passed .station) (passed .queue .places) (passed .queue .cells) (eqb-true _ _ (passed .lengths)) (passed .queue .sound) builds
+          p _ z st' block' h refl ez))

@@ -41,12 +41,10 @@ use Rattle.mac_writer.proofs.WriteReply.Laws as mac_writer-WriteReply-laws
 use Rattle.dl_record.proofs.Kind.Laws as dl_record-Kind-laws
 use Rattle.dl_record.proofs.QueuedHeader.Laws as dl_record-QueuedHeader-laws
 use Rattle.dl_record.proofs.Record.Laws as dl_record-Record-laws
-use Rattle.dl_queue.proofs.Queue.Laws as dl_queue-Queue-laws
 use Rattle.dl_merge.proofs.Merged.Laws as dl_merge-Merged-laws
 use Rattle.bs_frag.proofs.Outcome.Laws as bs_frag-Outcome-laws
 use Rattle.bs_frag.proofs.Chunk.Laws as bs_frag-Chunk-laws
 use Rattle.dl_send.proofs.Progress.Laws as dl_send-Progress-laws
-use Rattle.dl_build.proofs.Built.Laws as dl_build-Built-laws
 use Rattle.sched_core.proofs.Station.Laws as sched_core-Station-laws
 use Rattle.sched_core.proofs.Reply.Laws as sched_core-Reply-laws
 use Rattle.sched_core.proofs.RequestReply.Laws as sched_core-RequestReply-laws
@@ -55,7 +53,6 @@ use Rattle.sched_core.proofs.OwnerReply.Laws as sched_core-OwnerReply-laws
 use Rattle.sched_core.proofs.UsageReply.Laws as sched_core-UsageReply-laws
 use Rattle.sched_core.proofs.Answer.Laws as sched_core-Answer-laws
 use Rattle.sched_core.proofs.RequestAnswer.Laws as sched_core-RequestAnswer-laws
-use Rattle.sched_core.proofs.BuildCoreAnswer.Laws as sched_core-BuildCoreAnswer-laws
 use Rattle.request_core.proofs.RequestPlan.Laws as request_core-RequestPlan-laws
 use Rattle.enqueue_core.proofs.QueuePlan.Laws as enqueue_core-QueuePlan-laws
 
@@ -179,9 +176,6 @@ dl_record-QueuedHeader = dl_record-QueuedHeader-laws.mir
 abbrev pub dl_record-Record : Ty
 dl_record-Record = dl_record-Record-laws.mir
 
-abbrev pub dl_queue-Queue : Ty
-dl_queue-Queue = dl_queue-Queue-laws.mir
-
 abbrev pub dl_merge-Merged : Ty
 dl_merge-Merged = dl_merge-Merged-laws.mir
 
@@ -193,9 +187,6 @@ bs_frag-Chunk = bs_frag-Chunk-laws.mir
 
 abbrev pub dl_send-Progress : Ty
 dl_send-Progress = dl_send-Progress-laws.mir
-
-abbrev pub dl_build-Built : Ty
-dl_build-Built = dl_build-Built-laws.mir
 
 abbrev pub sched_core-Station : Ty
 sched_core-Station = sched_core-Station-laws.mir
@@ -220,9 +211,6 @@ sched_core-Answer = sched_core-Answer-laws.mir
 
 abbrev pub sched_core-RequestAnswer : Ty
 sched_core-RequestAnswer = sched_core-RequestAnswer-laws.mir
-
-abbrev pub sched_core-BuildCoreAnswer : Ty
-sched_core-BuildCoreAnswer = sched_core-BuildCoreAnswer-laws.mir
 
 abbrev pub request_core-RequestPlan : Ty
 request_core-RequestPlan = request_core-RequestPlan-laws.mir

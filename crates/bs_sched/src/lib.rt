@@ -1,6 +1,7 @@
 // The public entries: the functions over the caller's queue.
 use dl_record::QueuedHeader;
 use dl_record::Record;
+use dl_send::Progress;
 use optional::OptU16;
 use questions::Refusal;
 use sched_core::Answer;
@@ -16,15 +17,19 @@ use uplink::PhyBlockNum;
 ghost use mathlib.Core.Path.{_≡_};
 ghost use mathlib.Core.Bool.{true, false};
 ghost use mathlib.Core.List.{[], _∷_};
-ghost use lib.ListN.{set};
+ghost use Prim.Native.Nat.{_+_, _≤_};
+ghost use lib.ListN.{length, set, take, drop};
+ghost use lib.Seq.{paste};
+ghost use Rattle.sizes.specs.Sizes.{perTimeslot};
 ghost use Rattle.dl_record.specs.Record.{emptyRecord};
 ghost use Rattle.dl_queue.specs.Questions.{soundPlace};
 ghost use Rattle.questions.specs.declared.Refusal.{Refusal};
 ghost use Rattle.questions.specs.Questions.{question, ask};
-ghost use Rattle.sched_core.specs.Questions.{memory, memoryQuestions};
-ghost use Rattle.sched_core.specs.Calls.{outcome, newCall, advanceCall, ownerCall, usageCall, requestCall, ackCall, tmaCall, buildCall};
+ghost use Rattle.sched_core.specs.declared.BuildReply.{BuildReply};
+ghost use Rattle.sched_core.specs.Station.{withQueued};
+ghost use Rattle.sched_core.specs.Questions.{memory, soundStation, memoryQuestions};
+ghost use Rattle.sched_core.specs.Calls.{outcome, current, newCall, advanceCall, ownerCall, usageCall, requestCall, ackCall, tmaCall, buildCall};
 ghost use Rattle.bs_sched.specs.declared.Verdict.{Verdict};
-ghost use Rattle.bs_sched.specs.Queue.{first64, copied};
 ghost use Rattle.bs_sched.specs.Entries.{buildAnswerOf, buildLeft, leftBy};
 
 // What a build answers: the reply, the tags of the records that are finished, and the station after the call.
@@ -115,29 +120,29 @@ fn ask_memory(s: Station, queue: &[Record], store: &[u8], lent: bool) -> Verdict
     Verdict::Passed
 }
 
-// The first 64 records, with empty ones past the end.
-pub fn load_64(queue: &[Record]) -> [Record; 64]
-    ensures { λ r. ⌜ r ≡ first64 (now (queue .entry)) ⌝ }
+// The records of a timeslot, from place `first` on.
+fn load_timeslot(queue: &[Record], first: usize) -> [Record; sizes::PER_TIMESLOT]
+    requires { ⌜ first + perTimeslot ≤ length (now queue) ⌝ }
+    ensures { λ r. ⌜ r ≡ take perTimeslot (drop first (now (queue .entry))) ⌝ }
 {
     let empty = empty_record();
-    let mut records = [empty; 64];
+    let mut records = [empty; sizes::PER_TIMESLOT];
     let mut i = 0;
-    while i < 64 {
-        if i < queue.len() {
-            records[i] = queue[i];
-        }
+    while i < sizes::PER_TIMESLOT {
+        records[i] = queue[first + i];
         i += 1;
     }
     records
 }
 
-// Stores 64 records in the first 64 places; past the end nothing.
-pub fn save_64(queue: &mut [Record], records: [Record; 64])
-    ensures { λ _. ⌜ now (queue .exit) ≡ copied records 64 (now (queue .entry)) ⌝ }
+// Stores the records of a timeslot, from place `first` on.
+fn save_timeslot(queue: &mut [Record], first: usize, records: [Record; sizes::PER_TIMESLOT])
+    requires { ⌜ first + perTimeslot ≤ length (now queue) ⌝ }
+    ensures { λ _. ⌜ now (queue .exit) ≡ paste (now (queue .entry)) first records perTimeslot ⌝ }
 {
     let mut i = 0;
-    while i < 64 {
-        put_record(queue, i, records[i]);
+    while i < sizes::PER_TIMESLOT {
+        put_record(queue, first + i, records[i]);
         i += 1;
     }
 }
@@ -151,6 +156,26 @@ fn not_built(reply: BuildReply, station: Station) -> BuildAnswer
         tags: [0u16; sizes::PER_TIMESLOT],
         tag_count: 0,
         station: station,
+    }
+}
+
+// A build that leaves a plan.
+fn built(plan: Progress, station: Station) -> BuildAnswer
+    requires { ⌜ (soundStation station ≡ true) × (plan .left ≤ perTimeslot) × (plan .«tag_count» ≤ perTimeslot) ⌝ }
+    ensures { λ r. ⌜ r ≡ record {
+      reply = BuildReply.Built;
+      tags = plan .tags;
+      «tag_count» = plan .«tag_count»;
+      station = withQueued station (set (station .queued) (current station) (plan .left));
+    } ⌝ }
+{
+    let tags = plan.tags;
+    let next = build_core::station_left(station, plan.left);
+    BuildAnswer {
+        reply: BuildReply::Built,
+        tags: tags,
+        tag_count: plan.tag_count as u8,
+        station: next,
     }
 }
 
@@ -298,18 +323,10 @@ pub fn dl_build_block(
     if !build_core::builds_now(s) {
         return not_built(BuildReply::NoBlock, s);
     }
-    let records = load_64(queue);
-    let done = build_core::build_sound(s, records, store, block);
-    let after = done.records;
-    save_64(queue, after);
-    let reply = done.reply;
-    let tags = done.tags;
-    let tag_count = done.tag_count;
-    let station = done.station;
-    BuildAnswer {
-        reply: reply,
-        tags: tags,
-        tag_count: tag_count,
-        station: station,
-    }
+    let first = build_core::first_place(s);
+    let records = load_timeslot(queue, first);
+    let plan = build_core::build_sound(s, records, store, block);
+    let left = plan.records;
+    save_timeslot(queue, first, left);
+    built(plan, s)
 }

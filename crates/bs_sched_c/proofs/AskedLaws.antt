@@ -1,13 +1,14 @@
 -- The questions that an export asks first, and the words of a queue that passes them. Assumes nothing.
 use mathlib.Core.Path.{_≡_, refl, sym, ap, subst, _∙_}
-use mathlib.Core.Bool.{Bool, true, false, _&&_, cond}
-use mathlib.Core.List.{List, [], _∷_, _++_}
-use Prim.Native.Nat.{ℕ, suc, _*_, _≤_, _<_}
+use mathlib.Core.Bool.{Bool, true, false, cond}
+use mathlib.Core.List.{List, [], _∷_}
+use Prim.Native.Nat.{ℕ, _*_, _≤_, _<_, _+_}
 use native.Mathlib.Omega.{arith}
 use lib.Dec.{eqb}
-use lib.ListN.{length, replicate, set, take, drop}
+use lib.ListN.{length, replicate, set}
 use lib.Seq.{sets, paste}
 use borrow.Author.Tests.{eq-eqb, ne-eqb, eqb-true}
+use Rattle.sizes.specs.Sizes.{timeslots, perTimeslot, queuePlaces}
 use Rattle.uplink.proofs.Basics.{not-both}
 use Rattle.dl_record.specs.declared.Record.{Record}
 use Rattle.dl_queue.specs.Questions.{soundQueue}
@@ -71,7 +72,8 @@ module _ (ws qs st : List ℕ) (s : Station) (es : s ≡ stationFrom ws) (queue 
   whole : queueFrom qs ≡ recordsFrom qs
   whole = queue-whole qs (all-words qs (queue .places))
 
-  counts : length (s .queued) ≡ 4
+  -- four counts
+  pub counts : length (s .queued) ≡ timeslots
   counts = ap (λ (y : Station). length (y .queued)) es ∙ four-counts ws
 
   sound : soundQueue (s .queued) (queueFrom qs) st ≡ true
@@ -88,7 +90,7 @@ module _ (ws qs st : List ℕ) (s : Station) (es : s ≡ stationFrom ws) (queue 
   record-stored place h r = set-words (s .queued) st qs counts sound place h r ∙ ap (λ (rs : List Record). queueWords (set rs place r)) whole
 
   -- those of a timeslot's places, where all others are as they were
-  pub sixteen-stored : (f : ℕ) → f ≤ 48 → (xs : List Record) → 16 ≤ length xs
-      → sets qs (23 * f) (queueWords (take 16 (drop f (paste (recordsFrom qs) f xs 16)))) ≡ queueWords (paste (recordsFrom qs) f xs 16)
-  sixteen-stored f room xs long =
-      subst (λ (rs : List Record). sets qs (23 * f) (queueWords (take 16 (drop f (paste rs f xs 16)))) ≡ queueWords (paste rs f xs 16)) whole (pasted-words (s .queued) st qs counts sound f room xs long)
+  pub sixteen-stored : (f : ℕ) → f + perTimeslot ≤ queuePlaces → (xs : List Record) → length xs ≡ perTimeslot
+      → sets qs (23 * f) (queueWords xs) ≡ queueWords (paste (recordsFrom qs) f xs perTimeslot)
+  sixteen-stored f room xs size =
+      subst (λ (rs : List Record). sets qs (23 * f) (queueWords xs) ≡ queueWords (paste rs f xs perTimeslot)) whole (pasted-words (s .queued) st qs counts sound f room xs size)

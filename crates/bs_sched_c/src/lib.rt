@@ -282,19 +282,18 @@ pub extern "C" fn bs_sched_build(
     if !build_core::builds_now(s) {
         return reply::not_built(0);
     }
-    let records = sched_words::queue::records_read(queue);
-    let done = build_core::build_sound(s, records, store, block);
-    let next = done.station;
-    let after = done.records;
-    let tags = done.tags;
-    let time = s.uplink.time;
-    let t = (time.t - 1) as usize;
+    let first = build_core::first_place(s);
+    let records = sched_words::queue::sixteen_read(queue, first);
+    let plan = build_core::build_sound(s, records, store, block);
+    let next = build_core::station_left(s, plan.left);
+    let after = plan.records;
+    let tags = plan.tags;
     sched_words::station::put_station(station, next);
-    sched_words::queue::put_sixteen(queue, 16 * t, after);
+    sched_words::queue::put_sixteen(queue, first, after);
     BsSchedBuilt {
         refusal: 0,
         built: 1,
-        tag_count: done.tag_count,
+        tag_count: plan.tag_count as u8,
         tags: tags,
     }
 }

@@ -1,22 +1,28 @@
-// A build: the questions in order, then nothing or the block of the current timeslot.
+// A build: is there a block to build, and the plan of the current timeslot's block.
 use dl_record::Record;
-use sched_core::BuildCoreAnswer;
-use sched_core::BuildReply;
+use dl_send::Progress;
 use sched_core::Station;
+use sizes::BLOCK_WIDTH;
+use sizes::PER_TIMESLOT;
+use sizes::TIMESLOTS;
 use tdma_time::TdmaTime;
 ghost use mathlib.Core.Path.{_≡_};
+ghost use mathlib.Core.List.{List};
 ghost use mathlib.Core.Bool.{true, _&&_, not};
 ghost use lib.Dec.{eqb, ltb};
-ghost use Prim.Native.Nat.{_-_, _≤_};
-ghost use lib.ListN.{length, getD, replicate};
-ghost use Rattle.dl_queue.specs.Questions.{soundQueue};
-ghost use Rattle.sched_core.specs.declared.BuildReply.{BuildReply};
+ghost use Prim.Native.Nat.{_+_, _-_, _*_, _≤_};
+ghost use lib.ListN.{length, getD, set, take, drop};
+ghost use Rattle.sizes.specs.Sizes.{timeslots, perTimeslot, queuePlaces, cellOctets, storeOctets, blockOctets};
+ghost use Rattle.dl_record.specs.declared.Record.{Record};
+ghost use Rattle.dl_queue.specs.Questions.{soundPlaces};
+ghost use Rattle.dl_build.specs.Build.{BuiltIn};
+ghost use Rattle.sched_core.specs.Station.{withQueued};
 ghost use Rattle.sched_core.specs.Questions.{soundStation, memory};
-ghost use Rattle.sched_core.specs.Calls.{buildsNow, buildCall, BuildAnswered};
+ghost use Rattle.sched_core.specs.Calls.{current, buildsNow, builtNow};
 
 // Is there a block to build: a usable slot, and something queued for its timeslot?
-fn builds_at(time: TdmaTime, queued: [u8; 4]) -> bool
-    requires { ⌜ (1 ≤ time .t) × (time .t ≤ 4) ⌝ }
+fn builds_at(time: TdmaTime, queued: [u8; TIMESLOTS]) -> bool
+    requires { ⌜ (1 ≤ time .t) × (time .t ≤ timeslots) ⌝ }
     ensures { λ r. ⌜ r ≡ not (eqb (time .f) 18) && ltb 0 (getD queued (time .t - 1) 0) ⌝ }
 {
     let t = (time.t - 1) as usize;
@@ -35,46 +41,51 @@ pub fn builds_now(station: Station) -> bool
     builds_at(time, queued)
 }
 
-// A build that has nothing to build.
-fn no_block(station: Station, records: [Record; 64]) -> BuildCoreAnswer
-    ensures { λ r. ⌜ r ≡ record { reply = BuildReply.NoBlock; tags = replicate 16 0; «tag_count» = 0; station = station; records = records } ⌝ }
+// The first place of the current timeslot.
+pub fn first_place(station: Station) -> usize
+    requires { ⌜ soundStation station ≡ true ⌝ }
+    ensures { λ r. ⌜ (r ≡ perTimeslot * current station) × (r + perTimeslot ≤ queuePlaces) ⌝ }
 {
-    BuildCoreAnswer {
-        reply: BuildReply::NoBlock,
-        tags: [0u16; 16],
-        tag_count: 0,
-        station: station,
-        records: records,
-    }
+    let time = station.uplink.time;
+    let t = (time.t - 1) as usize;
+    PER_TIMESLOT * t
 }
 
-// A build, after all its questions.
+// The plan of the current timeslot's block, of its sound records, and the block: the same for any queue that has these records there.
 pub fn build_sound(
     station: Station,
-    records: [Record; 64],
+    records: [Record; PER_TIMESLOT],
     store: &mut [u8],
     block: &mut [u8],
-) -> BuildCoreAnswer
-    requires { ⌜ (soundStation station ≡ true) × (length (now store) ≡ 16384) × (length (now block) ≡ 34) ⌝ }
-    requires { ⌜ soundQueue (station .queued) records (now store) ≡ true ⌝ }
-    ensures { λ r. ⌜ BuildAnswered (buildCall (memory station records (now (store .entry))) (now (block .entry))) r (now (store .exit)) (now (block .exit)) ⌝ }
+) -> Progress
+    requires { ⌜ (soundStation station ≡ true) × (length (now store) ≡ storeOctets) × (length (now block) ≡ blockOctets) ⌝ }
+    requires { ⌜ soundPlaces perTimeslot (getD (station .queued) (current station) 0) records (drop (cellOctets * (perTimeslot * current station)) (now store)) ≡ true ⌝ }
+    ensures { λ p. ⌜ ((rs : List Record) → take perTimeslot (drop (perTimeslot * current station) rs) ≡ records
+        → BuiltIn (builtNow (memory station rs (now (store .entry)))) blockOctets (now (store .entry)) (perTimeslot * current station)
+        p (now (store .exit)) (now (block .exit))) ⌝ }
 {
-    if !builds_now(station) {
-        return no_block(station, records);
-    }
     let time = station.uplink.time;
     let queued = station.queued;
     let t = (time.t - 1) as usize;
-    let b = dl_build::dl_build_block_from_signalling_schedule(queued, records, store, block, t);
-    let counts = b.counts;
-    let after = b.records;
-    let tags = b.tags;
-    let next = sched_core::with_queued(station, counts);
-    BuildCoreAnswer {
-        reply: BuildReply::Built,
-        tags: tags,
-        tag_count: b.tag_count,
-        station: next,
-        records: after,
-    }
+    let n = queued[t] as usize;
+    dl_build::dl_build_block_from_signalling_schedule(
+        records,
+        n,
+        store,
+        PER_TIMESLOT * t,
+        block,
+        BLOCK_WIDTH,
+    )
+}
+
+// The station after a build that leaves so many records for the current timeslot.
+pub fn station_left(station: Station, left: usize) -> Station
+    requires { ⌜ (soundStation station ≡ true) × (left ≤ perTimeslot) ⌝ }
+    ensures { λ r. ⌜ r ≡ withQueued station (set (station .queued) (current station) left) ⌝ }
+{
+    let time = station.uplink.time;
+    let mut queued = station.queued;
+    let t = (time.t - 1) as usize;
+    queued[t] = left as u8;
+    sched_core::with_queued(station, queued)
 }

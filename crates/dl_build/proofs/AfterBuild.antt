@@ -7,6 +7,7 @@ use mathlib.Core.List.{List, map}
 use Prim.Native.Nat.{ℕ, _*_, _<_, _≤_}
 use native.Mathlib.Omega.{arith}
 use lib.ListN.{length, getD, set, drop}
+use Rattle.sizes.specs.Sizes.{perTimeslot, cellOctets, timeslotOctets, blockWidth, blockOctets}
 use Rattle.mac_reader.specs.PduList.{blockBits, placed, Fits}
 use Rattle.mac_reader.specs.Reader.{headers, replyOf, readBlock}
 use Rattle.dl_record.specs.declared.Record.{Record}
@@ -16,7 +17,7 @@ use Rattle.dl_queue.proofs.QueueLaws.{HoldsQueues}
 use Rattle.dl_queue.proofs.SetLaws.{queues-set}
 use Rattle.dl_queue.proofs.SoundLaws.{queue-at, set-sound}
 use Rattle.sdu_store.proofs.OctetLaws.{Octets, octets-drop, octets-paste}
-use Rattle.dl_merge.specs.Merge.{mergeCells, mergedQueue, always, keep}
+use Rattle.dl_merge.specs.Merge.{mergeCells, always, keep}
 use Rattle.dl_merge.proofs.MergeLaws.{All, all-weaken, merge-all, reload}
 use Rattle.dl_merge.proofs.SoundMerge.{SoundItem, each-items, OneCell, each-cells, OctetItem, queue-octets, zero-octets, octets-cells}
 use Rattle.dl_send.specs.Send.{sendAll, cellSdu, blockOf}
@@ -24,9 +25,9 @@ use Rattle.dl_send.proofs.TurnLaws.{Aligned}
 use Rattle.dl_send.proofs.BlockLaws.{SentWell, sent-well, built-read}
 use Rattle.dl_send.proofs.KeptLaws.{Stored, Staying, all-loaded, left-stays, left-few, left-loads}
 use Rattle.dl_send.proofs.MapLaws.{Steady, SameSdu, reloadSent, sendAll-map}
-use Rattle.dl_build.specs.Build.{inOrder, buildList, builtOf}
+use Rattle.dl_build.specs.Build.{builtFrom, inOrder, buildList, builtOf}
 use Rattle.dl_build.proofs.OrderLaws.{order-length, order-all, order-map}
-use Rattle.dl_build.proofs.BuildLaws.{merged-stored, merged-most}
+use Rattle.dl_build.proofs.BuildLaws.{mergedQueue, merged-stored, merged-most}
 
 -- to build and then map the loads is to map them and then build: the model's SDUs by value, with the names of their grants, and the code's cells give the same
 -- PDUs and tags
@@ -36,21 +37,21 @@ unfolding buildList
 build-map f steady sc sd w xs h = ap (sendAll sd w) (sym (order-map f xs)) ∙ sendAll-map f steady sc sd w (inOrder xs) (order-all (SameSdu f sc sd) xs h)
 
 module _ (ns : List ℕ) (rs : List Record) (s : List ℕ) (t : ℕ) (inside : t < length ns)
-    (places : length rs ≡ 16 * length ns) (size : length s ≡ 4096 * length ns) (sound : soundQueue ns rs s ≡ true) where
+    (places : length rs ≡ perTimeslot * length ns) (size : length s ≡ timeslotOctets * length ns) (sound : soundQueue ns rs s ≡ true) where
   taken : All Stored (inOrder (mergedQueue ns rs s t))
   taken = order-all Stored (mergedQueue ns rs s t) (merged-stored ns rs s t inside places size sound)
 
   -- "What did not finish stays .. as waiting or started."
   pub build-stays : All Staying (builtOf ns rs s t .left)
-  unfolding builtOf buildList
-  build-stays = left-stays 268 (inOrder (mergedQueue ns rs s t)) (omega arith) taken
+  unfolding builtOf builtFrom buildList mergedQueue
+  build-stays = left-stays blockWidth (inOrder (mergedQueue ns rs s t)) (omega arith) taken
 
   -- a build raises no count
   pub build-few : length (builtOf ns rs s t .left) ≤ length (mergedQueue ns rs s t)
-  unfolding builtOf buildList
-  build-few = omega (arith, left-few cellSdu 268 (inOrder (mergedQueue ns rs s t)), order-length (mergedQueue ns rs s t))
+  unfolding builtOf builtFrom buildList mergedQueue
+  build-few = omega (arith, left-few cellSdu blockWidth (inOrder (mergedQueue ns rs s t)), order-length (mergedQueue ns rs s t))
 
-  few : length (builtOf ns rs s t .left) ≤ 16
+  few : length (builtOf ns rs s t .left) ≤ perTimeslot
   few = omega (arith, build-few, merged-most ns rs s t inside places size sound)
 
   cells : Cells (builtOf ns rs s t .left)
@@ -59,15 +60,15 @@ module _ (ns : List ℕ) (rs : List Record) (s : List ℕ) (t : ℕ) (inside : t
   items : soundItems (builtOf ns rs s t .left) ≡ true
   items = each-items (builtOf ns rs s t .left) (all-weaken Staying SoundItem (λ x q. q .stored .sound) (builtOf ns rs s t .left) build-stays)
 
-  octets : Octets s → Octets (cellsOf 16 (builtOf ns rs s t .left))
-  unfolding builtOf buildList mergedQueue
+  octets : Octets s → Octets (cellsOf perTimeslot (builtOf ns rs s t .left))
+  unfolding builtOf builtFrom buildList mergedQueue
   octets h =
-      let own = queueOf (getD ns t 0) (drop (16 * t) rs) (drop (256 * (16 * t)) s) in
-      octets-cells 16 (builtOf ns rs s t .left)
-      (left-loads Octets cellSdu 268 (inOrder (mergeCells own))
+      let own = queueOf (getD ns t 0) (drop (perTimeslot * t) rs) (drop (cellOctets * (perTimeslot * t)) s) in
+      octets-cells perTimeslot (builtOf ns rs s t .left)
+      (left-loads Octets cellSdu blockWidth (inOrder (mergeCells own))
       (order-all OctetItem (mergeCells own)
       (merge-all (always zeroCell) keep OctetItem (λ g x k t p q. q) (λ g k p. zero-octets) own
-      (queue-octets (getD ns t 0) (drop (16 * t) rs) (drop (256 * (16 * t)) s) (octets-drop (256 * (16 * t)) s h)))))
+      (queue-octets (getD ns t 0) (drop (perTimeslot * t) rs) (drop (cellOctets * (perTimeslot * t)) s) (octets-drop (cellOctets * (perTimeslot * t)) s h)))))
 
   -- the four lists after a build; the memory stays sound
   pub build-holds : Octets s
@@ -76,15 +77,15 @@ module _ (ns : List ℕ) (rs : List Record) (s : List ℕ) (t : ℕ) (inside : t
       record {
         lists = queues-set ns rs s t (builtOf ns rs s t .left) inside (λ u h. queue-at ns rs s sound u h .0) places size few cells;
         sound = set-sound ns rs s t (builtOf ns rs s t .left) inside places size few cells items sound;
-        octets = octets-paste s (256 * (16 * t)) (cellsOf 16 (builtOf ns rs s t .left)) 4096 h (octets h);
+        octets = octets-paste s (cellOctets * (perTimeslot * t)) (cellsOf perTimeslot (builtOf ns rs s t .left)) timeslotOctets h (octets h);
       }
 
-  well : SentWell 268 0 268 (builtOf ns rs s t)
-  unfolding builtOf buildList
-  well = sent-well cellSdu 268 0 268 (inOrder (mergedQueue ns rs s t)) refl (omega arith) (all-loaded (inOrder (mergedQueue ns rs s t)) taken)
+  well : SentWell blockWidth 0 blockWidth (builtOf ns rs s t)
+  unfolding builtOf builtFrom buildList mergedQueue
+  well = sent-well cellSdu blockWidth 0 blockWidth (inOrder (mergedQueue ns rs s t)) refl (omega arith) (all-loaded (inOrder (mergedQueue ns rs s t)) taken)
 
   -- the PDUs fit the block
-  pub build-fits : Fits 268 0 (builtOf ns rs s t .pdus)
+  pub build-fits : Fits blockWidth 0 (builtOf ns rs s t .pdus)
   build-fits = well .fits
 
   -- "bits left in a block are 0, or 4 more than a multiple of eight"
@@ -92,6 +93,6 @@ module _ (ns : List ℕ) (rs : List Record) (s : List ℕ) (t : ℕ) (inside : t
   build-room = well .aligned (inr refl)
 
   -- the block reads as the headers of the PDUs that were written, at their positions
-  pub build-read : readBlock 34 (blockOf 34 (blockBits (builtOf ns rs s t .pdus))) ≡ replyOf (headers (placed 0 (builtOf ns rs s t .pdus)))
-  unfolding builtOf buildList
-  build-read = built-read cellSdu 34 (inOrder (mergedQueue ns rs s t)) (omega arith) (omega arith) (all-loaded (inOrder (mergedQueue ns rs s t)) taken)
+  pub build-read : readBlock blockOctets (blockOf blockOctets (blockBits (builtOf ns rs s t .pdus))) ≡ replyOf (headers (placed 0 (builtOf ns rs s t .pdus)))
+  unfolding builtOf builtFrom buildList mergedQueue
+  build-read = built-read cellSdu blockOctets (inOrder (mergedQueue ns rs s t)) (omega arith) (omega arith) (all-loaded (inOrder (mergedQueue ns rs s t)) taken)

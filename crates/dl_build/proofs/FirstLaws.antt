@@ -7,21 +7,23 @@ use native.Mathlib.Omega.{arith}
 use lib.Dec.{leb}
 use lib.ListN.{length, getD, drop, length-append}
 use borrow.Author.Tests.{le-ltb}
+use Rattle.sizes.specs.Sizes.{perTimeslot, cellOctets, timeslotOctets, blockWidth}
 use Rattle.mac_reader.specs.PduList.{Pdu, whole, first, frag, final, null}
 use Rattle.dl_record.specs.declared.Kind.{Kind}
 use Rattle.dl_record.specs.declared.Record.{Record}
 use Rattle.dl_queue.specs.Queue.{Item, zeroCell, queueOf}
 use Rattle.dl_queue.specs.Questions.{soundQueue}
 use Rattle.dl_queue.proofs.QueueLaws.{length-queue}
-use Rattle.dl_merge.specs.Merge.{isGrantOrAck, isKept, isRecord, takes, only, put, puts, merge, always, keep, mergeCells, mergedQueue}
+use Rattle.dl_record.specs.Kind.{isGrantOrAck, isKept, isRecord, isStarted, isUnderway}
+use Rattle.dl_merge.specs.Merge.{takes, only, put, puts, merge, always, keep, mergeCells}
 use Rattle.dl_merge.proofs.MergeLaws.{All, only-both}
-use Rattle.bs_frag.specs.NextPdu.{headerSize, endOctets, Next, beginWith, begin, continue, isStarted, next}
+use Rattle.bs_frag.specs.NextPdu.{headerSize, endOctets, Next, beginWith, begin, continue, next}
 use Rattle.bs_frag.proofs.HeaderLaws.{header-bounds}
-use Rattle.dl_send.specs.Send.{isUnderway, sendAll, cellSdu}
+use Rattle.dl_send.specs.Send.{sendAll, cellSdu, turns, readOff, roomAfter}
 use Rattle.dl_send.proofs.KeptLaws.{Stored}
-use Rattle.dl_build.specs.Build.{inOrder, buildList, builtOf}
+use Rattle.dl_build.specs.Build.{builtFrom, inOrder, buildList, builtOf}
 use Rattle.dl_build.proofs.OrderLaws.{order-all}
-use Rattle.dl_build.proofs.BuildLaws.{merged-stored, sendables}
+use Rattle.dl_build.proofs.BuildLaws.{mergedQueue, merged-stored, sendables}
 
 -- ---- merging leaves something of something
 
@@ -87,15 +89,15 @@ either : (b : Bool) (x y : Next) → Begins (x .pdus) → Begins (y .pdus) → B
 either true x y h k = h
 either false x y h k = k
 
-begin-writes : (h : ℕ) (r : Record) (sdu : List ℕ) → h ≤ 268 → Begins (beginWith h 268 r sdu .pdus)
+begin-writes : (h : ℕ) (r : Record) (sdu : List ℕ) → h ≤ blockWidth → Begins (beginWith h blockWidth r sdu .pdus)
 unfolding beginWith
-begin-writes h r sdu small = either (leb (h + r .bits) 268) _ _ (one _ refl) (rw (le-ltb 268 h small) (one _ refl))
+begin-writes h r sdu small = either (leb (h + r .bits) blockWidth) _ _ (one _ refl) (rw (le-ltb blockWidth h small) (one _ refl))
 
-continue-writes : (r : Record) (sdu : List ℕ) → Begins (continue 268 r sdu .pdus)
+continue-writes : (r : Record) (sdu : List ℕ) → Begins (continue blockWidth r sdu .pdus)
 unfolding continue
-continue-writes r sdu = either (leb (endOctets (r .bits - r .sent) * 8) 268) _ _ (one _ refl) (one _ refl)
+continue-writes r sdu = either (leb (endOctets (r .bits - r .sent) * 8) blockWidth) _ _ (one _ refl) (one _ refl)
 
-next-writes : (r : Record) (sdu : List ℕ) → headerSize r ≤ 268 → Begins (next 268 r sdu .pdus)
+next-writes : (r : Record) (sdu : List ℕ) → headerSize r ≤ blockWidth → Begins (next blockWidth r sdu .pdus)
 unfolding next begin
 next-writes r sdu small = either (isStarted (r .kind)) _ _ (continue-writes r sdu) (begin-writes (headerSize r) r sdu small)
 
@@ -104,18 +106,18 @@ next-writes r sdu small = either (isStarted (r .kind)) _ _ (continue-writes r sd
 longer : (l m : List Pdu) → Begins l → Begins (l ++ m)
 longer l m b = record { pdu = b .pdu; rest = b .rest ++ m; parts = ap (λ (x : List Pdu). x ++ m) (b .parts); real = b .real }
 
-send-writes : (xs : List (Item (List ℕ))) → All Stored xs → 0 < length xs → Begins (sendAll cellSdu 268 xs .pdus)
-unfolding sendAll
+send-writes : (xs : List (Item (List ℕ))) → All Stored xs → 0 < length xs → Begins (sendAll cellSdu blockWidth xs .pdus)
+unfolding sendAll turns readOff roomAfter
 send-writes [] h n = absurd (omega arith)
 send-writes (x ∷ xs) h n =
     longer _ _ (next-writes (x .rec) (cellSdu (x .load) (x .rec .bits)) (omega (arith, header-bounds (x .rec) (sendables (x ∷ xs) h .0 .legal) .1)))
 
 -- with something queued for a timeslot, a build of a sound memory writes a PDU of a record first
-pub build-writes : (ns : List ℕ) (rs : List Record) (s : List ℕ) (t : ℕ) → t < length ns → length rs ≡ 16 * length ns → length s ≡ 4096 * length ns → soundQueue ns rs s ≡ true
+pub build-writes : (ns : List ℕ) (rs : List Record) (s : List ℕ) (t : ℕ) → t < length ns → length rs ≡ perTimeslot * length ns → length s ≡ timeslotOctets * length ns → soundQueue ns rs s ≡ true
     → 0 < getD ns t 0 → Begins (builtOf ns rs s t .pdus)
-unfolding builtOf buildList mergedQueue
+unfolding builtOf builtFrom buildList mergedQueue
 build-writes ns rs s t inside places size sound some =
-    let own : List (Item (List ℕ)) = queueOf (getD ns t 0) (drop (16 * t) rs) (drop (256 * (16 * t)) s) in
+    let own : List (Item (List ℕ)) = queueOf (getD ns t 0) (drop (perTimeslot * t) rs) (drop (cellOctets * (perTimeslot * t)) s) in
     let stored = merged-stored ns rs s t inside places size sound in
-    let many = merge-some (always zeroCell) keep own (omega (arith, length-queue (getD ns t 0) (drop (16 * t) rs) (drop (256 * (16 * t)) s))) in
+    let many = merge-some (always zeroCell) keep own (omega (arith, length-queue (getD ns t 0) (drop (perTimeslot * t) rs) (drop (cellOctets * (perTimeslot * t)) s))) in
     send-writes (inOrder (mergeCells own)) (order-all Stored (mergeCells own) stored) (order-some (mergeCells own) stored many)

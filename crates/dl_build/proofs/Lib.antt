@@ -1,3 +1,5 @@
+pub mod ArrangeLaws
+pub mod MergeMap
 pub mod OrderLaws
 pub mod PlaceLaws
 pub mod BuildLaws

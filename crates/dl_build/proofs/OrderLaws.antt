@@ -2,52 +2,88 @@
 use mathlib.Core.Path.{_≡_, refl, sym, ap, ap₂, _∙_}
 use mathlib.Core.Bool.{Bool, true, false, cond}
 use mathlib.Core.List.{List, [], _∷_, _++_, append-assoc, append-nil, map}
-use Prim.Native.Nat.{ℕ, suc, _+_, _<_, _≤_}
+use Prim.Native.Nat.{ℕ, zero, suc, _+_, _<_, _≤_}
+use native.Mathlib.Numerals.{add-one, one-add}
 use native.Mathlib.Omega.{arith}
-use lib.ListN.{length, getD, set, replicate, length-append}
+use lib.ListN.{length, getD, set, drop, replicate, length-append}
+use lib.Seq.{getD-drop}
+use Rattle.sizes.specs.Sizes.{perTimeslot, noPlace}
 use Rattle.dl_record.specs.declared.Kind.{Kind}
 use Rattle.dl_record.specs.declared.Record.{Record}
 use Rattle.dl_record.specs.Record.{emptyRecord}
 use Rattle.dl_queue.specs.Queue.{Item, item, recordsOf}
-use Rattle.dl_merge.specs.Merge.{isRecord, only}
-use Rattle.dl_merge.specs.Places.{counted, sourcesOf}
-use Rattle.dl_merge.proofs.ListLaws.{length-counted, counted-more, only-mono}
+use Rattle.dl_record.specs.Kind.{isRecord, isUnderway}
+use Rattle.dl_merge.specs.Merge.{only}
+use Rattle.dl_merge.specs.Places.{sourcesOf}
 use Rattle.dl_merge.proofs.MergeLaws.{All, all-weaken, only-all, only-pass, only-fail, only-map, reload}
 use Rattle.dl_merge.proofs.TurnLaws.{Holds, holds-as, holds-snoc}
-use Rattle.dl_send.specs.Send.{isUnderway}
+use Rattle.dl_send.specs.Progress.{listed}
+use Rattle.dl_send.proofs.ArrayLaws.{length-listed}
 use Rattle.dl_send.proofs.KeptLaws.{all-append}
 use Rattle.dl_build.specs.Build.{inOrder}
 
 -- ---- the loops
 
+listed-snoc : (n : ℕ) (rs : List Record) (fs : List ℕ) → listed (suc n) rs fs ≡ listed n rs fs ++ item (getD rs n emptyRecord) (getD fs n 0) ∷ []
+unfolding listed
+listed-snoc zero rs fs = refl
+listed-snoc (suc n) rs fs =
+    ap (_∷_ (item (getD rs 0 emptyRecord) (getD fs 0 0)))
+    (listed-snoc n (drop 1 rs) (drop 1 fs)
+    ∙ ap₂ (λ (r : Record) (f : ℕ). listed n (drop 1 rs) (drop 1 fs) ++ item r f ∷ [])
+    (getD-drop 1 rs n emptyRecord ∙ ap (λ (j : ℕ). getD rs j emptyRecord) (one-add n)) (getD-drop 1 fs n 0 ∙ ap (λ (j : ℕ). getD fs j 0) (one-add n)))
+
+-- the list one longer, its last record as the code takes it out
+listed-more : (n : ℕ) (rs : List Record) (fs : List ℕ) (r : Record) → r ≡ getD rs n emptyRecord → listed (n + 1) rs fs ≡ listed n rs fs ++ item r (getD fs n 0) ∷ []
+listed-more n rs fs r is = ap (λ (m : ℕ). listed m rs fs) (add-one n) ∙ listed-snoc n rs fs ∙ ap (λ (x : Record). listed n rs fs ++ item x (getD fs n 0) ∷ []) (sym is)
+
+-- fewer records, fewer of each kind
+only-mono : (p : Kind → Bool) (i n : ℕ) (rs : List Record) (fs : List ℕ) → i ≤ n → length (only p (listed i rs fs)) ≤ length (only p (listed n rs fs))
+unfolding only listed
+only-mono p zero n rs fs h = omega arith
+only-mono p (suc i) zero rs fs h = absurd (omega arith)
+only-mono p (suc i) (suc n) rs fs h = go (p (getD rs 0 emptyRecord .kind)) (only-mono p i n (drop 1 rs) (drop 1 fs) (omega arith))
+  where
+    x : Item ℕ
+    x = item (getD rs 0 emptyRecord) (getD fs 0 0)
+
+    go : (b : Bool) → length (only p (listed i (drop 1 rs) (drop 1 fs))) ≤ length (only p (listed n (drop 1 rs) (drop 1 fs)))
+        → length (cond b (x ∷ only p (listed i (drop 1 rs) (drop 1 fs))) (only p (listed i (drop 1 rs) (drop 1 fs))))
+        ≤ length (cond b (x ∷ only p (listed n (drop 1 rs) (drop 1 fs))) (only p (listed n (drop 1 rs) (drop 1 fs))))
+    go true ih = omega arith
+    go false ih = ih
+
 -- behind a list ys, those of the first i records that pass
-abbrev pub took : (Kind → Bool) → List (Item ℕ) → ℕ → List Record → List (Item ℕ)
-took p ys i rs = ys ++ only p (counted 0 i rs)
+abbrev pub took : (Kind → Bool) → List (Item ℕ) → ℕ → List Record → List ℕ → List (Item ℕ)
+took p ys i rs fs = ys ++ only p (listed i rs fs)
 
-pub took-start : (p : Kind → Bool) (rs : List Record) → Holds (took p [] 0 rs) (replicate 16 emptyRecord) (replicate 16 16) 0
-unfolding recordsOf sourcesOf only counted
-took-start p rs = record { recs = refl; srcs = refl; size = refl }
+pub took-start : (p : Kind → Bool) (rs : List Record) (fs : List ℕ) → Holds (took p [] 0 rs fs) (replicate perTimeslot emptyRecord) (replicate perTimeslot noPlace) 0
+unfolding recordsOf sourcesOf only listed
+took-start p rs fs = record { recs = refl; srcs = refl; size = refl }
 
-pub took-none : (p : Kind → Bool) (ys : List (Item ℕ)) (rs out : List Record) (from : List ℕ) (k : ℕ) → Holds ys out from k → Holds (took p ys 0 rs) out from k
-unfolding only counted
-took-none p ys rs out from k h = holds-as ys (ys ++ []) out from k (sym (append-nil ys)) h
+pub took-none : (p : Kind → Bool) (ys : List (Item ℕ)) (rs : List Record) (fs : List ℕ) (out : List Record) (from : List ℕ) (k : ℕ) → Holds ys out from k → Holds (took p ys 0 rs fs) out from k
+unfolding only listed
+took-none p ys rs fs out from k h = holds-as ys (ys ++ []) out from k (sym (append-nil ys)) h
 
-module _ (p : Kind → Bool) (ys : List (Item ℕ)) (rs : List Record) (i : ℕ) (out : List Record) (from : List ℕ) (k : ℕ) (r : Record) (is : r ≡ getD rs i emptyRecord) where
-  more : p (r .kind) ≡ true → took p ys (i + 1) rs ≡ took p ys i rs ++ item r i ∷ []
+module _ (p : Kind → Bool) (ys : List (Item ℕ)) (rs : List Record) (fs : List ℕ) (i : ℕ) (out : List Record) (from : List ℕ) (k : ℕ) (r : Record)
+    (is : r ≡ getD rs i emptyRecord) where
+  abbrev x : Item ℕ
+  x = item r (getD fs i 0)
+
+  more : p (r .kind) ≡ true → took p ys (i + 1) rs fs ≡ took p ys i rs fs ++ x ∷ []
   more e =
-      ap (_++_ ys)
-      (ap (only p) (counted-more i rs ∙ ap (λ (x : Record). counted 0 i rs ++ item x i ∷ []) (sym is)) ∙ only-pass p (counted 0 i rs) (item r i) e)
-      ∙ sym (append-assoc ys (only p (counted 0 i rs)) (item r i ∷ []))
+      ap (_++_ ys) (ap (only p) (listed-more i rs fs r is) ∙ only-pass p (listed i rs fs) x e)
+      ∙ sym (append-assoc ys (only p (listed i rs fs)) (x ∷ []))
 
-  pub took-pass : k < 16 → p (r .kind) ≡ true → Holds (took p ys i rs) out from k → Holds (took p ys (i + 1) rs) (set out k r) (set from k i) (k + 1)
+  pub took-pass : k < perTimeslot → p (r .kind) ≡ true → Holds (took p ys i rs fs) out from k → Holds (took p ys (i + 1) rs fs) (set out k r) (set from k (getD fs i 0)) (k + 1)
   took-pass b e h =
-      holds-as (took p ys i rs ++ item r i ∷ []) (took p ys (i + 1) rs) (set out k r) (set from k i) (k + 1) (sym (more e)) (holds-snoc (took p ys i rs) out from k r i b h)
+      holds-as (took p ys i rs fs ++ x ∷ []) (took p ys (i + 1) rs fs) (set out k r) (set from k (getD fs i 0)) (k + 1) (sym (more e))
+      (holds-snoc (took p ys i rs fs) out from k r (getD fs i 0) b h)
 
-  pub took-fail : p (r .kind) ≡ false → Holds (took p ys i rs) out from k → Holds (took p ys (i + 1) rs) out from k
+  pub took-fail : p (r .kind) ≡ false → Holds (took p ys i rs fs) out from k → Holds (took p ys (i + 1) rs fs) out from k
   took-fail e h =
-      holds-as (took p ys i rs) (took p ys (i + 1) rs) out from k
-      (sym (ap (_++_ ys)
-      (ap (only p) (counted-more i rs ∙ ap (λ (x : Record). counted 0 i rs ++ item x i ∷ []) (sym is)) ∙ only-fail p (counted 0 i rs) (item r i) e))) h
+      holds-as (took p ys i rs fs) (took p ys (i + 1) rs fs) out from k
+      (sym (ap (_++_ ys) (ap (only p) (listed-more i rs fs r is) ∙ only-fail p (listed i rs fs) x e))) h
 
 -- no record is both
 apart : (k : Kind) → isUnderway k ≡ true → isRecord k ≡ true → ⊥
@@ -70,17 +106,24 @@ order-few {C} (x ∷ xs) = go (isUnderway (x .rec .kind)) refl (isRecord (x .rec
     go false e false f ih = omega arith
 
 -- with a record still to come there is room for one more
-pub order-room : (n : ℕ) (rs : List Record) (j : ℕ) (r : Record) → r ≡ getD rs j emptyRecord → j < n → isRecord (r .kind) ≡ true
-    → length (took isRecord (only isUnderway (counted 0 n rs)) j rs) < n
-order-room n rs j r is h e =
-    let one : length (only isRecord (counted 0 (j + 1) rs)) ≡ length (only isRecord (counted 0 j rs)) + 1 =
-    ap length (ap (only isRecord) (counted-more j rs ∙ ap (λ (x : Record). counted 0 j rs ++ item x j ∷ []) (sym is)) ∙ only-pass isRecord (counted 0 j rs) (item r j) e)
-    ∙ length-append (only isRecord (counted 0 j rs)) (item r j ∷ []) in
-    omega (arith, one, length-append (only isUnderway (counted 0 n rs)) (only isRecord (counted 0 j rs)), only-mono isRecord 0 (j + 1) n rs (omega arith), order-few (counted 0 n rs), length-counted 0 n rs)
+pub order-room : (n : ℕ) (rs : List Record) (fs : List ℕ) (j : ℕ) (r : Record) → r ≡ getD rs j emptyRecord → j < n → isRecord (r .kind) ≡ true
+    → length (took isRecord (only isUnderway (listed n rs fs)) j rs fs) < n
+order-room n rs fs j r is h e =
+    let one : length (only isRecord (listed (j + 1) rs fs)) ≡ length (only isRecord (listed j rs fs)) + 1 =
+    ap length (ap (only isRecord) (listed-more j rs fs r is) ∙ only-pass isRecord (listed j rs fs) (item r (getD fs j 0)) e)
+    ∙ length-append (only isRecord (listed j rs fs)) (item r (getD fs j 0) ∷ []) in
+    omega (
+      arith,
+      one,
+      length-append (only isUnderway (listed n rs fs)) (only isRecord (listed j rs fs)),
+      only-mono isRecord (j + 1) n rs fs (omega arith),
+      order-few (listed n rs fs),
+      length-listed n rs fs,
+    )
 
-pub order-is : (n : ℕ) (rs : List Record) → took isRecord (only isUnderway (counted 0 n rs)) n rs ≡ inOrder (counted 0 n rs)
+pub order-is : (n : ℕ) (rs : List Record) (fs : List ℕ) → took isRecord (only isUnderway (listed n rs fs)) n rs fs ≡ inOrder (listed n rs fs)
 unfolding inOrder
-order-is n rs = refl
+order-is n rs fs = refl
 
 -- ---- what the order keeps
 

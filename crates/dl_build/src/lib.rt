@@ -1,24 +1,24 @@
-// A timeslot's block: its queue merged, put in order and sent; what does not finish stays.
+// A timeslot's block: its records merged, put in order and sent; what does not finish stays, and its cells move with it.
 ghost use mathlib.Core.Path.{_≡_};
 ghost use mathlib.Core.Bool.{true};
-ghost use Prim.Native.Nat.{_<_, _≤_};
-ghost use lib.ListN.{length};
-ghost use Rattle.dl_queue.specs.Questions.{soundQueue};
+ghost use Prim.Native.Nat.{ℕ, _+_, _*_, _<_, _≤_};
+ghost use lib.ListN.{length, getD, drop, take};
+ghost use lib.Seq.{paste};
+ghost use Rattle.sizes.specs.Sizes.{perTimeslot, cellOctets, timeslotOctets};
+ghost use Rattle.dl_record.specs.Kind.{isUnderway};
 ghost use Rattle.dl_merge.specs.Merge.{only};
-ghost use Rattle.dl_merge.specs.Places.{counted, mergedOf};
-ghost use Rattle.dl_send.specs.Send.{isUnderway};
-ghost use Rattle.dl_build.specs.Build.{inOrder, BuiltIn};
+ghost use Rattle.dl_merge.specs.Places.{mergedOf};
+ghost use Rattle.dl_send.specs.Progress.{listed};
+ghost use Rattle.dl_build.specs.Moved.{cellsAt, arranged, moved};
+ghost use Rattle.dl_build.specs.Build.{inOrder, builtFrom, CanBuild, BuiltIn};
 use dl_merge::Merged;
 use dl_record::Kind;
 use dl_record::Record;
-
-// The queue after a build, and the tags of the records that are finished.
-pub struct Built {
-    pub counts: [u8; 4],
-    pub records: [Record; 64],
-    pub tags: [u16; 16],
-    pub tag_count: u8,
-}
+use dl_send::Progress;
+use sizes::CELL_OCTETS;
+use sizes::NO_PLACE;
+use sizes::PER_TIMESLOT;
+use sizes::TIMESLOT_OCTETS;
 
 fn is_underway(kind: Kind) -> bool
     ensures { λ b. ⌜ b ≡ isUnderway kind ⌝ }
@@ -33,12 +33,16 @@ fn is_underway(kind: Kind) -> bool
 }
 
 // The waiting and started ones of the first `n` records.
-fn dl_take_underway_sched_items(records: [Record; 16], n: usize) -> Merged
-    requires { ⌜ n ≤ 16 ⌝ }
-    ensures { λ r. ⌜ r ≡ mergedOf (only isUnderway (counted 0 n records)) ⌝ }
+fn dl_take_underway_sched_items(
+    records: [Record; PER_TIMESLOT],
+    places: [u8; PER_TIMESLOT],
+    n: usize,
+) -> Merged
+    requires { ⌜ n ≤ perTimeslot ⌝ }
+    ensures { λ r. ⌜ r ≡ mergedOf (only isUnderway (listed n records places)) ⌝ }
 {
-    let mut out = [Record::EMPTY; 16];
-    let mut from = [16u8; 16];
+    let mut out = [Record::EMPTY; PER_TIMESLOT];
+    let mut from = [NO_PLACE; PER_TIMESLOT];
     let mut k: usize = 0;
     for i in 0..n {
         let r = records[i];
@@ -47,7 +51,7 @@ fn dl_take_underway_sched_items(records: [Record; 16], n: usize) -> Merged
             continue;
         }
         out[k] = r;
-        from[k] = i as u8;
+        from[k] = places[i];
         k += 1;
     }
     Merged {
@@ -58,11 +62,15 @@ fn dl_take_underway_sched_items(records: [Record; 16], n: usize) -> Merged
 }
 
 // The first `n` records in the order in which they are taken.
-fn dl_take_prioritized_sched_items(records: [Record; 16], n: usize) -> Merged
-    requires { ⌜ n ≤ 16 ⌝ }
-    ensures { λ r. ⌜ r ≡ mergedOf (inOrder (counted 0 n records)) ⌝ }
+fn dl_take_prioritized_sched_items(
+    records: [Record; PER_TIMESLOT],
+    places: [u8; PER_TIMESLOT],
+    n: usize,
+) -> Merged
+    requires { ⌜ n ≤ perTimeslot ⌝ }
+    ensures { λ r. ⌜ r ≡ mergedOf (inOrder (listed n records places)) ⌝ }
 {
-    let underway = dl_take_underway_sched_items(records, n);
+    let underway = dl_take_underway_sched_items(records, places, n);
     let mut out = underway.records;
     let mut from = underway.from;
     let mut k = underway.count as usize;
@@ -73,7 +81,7 @@ fn dl_take_prioritized_sched_items(records: [Record; 16], n: usize) -> Merged
             continue;
         }
         out[k] = r;
-        from[k] = j as u8;
+        from[k] = places[j];
         k += 1;
     }
     Merged {
@@ -83,45 +91,121 @@ fn dl_take_prioritized_sched_items(records: [Record; 16], n: usize) -> Merged
     }
 }
 
-// Builds the block of timeslot `t`, counted from 0, from a sound queue.
-pub fn dl_build_block_from_signalling_schedule(
-    counts: [u8; 4],
-    records: [Record; 64],
-    store: &mut [u8],
-    block: &mut [u8],
-    t: usize,
-) -> Built
-    requires { ⌜ (t < 4) × (length (now store) ≡ 16384) × (length (now block) ≡ 34) × (soundQueue counts records (now store) ≡ true) ⌝ }
-    ensures { λ b. ⌜ BuiltIn counts records (now (store .entry)) t b (now (store .exit)) (now (block .exit)) ⌝ }
+// ---- the cells move with their records
+
+// A cell gets the octets of another, both named by their first octet.
+fn move_cell(store: &mut [u8], to: usize, from: usize)
+    requires { ⌜ (to + cellOctets ≤ length (now store)) × (from + cellOctets ≤ length (now store)) ⌝ }
+    ensures { λ _. ⌜ now (store .exit) ≡ paste (now (store .entry)) to (drop from (now (store .entry))) cellOctets ⌝ }
 {
-    let first = 16 * t;
-    let merged = dl_merge::dl_integrate_sched_elems_for_timeslot(counts, records, store, t);
-    let mut new_counts = merged.counts;
+    let mut cell = [0u8; CELL_OCTETS];
+    sdu_store::copy_octets(&mut cell, 0, store, from, CELL_OCTETS);
+    sdu_store::copy_octets(store, to, &cell, 0, CELL_OCTETS);
+}
+
+// Does each of the first `n` places get the cell of itself, of a later place, or of none? Then none is needed once it is written over.
+fn none_overtaken(from: [u8; PER_TIMESLOT], n: usize) -> bool
+    requires { ⌜ n ≤ perTimeslot ⌝ }
+    ensures { λ b. ⌜ (b ≡ true → (p : ℕ) → p < n → p ≤ getD from p 0) ⌝ }
+{
+    for p in 0..n {
+        if (from[p] as usize) < p {
+            return false;
+        }
+    }
+    true
+}
+
+// The first `n` cells from place `first` on, where no record is overtaken: a record that keeps its place keeps its cell.
+fn close_up(store: &mut [u8], first: usize, from: [u8; PER_TIMESLOT], n: usize)
+    requires { ⌜ (n ≤ perTimeslot) × (cellOctets * first + timeslotOctets ≤ length (now store)) × ((p : ℕ) → p < n → p ≤ getD from p 0) ⌝ }
+    ensures { λ _. ⌜ now (store .exit) ≡ paste (now (store .entry)) (cellOctets * first) (arranged (cellsAt (now (store .entry)) first) from) (cellOctets * n) ⌝ }
+{
+    for p in 0..n {
+        let f = from[p] as usize;
+        let at = CELL_OCTETS * first + CELL_OCTETS * p;
+        if f == p {
+            continue;
+        }
+        if f < PER_TIMESLOT {
+            move_cell(store, at, CELL_OCTETS * first + CELL_OCTETS * f);
+            continue;
+        }
+        sdu_store::zero_octets(store, at, CELL_OCTETS);
+    }
+}
+
+// The cells from place `first` on.
+fn read_cells(store: &[u8], first: usize) -> [u8; TIMESLOT_OCTETS]
+    requires { ⌜ cellOctets * first + timeslotOctets ≤ length (now store) ⌝ }
+    ensures { λ r. ⌜ r ≡ cellsAt (now (store .entry)) first ⌝ }
+{
+    let mut copy = [0u8; TIMESLOT_OCTETS];
+    sdu_store::copy_octets(&mut copy, 0, store, CELL_OCTETS * first, TIMESLOT_OCTETS);
+    copy
+}
+
+// Writes the cells from place `first` on: each that of its place in `cells`, or zero for none.
+fn write_cells(store: &mut [u8], first: usize, cells: &[u8], from: [u8; PER_TIMESLOT])
+    requires { ⌜ (cellOctets * first + timeslotOctets ≤ length (now store)) × (length (now cells) ≡ timeslotOctets) ⌝ }
+    ensures { λ _. ⌜ now (store .exit) ≡ paste (now (store .entry)) (cellOctets * first) (arranged (now (cells .entry)) from) timeslotOctets ⌝ }
+{
+    for p in 0..PER_TIMESLOT {
+        let f = from[p] as usize;
+        let at = CELL_OCTETS * first + CELL_OCTETS * p;
+        if f < PER_TIMESLOT {
+            sdu_store::copy_octets(store, at, cells, CELL_OCTETS * f, CELL_OCTETS);
+            continue;
+        }
+        sdu_store::zero_octets(store, at, CELL_OCTETS);
+    }
+}
+
+// The cells from place `first` on, in a new order that leaves those behind the first `n` as they are. In the queue that a build leaves no
+// record stands before one that is taken earlier, so as a rule none is overtaken.
+fn rearrange(store: &mut [u8], first: usize, from: [u8; PER_TIMESLOT], n: usize)
+    requires { ⌜ (n ≤ perTimeslot) × (cellOctets * first + timeslotOctets ≤ length (now store)) ⌝ }
+    requires { ⌜ drop (cellOctets * n) (arranged (cellsAt (now store) first) from) ≡ drop (cellOctets * n) (cellsAt (now store) first) ⌝ }
+    ensures { λ _. ⌜ now (store .exit) ≡ moved (now (store .entry)) first from ⌝ }
+{
+    if none_overtaken(from, n) {
+        close_up(store, first, from, n);
+        return;
+    }
+    let copy = read_cells(store, first);
+    write_cells(store, first, &copy, from);
+}
+
+// ---- the build
+
+// Builds a block of `w` bits of a timeslot: its first `n` records, with the cells from place `first` on.
+pub fn dl_build_block_from_signalling_schedule(
+    records: [Record; PER_TIMESLOT],
+    n: usize,
+    store: &mut [u8],
+    first: usize,
+    block: &mut [u8],
+    w: usize,
+) -> Progress
+    requires { ⌜ CanBuild (length (now block)) w (now store) first n records ⌝ }
+    ensures { λ p. ⌜ BuiltIn (builtFrom w n records (drop (cellOctets * first) (now (store .entry)))) (length (now (block .entry))) (now (store .entry)) first p (now (store .exit)) (now (block .exit)) ⌝ }
+{
+    let merged = dl_merge::dl_integrate_sched_elems_for_timeslot(records, n);
     let all = merged.records;
-    let n = new_counts[t] as usize;
-    let own = dl_merge::read_records(all, first);
-    let ordered = dl_take_prioritized_sched_items(own, n);
+    let sources = merged.from;
+    let ordered = dl_take_prioritized_sched_items(all, sources, merged.count as usize);
     let taken = ordered.records;
     let places = ordered.from;
-    let p = dl_send::build_records(
+    let plan = dl_send::build_records(
         block,
-        268,
+        w,
         store,
         first,
         taken,
         places,
         ordered.count as usize,
     );
-    let left = p.records;
-    let from = p.from;
-    let tags = p.tags;
-    dl_merge::rearrange(store, first, from);
-    let out = dl_merge::write_records(all, first, left);
-    new_counts[t] = p.left as u8;
-    Built {
-        counts: new_counts,
-        records: out,
-        tags,
-        tag_count: p.tag_count as u8,
-    }
+    let from = plan.from;
+    rearrange(store, first, from, n);
+    plan
 }

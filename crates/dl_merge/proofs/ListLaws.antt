@@ -8,6 +8,7 @@ use native.Mathlib.Numerals.{add-one, one-add}
 use native.Mathlib.Omega.{arith}
 use lib.ListN.{length, getD, drop, set}
 use lib.Seq.{getD-drop}
+use Rattle.sizes.specs.Sizes.{perTimeslot}
 use Rattle.dl_record.specs.declared.Record.{Record}
 use Rattle.dl_record.specs.Record.{emptyRecord}
 use Rattle.dl_queue.specs.Queue.{Item, item, recordsOf}
@@ -51,7 +52,7 @@ sources-snoc (suc k) [] x h = refl
 sources-snoc (suc k) (y ∷ xs) x h = ap (λ (l : List ℕ). y .load ∷ l) (sources-snoc k xs x (omega arith))
 
 -- an item that comes from no place changes no source
-pub sources-none : (k : ℕ) (xs : List (Item ℕ)) (r : Record) → sourcesOf k (xs ++ item r 16 ∷ []) ≡ sourcesOf k xs
+pub sources-none : (k : ℕ) (xs : List (Item ℕ)) (r : Record) → sourcesOf k (xs ++ item r perTimeslot ∷ []) ≡ sourcesOf k xs
 unfolding sourcesOf
 sources-none zero xs r = refl
 sources-none (suc k) [] r = refl

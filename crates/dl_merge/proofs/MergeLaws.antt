@@ -10,7 +10,8 @@ use Rattle.dl_record.specs.declared.Kind.{Kind}
 use Rattle.dl_record.specs.Record.{emptyRecord}
 use Rattle.bitbuffer.specs.Bits.{bitsOf}
 use Rattle.dl_queue.specs.Queue.{Item, item, zeroCell, recordsOf}
-use Rattle.dl_merge.specs.Merge.{isGrantOrAck, isKept, takes, joined, minimal, only, put, puts, merge, keep, always, mergeCells, Named, freshName, joinName, mergeNamed}
+use Rattle.dl_record.specs.Kind.{isGrantOrAck, isKept}
+use Rattle.dl_merge.specs.Merge.{takes, joined, minimal, only, put, puts, merge, keep, always, mergeCells, Named, freshName, joinName, mergeNamed}
 
 -- ---- the items of some kinds
 
@@ -186,11 +187,11 @@ pub kept-loads : {C D : Type 0} (f : Record → C → D) (z : C) (z' : D) → ((
 kept-loads f z z' new old = record { new = λ g. new (g .rec); old = λ g x. old (g .rec) (x .rec) (x .load) }
 
 -- a cell and the bits of its SDU
-abbrev pub sduBits : Record → List ℕ → List ℕ
-sduBits r cell = take (r .bits) (bitsOf cell)
+abbrev pub sduInCell : Record → List ℕ → List ℕ
+sduInCell r cell = take (r .bits) (bitsOf cell)
 
-pub merge-sdus : (xs : List (Item (List ℕ))) → map (reload sduBits) (mergeCells xs) ≡ merge (always []) keep (map (reload sduBits) xs)
-merge-sdus xs = merge-map sduBits (always zeroCell) keep (always []) keep (kept-loads sduBits zeroCell [] (λ g. refl) (λ g r c. refl)) xs
+pub merge-sdus : (xs : List (Item (List ℕ))) → map (reload sduInCell) (mergeCells xs) ≡ merge (always []) keep (map (reload sduInCell) xs)
+merge-sdus xs = merge-map sduInCell (always zeroCell) keep (always []) keep (kept-loads sduInCell zeroCell [] (λ g. refl) (λ g r c. refl)) xs
 
 -- an SDU with the name of a grant, and the SDU alone
 abbrev pub unnamed : {S N : Type 0} → Record → Named S N → S

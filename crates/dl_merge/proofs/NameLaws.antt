@@ -11,7 +11,8 @@ use Rattle.optional.proofs.Tests.{and-right}
 use Rattle.dl_record.specs.declared.Record.{Record}
 use Rattle.dl_record.specs.declared.Kind.{Kind}
 use Rattle.dl_queue.specs.Queue.{Item, item}
-use Rattle.dl_merge.specs.Merge.{isGrantOrAck, isRecord, joinedHeader, joined, takes, Named, nameAfter, freshName, joinName, mergeNamed}
+use Rattle.dl_record.specs.Kind.{isGrantOrAck, isRecord}
+use Rattle.dl_merge.specs.Merge.{joinedHeader, joined, takes, Named, nameAfter, freshName, joinName, mergeNamed}
 use Rattle.dl_merge.proofs.MergeLaws.{All, merge-all}
 
 same-number : (n : ℕ) (r : Record) → takes n r ≡ true → r .number ≡ n

@@ -2,10 +2,12 @@
 use mathlib.Core.Path.{_≡_, refl, ap, _∙_}
 use mathlib.Core.Bool.{true, not, _&&_}
 use mathlib.Core.List.{List, [], _∷_}
-use Prim.Native.Nat.{ℕ, zero, suc}
+use Prim.Native.Nat.{ℕ, zero, suc, _*_, _≤_}
 use lib.Dec.{eqb, leb}
 use native.Mathlib.Omega.{arith}
-use lib.ListN.{length, drop}
+use lib.ListN.{length, drop, length-drop}
+use lib.Seq.{length-take-le}
+use Rattle.sizes.specs.Sizes.{perTimeslot, cellOctets, sduBits}
 use Rattle.optional.specs.declared.OptU8.{OptU8}
 use Rattle.optional.proofs.Tests.{and-left, and-right, and-intro}
 use Rattle.mac_pdus.specs.Legal.{absentU8, fits, optFits, legalQueued}
@@ -21,7 +23,8 @@ use Rattle.dl_queue.specs.Queue.{Item, item, zeroCell, queueOf, cellsOf, Cells}
 use Rattle.dl_queue.specs.Questions.{soundPlace, soundItems}
 use Rattle.dl_queue.proofs.SetLaws.{zero-size}
 use Rattle.dl_queue.proofs.SoundLaws.{zero-clean}
-use Rattle.dl_merge.specs.Merge.{isGrantOrAck, isRecord, orElse, joinedHeader, joined, ackFlag, minimal, takes, keep, always, mergeCells}
+use Rattle.dl_record.specs.Kind.{isGrantOrAck, isRecord}
+use Rattle.dl_merge.specs.Merge.{orElse, joinedHeader, joined, ackFlag, minimal, takes, keep, always, mergeCells}
 use Rattle.dl_merge.proofs.MergeLaws.{All, merge-all}
 
 -- ---- records
@@ -69,9 +72,9 @@ record-header : (k : Kind) (r q : Record) → isRecord k ≡ true → q .bits �
 record-header Kind.Grant r q p b s f e = false-not-true p
 record-header Kind.Ack r q p b s f e = false-not-true p
 record-header Kind.Record r q p b s f e =
-    let h = and3 (legalQueued (resourceOf r 0 0)) (leb (r .bits) 2048) (eqb (r .sent) 0) e in
-    and-intro (legalQueued (resourceOf q 0 0) && leb (q .bits) 2048) (eqb (q .sent) 0)
-    (and-intro (legalQueued (resourceOf q 0 0)) (leb (q .bits) 2048) (fields-legal q 0 0 refl refl (f (legal-fields r 0 0 (h .0)))) (ap (λ (n : ℕ). leb n 2048) b ∙ h .1))
+    let h = and3 (legalQueued (resourceOf r 0 0)) (leb (r .bits) sduBits) (eqb (r .sent) 0) e in
+    and-intro (legalQueued (resourceOf q 0 0) && leb (q .bits) sduBits) (eqb (q .sent) 0)
+    (and-intro (legalQueued (resourceOf q 0 0)) (leb (q .bits) sduBits) (fields-legal q 0 0 refl refl (f (legal-fields r 0 0 (h .0)))) (ap (λ (n : ℕ). leb n sduBits) b ∙ h .1))
     (ap (λ (n : ℕ). eqb n 0) s ∙ h .2)
 record-header Kind.Waiting r q p b s f e = false-not-true p
 record-header Kind.Started r q p b s f e = false-not-true p
@@ -137,7 +140,7 @@ merge-sound xs e = each-items (mergeCells xs) (merge-all (always zeroCell) keep 
 -- ---- cells stay cells
 
 abbrev pub OneCell : Item (List ℕ) → Type 0
-OneCell x = length (x .load) ≡ 256
+OneCell x = length (x .load) ≡ cellOctets
 
 pub cells-each : (xs : List (Item (List ℕ))) → Cells xs → All OneCell xs
 unfolding Cells
@@ -148,6 +151,11 @@ pub each-cells : (xs : List (Item (List ℕ))) → All OneCell xs → Cells xs
 unfolding Cells
 each-cells [] h = tt
 each-cells (x ∷ xs) h = (h .0, each-cells xs (h .1))
+
+pub queue-cells : (n : ℕ) (rs : List Record) (s : List ℕ) → cellOctets * n ≤ length s → Cells (queueOf n rs s)
+unfolding queueOf Cells
+queue-cells zero rs s h = tt
+queue-cells (suc n) rs s h = (length-take-le cellOctets s (omega arith), queue-cells n (drop 1 rs) (drop cellOctets s) (rw length-drop (omega arith)))
 
 pub merge-cells : (xs : List (Item (List ℕ))) → Cells xs → Cells (mergeCells xs)
 merge-cells xs h = each-cells (mergeCells xs) (merge-all (always zeroCell) keep OneCell (λ g x k t p q. q) (λ g k p. zero-size) xs (cells-each xs h))
@@ -160,17 +168,14 @@ OctetItem x = Octets (x .load)
 pub queue-octets : (n : ℕ) (rs : List Record) (s : List ℕ) → Octets s → All OctetItem (queueOf n rs s)
 unfolding queueOf
 queue-octets zero rs s h = tt
-queue-octets (suc n) rs s h = (octets-take 256 s h, queue-octets n (drop 1 rs) (drop 256 s) (octets-drop 256 s h))
+queue-octets (suc n) rs s h = (octets-take cellOctets s h, queue-octets n (drop 1 rs) (drop cellOctets s) (octets-drop cellOctets s h))
 
 pub zero-octets : Octets zeroCell
 unfolding zeroCell
-zero-octets = octets-zero 256
+zero-octets = octets-zero cellOctets
 
 pub octets-cells : (k : ℕ) (xs : List (Item (List ℕ))) → All OctetItem xs → Octets (cellsOf k xs)
 unfolding cellsOf
 octets-cells zero xs h = λ i. omega arith
 octets-cells (suc k) [] h = octets-append zeroCell (cellsOf k []) zero-octets (octets-cells k [] h)
 octets-cells (suc k) (x ∷ xs) h = octets-append (x .load) (cellsOf k xs) (h .0) (octets-cells k xs (h .1))
-
-pub merge-octets : (n : ℕ) (rs : List Record) (s : List ℕ) → Octets s → Octets (cellsOf 16 (mergeCells (queueOf n rs s)))
-merge-octets n rs s h = octets-cells 16 (mergeCells (queueOf n rs s)) (merge-all (always zeroCell) keep OctetItem (λ g x k t p q. q) (λ g k p. zero-octets) (queueOf n rs s) (queue-octets n rs s h))

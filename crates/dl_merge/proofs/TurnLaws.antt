@@ -5,10 +5,12 @@ use mathlib.Core.List.{List, [], _∷_, _++_}
 use Prim.Native.Nat.{ℕ, suc, _+_, _<_, _≤_}
 use native.Mathlib.Omega.{arith}
 use lib.ListN.{length, getD, set, replicate, length-append, length-set}
+use Rattle.sizes.specs.Sizes.{perTimeslot, noPlace}
 use Rattle.dl_record.specs.declared.Record.{Record}
 use Rattle.dl_record.specs.Record.{emptyRecord}
 use Rattle.dl_queue.specs.Queue.{Item, item, recordsOf}
-use Rattle.dl_merge.specs.Merge.{isGrantOrAck, isKept, only, put, puts, merge, takes, joined, minimal, keep, always}
+use Rattle.dl_record.specs.Kind.{isGrantOrAck, isKept}
+use Rattle.dl_merge.specs.Merge.{only, put, puts, merge, takes, joined, minimal, keep, always}
 use Rattle.dl_merge.specs.Places.{counted, sourcesOf, mergedOf, mergePlaces}
 use Rattle.dl_merge.specs.declared.Merged.{Merged}
 use Rattle.dl_merge.proofs.ListLaws.{records-set, records-snoc, records-at, sources-snoc, sources-none, sources-keep, length-counted, counted-more, only-mono}
@@ -16,20 +18,20 @@ use Rattle.dl_merge.proofs.MergeLaws.{only-pass, only-fail, only-both, 
 
 -- arrays of 16 and a count that hold a list
 pub record Holds (xs : List (Item ℕ)) (out : List Record) (from : List ℕ) (k : ℕ) : Type 0 where
-  pub recs : out ≡ recordsOf 16 xs
-  pub srcs : from ≡ sourcesOf 16 xs
+  pub recs : out ≡ recordsOf perTimeslot xs
+  pub srcs : from ≡ sourcesOf perTimeslot xs
   pub size : k ≡ length xs
 
 -- another name for the list
 pub holds-as : (xs ys : List (Item ℕ)) (out : List Record) (from : List ℕ) (k : ℕ) → xs ≡ ys → Holds xs out from k → Holds ys out from k
-holds-as xs ys out from k e h = record { recs = h .recs ∙ ap (recordsOf 16) e; srcs = h .srcs ∙ ap (sourcesOf 16) e; size = h .size ∙ ap length e }
+holds-as xs ys out from k e h = record { recs = h .recs ∙ ap (recordsOf perTimeslot) e; srcs = h .srcs ∙ ap (sourcesOf perTimeslot) e; size = h .size ∙ ap length e }
 
-pub holds-snoc : (xs : List (Item ℕ)) (out : List Record) (from : List ℕ) (k : ℕ) (r : Record) (i : ℕ) → k < 16 → Holds xs out from k → Holds (xs ++ item r i ∷ []) (set out k r) (set from k i) (k + 1)
+pub holds-snoc : (xs : List (Item ℕ)) (out : List Record) (from : List ℕ) (k : ℕ) (r : Record) (i : ℕ) → k < perTimeslot → Holds xs out from k → Holds (xs ++ item r i ∷ []) (set out k r) (set from k i) (k + 1)
 holds-snoc xs out from k r i b h =
-    let e : length xs < 16 = omega arith in
+    let e : length xs < perTimeslot = omega arith in
     record {
-      recs = ap₂ (λ (l : List Record) (j : ℕ). set l j r) (h .recs) (h .size) ∙ sym (records-snoc 16 xs (item r i) e);
-      srcs = ap₂ (λ (l : List ℕ) (j : ℕ). set l j i) (h .srcs) (h .size) ∙ sym (sources-snoc 16 xs (item r i) e);
+      recs = ap₂ (λ (l : List Record) (j : ℕ). set l j r) (h .recs) (h .size) ∙ sym (records-snoc perTimeslot xs (item r i) e);
+      srcs = ap₂ (λ (l : List ℕ) (j : ℕ). set l j i) (h .srcs) (h .size) ∙ sym (sources-snoc perTimeslot xs (item r i) e);
       size = ap (λ (j : ℕ). j + 1) (h .size) ∙ sym (length-append xs (item r i ∷ []));
     }
 
@@ -42,7 +44,7 @@ holds-out xs out out' from k e h = record { recs = e ∙ h .recs; srcs = h .srcs
 abbrev pub kept : ℕ → List Record → List (Item ℕ)
 kept i rs = only isKept (counted 0 i rs)
 
-pub kept-start : (rs : List Record) → Holds (kept 0 rs) (replicate 16 emptyRecord) (replicate 16 16) 0
+pub kept-start : (rs : List Record) → Holds (kept 0 rs) (replicate perTimeslot emptyRecord) (replicate perTimeslot noPlace) 0
 unfolding recordsOf sourcesOf only counted
 kept-start rs = record { recs = refl; srcs = refl; size = refl }
 
@@ -50,7 +52,7 @@ pub kept-few : (i : ℕ) (rs : List Record) → length (kept i rs) ≤ i
 kept-few i rs = omega (arith, only-both (counted 0 i rs), length-counted 0 i rs)
 
 module _ (rs : List Record) (i : ℕ) (out : List Record) (from : List ℕ) (k : ℕ) where
-  pub kept-pass : k < 16 → isGrantOrAck (getD rs i emptyRecord .kind) ≡ false → Holds (kept i rs) out from k → Holds (kept (i + 1) rs) (set out k (getD rs i emptyRecord)) (set from k i) (k + 1)
+  pub kept-pass : k < perTimeslot → isGrantOrAck (getD rs i emptyRecord .kind) ≡ false → Holds (kept i rs) out from k → Holds (kept (i + 1) rs) (set out k (getD rs i emptyRecord)) (set from k i) (k + 1)
   kept-pass b e h =
       let x : Item ℕ = item (getD rs i emptyRecord) i in
       holds-as (kept i rs ++ x ∷ []) (kept (i + 1) rs) (set out k (getD rs i emptyRecord)) (set from k i) (k + 1)
@@ -65,22 +67,22 @@ module _ (rs : List Record) (i : ℕ) (out : List Record) (from : List ℕ) (k :
 -- ---- the grants and acks
 
 abbrev pub joins : ℕ → ℕ → List Record → List (Item ℕ)
-joins n j rs = puts (always 16) keep (only isGrantOrAck (counted 0 j rs)) (kept n rs)
+joins n j rs = puts (always noPlace) keep (only isGrantOrAck (counted 0 j rs)) (kept n rs)
 
 pub joins-start : (n : ℕ) (rs : List Record) (out : List Record) (from : List ℕ) (k : ℕ) → Holds (kept n rs) out from k → Holds (joins n 0 rs) out from k
 unfolding puts only counted
 joins-start n rs out from k h = h
 
 module _ (n : ℕ) (rs : List Record) (j : ℕ) (out : List Record) (from : List ℕ) (k : ℕ) where
-  joins-more : isGrantOrAck (getD rs j emptyRecord .kind) ≡ true → joins n (j + 1) rs ≡ put (always 16) keep (item (getD rs j emptyRecord) j) (joins n j rs)
+  joins-more : isGrantOrAck (getD rs j emptyRecord .kind) ≡ true → joins n (j + 1) rs ≡ put (always noPlace) keep (item (getD rs j emptyRecord) j) (joins n j rs)
   joins-more e =
       let x : Item ℕ = item (getD rs j emptyRecord) j in
-      ap (λ (l : List (Item ℕ)). puts (always 16) keep l (kept n rs)) (ap (only isGrantOrAck) (counted-more j rs) ∙ only-pass isGrantOrAck (counted 0 j rs) x e)
-      ∙ puts-snoc (always 16) keep (only isGrantOrAck (counted 0 j rs)) x (kept n rs)
+      ap (λ (l : List (Item ℕ)). puts (always noPlace) keep l (kept n rs)) (ap (only isGrantOrAck) (counted-more j rs) ∙ only-pass isGrantOrAck (counted 0 j rs) x e)
+      ∙ puts-snoc (always noPlace) keep (only isGrantOrAck (counted 0 j rs)) x (kept n rs)
 
   pub joins-few : j ≤ n → length (joins n j rs) ≤ n
   joins-few h =
-      omega (arith, length-puts (always 16) keep (only isGrantOrAck (counted 0 j rs)) (kept n rs), only-mono isGrantOrAck 0 j n rs h, only-both (counted 0 n rs), length-counted 0 n rs)
+      omega (arith, length-puts (always noPlace) keep (only isGrantOrAck (counted 0 j rs)) (kept n rs), only-mono isGrantOrAck 0 j n rs h, only-both (counted 0 n rs), length-counted 0 n rs)
 
   -- with a grant or ack still to come there is room for one more
   pub joins-room : j < n → isGrantOrAck (getD rs j emptyRecord .kind) ≡ true → suc (length (joins n j rs)) ≤ n
@@ -88,47 +90,47 @@ module _ (n : ℕ) (rs : List Record) (j : ℕ) (out : List Record) (from : List
       let x : Item ℕ = item (getD rs j emptyRecord) j in
       let one : length (only isGrantOrAck (counted 0 (j + 1) rs)) ≡ length (only isGrantOrAck (counted 0 j rs)) + 1 =
       ap length (ap (only isGrantOrAck) (counted-more j rs) ∙ only-pass isGrantOrAck (counted 0 j rs) x e) ∙ length-append (only isGrantOrAck (counted 0 j rs)) (x ∷ []) in
-      omega (arith, one, length-puts (always 16) keep (only isGrantOrAck (counted 0 j rs)) (kept n rs), only-mono isGrantOrAck 0 (j + 1) n rs (omega arith), only-both (counted 0 n rs), length-counted 0 n rs)
+      omega (arith, one, length-puts (always noPlace) keep (only isGrantOrAck (counted 0 j rs)) (kept n rs), only-mono isGrantOrAck 0 (j + 1) n rs (omega arith), only-both (counted 0 n rs), length-counted 0 n rs)
 
   pub joins-skip : isGrantOrAck (getD rs j emptyRecord .kind) ≡ false → Holds (joins n j rs) out from k → Holds (joins n (j + 1) rs) out from k
   joins-skip e h =
       holds-as (joins n j rs) (joins n (j + 1) rs) out from k
-      (sym (ap (λ (l : List (Item ℕ)). puts (always 16) keep l (kept n rs)) (ap (only isGrantOrAck) (counted-more j rs) ∙ only-fail isGrantOrAck (counted 0 j rs) (item (getD rs j emptyRecord) j) e))) h
+      (sym (ap (λ (l : List (Item ℕ)). puts (always noPlace) keep l (kept n rs)) (ap (only isGrantOrAck) (counted-more j rs) ∙ only-fail isGrantOrAck (counted 0 j rs) (item (getD rs j emptyRecord) j) e))) h
 
   -- the search looks at the records of the list
-  seen : (f : ℕ) (b : Bool) → f < k → k ≤ 16 → Holds (joins n j rs) out from k → takes (getD rs j emptyRecord .number) (getD out f emptyRecord) ≡ b
-      → takes (getD rs j emptyRecord .number) (getD (joins n j rs) f (item emptyRecord 16) .rec) ≡ b
+  seen : (f : ℕ) (b : Bool) → f < k → k ≤ perTimeslot → Holds (joins n j rs) out from k → takes (getD rs j emptyRecord .number) (getD out f emptyRecord) ≡ b
+      → takes (getD rs j emptyRecord .number) (getD (joins n j rs) f (item emptyRecord perTimeslot) .rec) ≡ b
   seen f b h few holds e =
-      ap (takes (getD rs j emptyRecord .number)) (sym (records-at 16 (joins n j rs) f (item emptyRecord 16) (omega arith) (omega arith)) ∙ ap (λ (l : List Record). getD l f emptyRecord) (sym (holds .recs))) ∙ e
+      ap (takes (getD rs j emptyRecord .number)) (sym (records-at perTimeslot (joins n j rs) f (item emptyRecord perTimeslot) (omega arith) (omega arith)) ∙ ap (λ (l : List Record). getD l f emptyRecord) (sym (holds .recs))) ∙ e
 
-  pub joins-found : (f : ℕ) → k ≤ 16 → isGrantOrAck (getD rs j emptyRecord .kind) ≡ true → f < k → ((q : ℕ) → q < f → takes (getD rs j emptyRecord .number) (getD out q emptyRecord) ≡ false)
+  pub joins-found : (f : ℕ) → k ≤ perTimeslot → isGrantOrAck (getD rs j emptyRecord .kind) ≡ true → f < k → ((q : ℕ) → q < f → takes (getD rs j emptyRecord .number) (getD out q emptyRecord) ≡ false)
       → takes (getD rs j emptyRecord .number) (getD out f emptyRecord) ≡ true → Holds (joins n j rs) out from k
       → Holds (joins n (j + 1) rs) (set out f (joined (getD rs j emptyRecord) (getD out f emptyRecord))) from k
   joins-found f few e h before here holds =
       let xs : List (Item ℕ) = joins n j rs in
-      let d : Item ℕ = item emptyRecord 16 in
+      let d : Item ℕ = item emptyRecord perTimeslot in
       let g : Record = getD rs j emptyRecord in
       let y : Record = getD xs f d .rec in
       let b : f < length xs = omega arith in
-      let same : getD out f emptyRecord ≡ y = ap (λ (l : List Record). getD l f emptyRecord) (holds .recs) ∙ records-at 16 xs f d b (omega arith) in
+      let same : getD out f emptyRecord ≡ y = ap (λ (l : List Record). getD l f emptyRecord) (holds .recs) ∙ records-at perTimeslot xs f d b (omega arith) in
       let new : joins n (j + 1) rs ≡ set xs f (item (joined g y) (getD xs f d .load)) =
-      joins-more e ∙ put-at (always 16) keep (item g j) xs f d b (λ q l. seen q false (omega arith) few holds (before q l)) (seen f true h few holds here) in
+      joins-more e ∙ put-at (always noPlace) keep (item g j) xs f d b (λ q l. seen q false (omega arith) few holds (before q l)) (seen f true h few holds here) in
       record {
-        recs = ap₂ (λ (l : List Record) (r : Record). set l f (joined g r)) (holds .recs) same ∙ sym (ap (recordsOf 16) new ∙ records-set 16 xs f (item (joined g y) (getD xs f d .load)) b);
-        srcs = holds .srcs ∙ sym (ap (sourcesOf 16) new ∙ sources-keep 16 xs f (joined g y) d b);
+        recs = ap₂ (λ (l : List Record) (r : Record). set l f (joined g r)) (holds .recs) same ∙ sym (ap (recordsOf perTimeslot) new ∙ records-set perTimeslot xs f (item (joined g y) (getD xs f d .load)) b);
+        srcs = holds .srcs ∙ sym (ap (sourcesOf perTimeslot) new ∙ sources-keep perTimeslot xs f (joined g y) d b);
         size = holds .size ∙ sym (ap length new ∙ length-set xs f (item (joined g y) (getD xs f d .load)));
       }
 
-  pub joins-none : k < 16 → isGrantOrAck (getD rs j emptyRecord .kind) ≡ true → ((q : ℕ) → q < k → takes (getD rs j emptyRecord .number) (getD out q emptyRecord) ≡ false)
+  pub joins-none : k < perTimeslot → isGrantOrAck (getD rs j emptyRecord .kind) ≡ true → ((q : ℕ) → q < k → takes (getD rs j emptyRecord .number) (getD out q emptyRecord) ≡ false)
       → Holds (joins n j rs) out from k → Holds (joins n (j + 1) rs) (set out k (minimal (getD rs j emptyRecord))) from (k + 1)
   joins-none few e before holds =
       let xs : List (Item ℕ) = joins n j rs in
       let g : Record = getD rs j emptyRecord in
-      let new : joins n (j + 1) rs ≡ xs ++ item (minimal g) 16 ∷ [] =
-      joins-more e ∙ put-end (always 16) keep (item g j) xs (item emptyRecord 16) (λ q l. seen q false (omega arith) (omega arith) holds (before q (omega arith))) in
-      let s = holds-snoc xs out from k (minimal g) 16 few holds in
-      holds-as (xs ++ item (minimal g) 16 ∷ []) (joins n (j + 1) rs) (set out k (minimal g)) from (k + 1) (sym new)
-      (record { recs = s .recs; srcs = holds .srcs ∙ sym (sources-none 16 xs (minimal g)); size = s .size })
+      let new : joins n (j + 1) rs ≡ xs ++ item (minimal g) perTimeslot ∷ [] =
+      joins-more e ∙ put-end (always noPlace) keep (item g j) xs (item emptyRecord perTimeslot) (λ q l. seen q false (omega arith) (omega arith) holds (before q (omega arith))) in
+      let s = holds-snoc xs out from k (minimal g) perTimeslot few holds in
+      holds-as (xs ++ item (minimal g) perTimeslot ∷ []) (joins n (j + 1) rs) (set out k (minimal g)) from (k + 1) (sym new)
+      (record { recs = s .recs; srcs = holds .srcs ∙ sym (sources-none perTimeslot xs (minimal g)); size = s .size })
 
 -- the arrays of a list hold it, and it is the one that they hold
 pub holds-list : (xs : List (Item ℕ)) (m : Merged) → m ≡ mergedOf xs → Holds xs (m .records) (m .from) (m .count)
@@ -149,7 +151,7 @@ kind-as : (g r : Record) (b : Bool) → g ≡ r → isGrantOrAck (g .kind) ≡ b
 kind-as g r b is e = ap (λ (x : Record). isGrantOrAck (x .kind)) (sym is) ∙ e
 
 module _ (rs : List Record) (i : ℕ) (out : List Record) (from : List ℕ) (k : ℕ) (r : Record) (is : r ≡ getD rs i emptyRecord) where
-  pub kept-turn : k < 16 → isGrantOrAck (r .kind) ≡ false → Holds (kept i rs) out from k → Holds (kept (i + 1) rs) (set out k r) (set from k i) (k + 1)
+  pub kept-turn : k < perTimeslot → isGrantOrAck (r .kind) ≡ false → Holds (kept i rs) out from k → Holds (kept (i + 1) rs) (set out k r) (set from k i) (k + 1)
   kept-turn b e h =
       holds-out (kept (i + 1) rs) (set out k r) (set out k (getD rs i emptyRecord)) (set from k i) (k + 1) (ap (set out k) is)
       (kept-pass rs i out from k b (kind-as r (getD rs i emptyRecord) false is e) h)
@@ -164,7 +166,7 @@ module _ (n : ℕ) (rs : List Record) (j : ℕ) (out : List Record) (from : List
   pub room : j < n → isGrantOrAck (g .kind) ≡ true → k ≡ length (joins n j rs) → k < n
   room h e size = omega (arith, joins-room n rs j out from k h (kind-as g (getD rs j emptyRecord) true is e), size)
 
-  pub found-turn : (f : ℕ) (old q : Record) → old ≡ getD out f emptyRecord → q ≡ joined g old → k ≤ 16 → isGrantOrAck (g .kind) ≡ true → f < k
+  pub found-turn : (f : ℕ) (old q : Record) → old ≡ getD out f emptyRecord → q ≡ joined g old → k ≤ perTimeslot → isGrantOrAck (g .kind) ≡ true → f < k
       → ((m : ℕ) → m < f → takes (g .number) (getD out m emptyRecord) ≡ false) → takes (g .number) (getD out f emptyRecord) ≡ true → Holds (joins n j rs) out from k
       → Holds (joins n (j + 1) rs) (set out f q) from k
   found-turn f old q was made few e h before here holds =
@@ -174,7 +176,7 @@ module _ (n : ℕ) (rs : List Record) (j : ℕ) (out : List Record) (from : List
       (λ m l. ap (λ (x : Record). takes (x .number) (getD out m emptyRecord)) (sym is) ∙ before m l)
       (ap (λ (x : Record). takes (x .number) (getD out f emptyRecord)) (sym is) ∙ here) holds)
 
-  pub none-turn : (q : Record) → q ≡ minimal g → k < 16 → isGrantOrAck (g .kind) ≡ true → ((m : ℕ) → m < k → takes (g .number) (getD out m emptyRecord) ≡ false) → Holds (joins n j rs) out from k
+  pub none-turn : (q : Record) → q ≡ minimal g → k < perTimeslot → isGrantOrAck (g .kind) ≡ true → ((m : ℕ) → m < k → takes (g .number) (getD out m emptyRecord) ≡ false) → Holds (joins n j rs) out from k
       → Holds (joins n (j + 1) rs) (set out k q) from (k + 1)
   none-turn q made few e before holds =
       let r : Record = getD rs j emptyRecord in

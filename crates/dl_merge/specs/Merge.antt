@@ -1,36 +1,18 @@
 -- Document 01, "Queued record": merging. A record goes with a load that merging does not look at: its cell, the place that it comes from,
 -- or its SDU with the name of its grant. Assumes nothing.
-use mathlib.Core.Bool.{Bool, true, false, _&&_, not, cond}
+use mathlib.Core.Bool.{Bool, _&&_, cond}
 use mathlib.Core.List.{List, [], _∷_}
 use mathlib.Core.Option.{Option}
-use Prim.Native.Nat.{ℕ, _*_}
+use Prim.Native.Nat.{ℕ}
 use lib.Dec.{eqb}
-use lib.ListN.{getD, drop}
 use Rattle.optional.specs.declared.OptU8.{OptU8}
 use Rattle.optional.specs.declared.OptU16.{OptU16}
 use Rattle.dl_record.specs.declared.Record.{Record}
 use Rattle.dl_record.specs.declared.QueuedHeader.{QueuedHeader}
 use Rattle.dl_record.specs.declared.Kind.{Kind}
+use Rattle.dl_record.specs.Kind.{isGrantOrAck, isKept, isRecord}
 use Rattle.dl_record.specs.Record.{grantHeader}
-use Rattle.dl_queue.specs.Queue.{Item, item, zeroCell, queueOf}
-
-abbrev pub isGrantOrAck : Kind → Bool
-isGrantOrAck Kind.Grant = true
-isGrantOrAck Kind.Ack = true
-isGrantOrAck Kind.Record = false
-isGrantOrAck Kind.Waiting = false
-isGrantOrAck Kind.Started = false
-
-abbrev pub isKept : Kind → Bool
-isKept k = not (isGrantOrAck k)
-
--- "the first record (not waiting, not started)"
-abbrev pub isRecord : Kind → Bool
-isRecord Kind.Grant = false
-isRecord Kind.Ack = false
-isRecord Kind.Record = true
-isRecord Kind.Waiting = false
-isRecord Kind.Started = false
+use Rattle.dl_queue.specs.Queue.{Item, item, zeroCell}
 
 abbrev pub orElse : OptU8 → OptU8 → OptU8
 orElse OptU8.Absent o = o
@@ -127,9 +109,3 @@ joinName g c = record { sdu = c .sdu; name = nameAfter (g .rec .kind) (g .load .
 
 abbrev pub mergeNamed : {S N : Type 0} → S → List (Item (Named S N)) → List (Item (Named S N))
 mergeNamed z xs = merge (freshName z) joinName xs
-
--- ---- a timeslot, counted from 0
-
--- what merging makes of its queue
-unfoldable pub mergedQueue : List ℕ → List Record → List ℕ → ℕ → List (Item (List ℕ))
-mergedQueue ns rs s t = mergeCells (queueOf (getD ns t 0) (drop (16 * t) rs) (drop (256 * (16 * t)) s))

@@ -1,25 +1,26 @@
-// Merging: grants and acks go into the records of their timeslot, and cells move with their records.
-use dl_queue::Queue;
+// Merging: grants and acks go into the records of their timeslot; each record with the place that it comes from.
 use dl_record::Kind;
 use dl_record::QueuedHeader;
 use dl_record::Record;
 use mac_pdus::OptChanAlloc;
 use optional::OptU8;
 use optional::OptU16;
+use sizes::NO_PLACE;
+use sizes::PER_TIMESLOT;
 ghost use mathlib.Core.Path.{_≡_};
 ghost use mathlib.Core.Bool.{true, false};
-ghost use Prim.Native.Nat.{ℕ, _+_, _*_, _<_, _≤_};
-ghost use lib.ListN.{length, getD, drop, take};
-ghost use lib.Seq.{paste};
+ghost use Prim.Native.Nat.{ℕ, _<_, _≤_};
+ghost use lib.ListN.{getD};
+ghost use Rattle.sizes.specs.Sizes.{perTimeslot};
 ghost use Rattle.dl_record.specs.Record.{emptyRecord};
-ghost use Rattle.dl_queue.specs.Queue.{withQueue, withCells};
-ghost use Rattle.dl_merge.specs.Merge.{isGrantOrAck, isRecord, orElse, withGrant, withAck, joinedHeader, joined, ackFlag, minimal, takes, only, isKept, mergedQueue};
-ghost use Rattle.dl_merge.specs.Places.{counted, mergePlaces, mergedOf, arranged};
+ghost use Rattle.dl_record.specs.Kind.{isGrantOrAck, isKept, isRecord};
+ghost use Rattle.dl_merge.specs.Merge.{orElse, withGrant, withAck, joinedHeader, joined, ackFlag, minimal, takes, only};
+ghost use Rattle.dl_merge.specs.Places.{counted, mergePlaces, mergedOf};
 
-// A timeslot's records with the places that they come from, 16 for none.
+// A timeslot's records with the places that they come from.
 pub struct Merged {
-    pub records: [Record; 16],
-    pub from: [u8; 16],
+    pub records: [Record; PER_TIMESLOT],
+    pub from: [u8; PER_TIMESLOT],
     pub count: u8,
 }
 
@@ -169,8 +170,12 @@ fn takes_number(r: Record, number: u32) -> bool
 }
 
 // The first of `count` records that takes `number`, or `count`.
-fn dl_get_scheduled_resource_for_ssi(records: [Record; 16], count: usize, number: u32) -> usize
-    requires { ⌜ count ≤ 16 ⌝ }
+fn dl_get_scheduled_resource_for_ssi(
+    records: [Record; PER_TIMESLOT],
+    count: usize,
+    number: u32,
+) -> usize
+    requires { ⌜ count ≤ perTimeslot ⌝ }
     ensures within { λ r. ⌜ r ≤ count ⌝ }
     ensures before { λ r. ⌜ ((j : ℕ) → j < r → takes number (getD records j emptyRecord) ≡ false) ⌝ }
     ensures found { λ r. ⌜ (r < count → takes number (getD records r emptyRecord) ≡ true) ⌝ }
@@ -185,12 +190,12 @@ fn dl_get_scheduled_resource_for_ssi(records: [Record; 16], count: usize, number
 }
 
 // What stays of the first `n` records when all grants and acks are taken out.
-fn dl_take_all_grants_and_acks(records: [Record; 16], n: usize) -> Merged
-    requires { ⌜ n ≤ 16 ⌝ }
+fn dl_take_all_grants_and_acks(records: [Record; PER_TIMESLOT], n: usize) -> Merged
+    requires { ⌜ n ≤ perTimeslot ⌝ }
     ensures { λ r. ⌜ r ≡ mergedOf (only isKept (counted 0 n records)) ⌝ }
 {
-    let mut out = [Record::EMPTY; 16];
-    let mut from = [16u8; 16];
+    let mut out = [Record::EMPTY; PER_TIMESLOT];
+    let mut from = [NO_PLACE; PER_TIMESLOT];
     let mut k: usize = 0;
     for i in 0..n {
         let r = records[i];
@@ -209,9 +214,9 @@ fn dl_take_all_grants_and_acks(records: [Record; 16], n: usize) -> Merged
     }
 }
 
-// The first `n` records merged: to those that stay each grant or ack goes in queue order.
-fn merge_records(records: [Record; 16], n: usize) -> Merged
-    requires { ⌜ n ≤ 16 ⌝ }
+// A timeslot's first `n` records merged: to those that stay each grant or ack goes in queue order.
+pub fn dl_integrate_sched_elems_for_timeslot(records: [Record; PER_TIMESLOT], n: usize) -> Merged
+    requires { ⌜ n ≤ perTimeslot ⌝ }
     ensures { λ r. ⌜ r ≡ mergedOf (mergePlaces (counted 0 n records)) ⌝ }
 {
     let kept = dl_take_all_grants_and_acks(records, n);
@@ -237,91 +242,5 @@ fn merge_records(records: [Record; 16], n: usize) -> Merged
         records: out,
         from: from,
         count: k as u8,
-    }
-}
-
-// The sixteen cells from place `first` on.
-fn read_cells(store: &[u8], first: usize) -> [u8; 4096]
-    requires { ⌜ 256 * first + 4096 ≤ length (now store) ⌝ }
-    ensures { λ r. ⌜ r ≡ take 4096 (drop (256 * first) (now (store .entry))) ⌝ }
-{
-    let mut copy = [0u8; 4096];
-    sdu_store::copy_octets(&mut copy, 0, store, 256 * first, 4096);
-    copy
-}
-
-// Writes the sixteen cells from place `first` on: each that of its place in `cells`, or zero for a number that is no place.
-fn write_cells(store: &mut [u8], first: usize, cells: &[u8], from: [u8; 16])
-    requires { ⌜ (256 * first + 4096 ≤ length (now store)) × (length (now cells) ≡ 4096) ⌝ }
-    ensures { λ _. ⌜ now (store .exit) ≡ paste (now (store .entry)) (256 * first) (arranged (now (cells .entry)) from) 4096 ⌝ }
-{
-    for p in 0..16 {
-        let f = from[p] as usize;
-        let at = 256 * first + 256 * p;
-        if f < 16 {
-            sdu_store::copy_octets(store, at, cells, 256 * f, 256);
-            continue;
-        }
-        sdu_store::zero_octets(store, at, 256);
-    }
-}
-
-// The sixteen cells from place `first` on, in a new order.
-pub fn rearrange(store: &mut [u8], first: usize, from: [u8; 16])
-    requires { ⌜ 256 * first + 4096 ≤ length (now store) ⌝ }
-    ensures { λ _. ⌜ now (store .exit) ≡ paste (now (store .entry)) (256 * first) (arranged (take 4096 (drop (256 * first) (now (store .entry)))) from) 4096 ⌝ }
-{
-    let copy = read_cells(store, first);
-    write_cells(store, first, &copy, from);
-}
-
-// The sixteen records from `first` on.
-pub fn read_records(records: [Record; 64], first: usize) -> [Record; 16]
-    requires { ⌜ first + 16 ≤ 64 ⌝ }
-    ensures { λ r. ⌜ r ≡ take 16 (drop first records) ⌝ }
-{
-    let mut out = [Record::EMPTY; 16];
-    for i in 0..16 {
-        out[i] = records[first + i];
-    }
-    out
-}
-
-// The records, with these sixteen from `first` on.
-pub fn write_records(records: [Record; 64], first: usize, new: [Record; 16]) -> [Record; 64]
-    requires { ⌜ first + 16 ≤ 64 ⌝ }
-    ensures { λ r. ⌜ r ≡ paste records first new 16 ⌝ }
-{
-    let mut out = records;
-    for i in 0..16 {
-        out[first + i] = new[i];
-    }
-    out
-}
-
-// Merges the records of timeslot `t`, counted from 0.
-pub fn dl_integrate_sched_elems_for_timeslot(
-    counts: [u8; 4],
-    records: [Record; 64],
-    store: &mut [u8],
-    t: usize,
-) -> Queue
-    requires { ⌜ (t < 4) × (getD counts t 0 ≤ 16) × (length (now store) ≡ 16384) ⌝ }
-    ensures merges { λ q. ⌜ q ≡ withQueue counts records t (mergedQueue counts records (now (store .entry)) t) ⌝ }
-    ensures moves { λ q. ⌜ now (store .exit) ≡ withCells (now (store .entry)) t (mergedQueue counts records (now (store .entry)) t) ⌝ }
-{
-    let first = 16 * t;
-    let n = counts[t] as usize;
-    let own = read_records(records, first);
-    let m = merge_records(own, n);
-    let new = m.records;
-    let from = m.from;
-    rearrange(store, first, from);
-    let out = write_records(records, first, new);
-    let mut c = counts;
-    c[t] = m.count;
-    Queue {
-        counts: c,
-        records: out,
     }
 }

@@ -6,6 +6,7 @@ use Prim.Native.Nat.{ℕ, _*_, _<_}
 use lib.Dec.{leb}
 use lib.ListN.{length, getD, set}
 use borrow.Author.Tests.{leb-true}
+use Rattle.sizes.specs.Sizes.{perTimeslot, cellOctets, timeslotOctets, sduBits}
 use Rattle.optional.specs.declared.OptU8.{OptU8}
 use Rattle.optional.specs.declared.OptU16.{OptU16}
 use Rattle.optional.proofs.Tests.{and-left, and-right, and-intro}
@@ -29,8 +30,8 @@ use Rattle.dl_queue.proofs.SoundLaws.{queue-at, push-sound, unused-cell
 abbrev pub withLast : List (List (Item (List ℕ))) → ℕ → Item (List ℕ) → List (List (Item (List ℕ)))
 withLast qs t x = set qs t (getD qs t [] ++ x ∷ [])
 
-module _ (ns : List ℕ) (rs : List Record) (s : List ℕ) (t : ℕ) (inside : t < length ns) (room : getD ns t 0 < 16)
-    (places : length rs ≡ 16 * length ns) (size : length s ≡ 4096 * length ns) (sound : soundQueue ns rs s ≡ true) where
+module _ (ns : List ℕ) (rs : List Record) (s : List ℕ) (t : ℕ) (inside : t < length ns) (room : getD ns t 0 < perTimeslot)
+    (places : length rs ≡ perTimeslot * length ns) (size : length s ≡ timeslotOctets * length ns) (sound : soundQueue ns rs s ≡ true) where
   -- a record with an SDU
   record-joins : (r : Record) (sdu : List ℕ) → queuesOf (enqueued ns rs t r .counts) (enqueued ns rs t r .records) (withCell s ns t (cellOf (r .bits) sdu)) ≡ withLast (queuesOf ns rs s) t (item r (cellOf (r .bits) sdu))
   record-joins r sdu = queues-push ns rs s t (getD ns t 0) r (cellOf (r .bits) sdu) inside refl room (λ u b. queue-at ns rs s sound u b .0) places size (length-cellOf (r .bits) sdu)
@@ -41,8 +42,8 @@ module _ (ns : List ℕ) (rs : List Record) (s : List ℕ) (t : ℕ) (inside : t
   record-keeps r sdu good present =
       push-sound ns rs s t (getD ns t 0) r (cellOf (r .bits) sdu) inside refl room places size (length-cellOf (r .bits) sdu)
       (and-intro (soundRecord r) (cleanPast (r .bits) (cellOf (r .bits) sdu)) good
-      (clean-cellOf (r .bits) sdu (leb-true (r .bits) 2048 (and-left (leb (r .bits) 2048) (leb (r .bits) (8 * length sdu)) present))
-      (leb-true (r .bits) (8 * length sdu) (and-right (leb (r .bits) 2048) (leb (r .bits) (8 * length sdu)) present)))) sound
+      (clean-cellOf (r .bits) sdu (leb-true (r .bits) sduBits (and-left (leb (r .bits) sduBits) (leb (r .bits) (8 * length sdu)) present))
+      (leb-true (r .bits) (8 * length sdu) (and-right (leb (r .bits) sduBits) (leb (r .bits) (8 * length sdu)) present)))) sound
 
   -- a record without SDU: its cell is zero as it stands
   empty-joins : (r : Record) → Octets s → queuesOf (enqueued ns rs t r .counts) (enqueued ns rs t r .records) s ≡ withLast (queuesOf ns rs s) t (item r zeroCell)
@@ -70,4 +71,4 @@ module _ (ns : List ℕ) (rs : List Record) (s : List ℕ) (t : ℕ) (inside : t
       → HoldsQueues (withLast (queuesOf ns rs s) t (item (offeredRecord k number tag h bits) (cellOf bits sdu))) (enqueued ns rs t (offeredRecord k number tag h bits)) (withCell s ns t (cellOf bits sdu))
   offered-joins k number tag h bits sdu octets a l p =
       let r = offeredRecord k number tag h bits in
-      record { lists = record-joins r sdu; sound = record-keeps r sdu (offered-sound k number tag h bits sdu a l p) p; octets = octets-paste s (256 * nextPlace ns t) (cellOf bits sdu) 256 octets (octets-cellOf bits sdu) }
+      record { lists = record-joins r sdu; sound = record-keeps r sdu (offered-sound k number tag h bits sdu a l p) p; octets = octets-paste s (cellOctets * nextPlace ns t) (cellOf bits sdu) cellOctets octets (octets-cellOf bits sdu) }

@@ -8,6 +8,7 @@ use lib.Dec.{ltb, leb}
 use lib.ListN.{length, getD, drop, take, drop-of-length-le}
 use lib.Seq.{getD-drop, drop-drop, drop-cons}
 use borrow.Author.Tests.{lt-ltb, ltb-true, le-leb, lt-leb}
+use Rattle.sizes.specs.Sizes.{perTimeslot, cellOctets, timeslotOctets}
 use Rattle.dl_record.proofs.Tests.{same-test}
 use Rattle.dl_record.proofs.RecordLaws.{empty-is}
 use Rattle.dl_record.specs.declared.Record.{Record}
@@ -24,70 +25,70 @@ empty-bits r clean = go (isEmpty r) refl
     go false e = refl
 
 pub step : (k n : ℕ) (rs : List Record) (s : List ℕ)
-    → soundPlaces (suc k) n rs s ≡ soundPlace (ltb 0 n) (getD rs 0 emptyRecord) (take 256 s) && soundPlaces k (n - 1) (drop 1 rs) (drop 256 s)
+    → soundPlaces (suc k) n rs s ≡ soundPlace (ltb 0 n) (getD rs 0 emptyRecord) (take cellOctets s) && soundPlaces k (n - 1) (drop 1 rs) (drop cellOctets s)
 unfolding soundPlaces
 step k zero rs s = refl
 step k (suc n) rs s =
     let e : n ≡ suc n - 1 = omega arith in
-    ap₂ (λ (b : Bool) (m : ℕ). soundPlace b (getD rs 0 emptyRecord) (take 256 s) && soundPlaces k m (drop 1 rs) (drop 256 s)) (sym (lt-ltb 0 (suc n) (omega arith))) e
+    ap₂ (λ (b : Bool) (m : ℕ). soundPlace b (getD rs 0 emptyRecord) (take cellOctets s) && soundPlaces k m (drop 1 rs) (drop cellOctets s)) (sym (lt-ltb 0 (suc n) (omega arith))) e
 
 filled : (n i : ℕ) → ltb 0 (n - i) ≡ ltb i n
 filled n i = same-test (ltb 0 (n - i)) (ltb i n) (λ e. lt-ltb i n (omega (arith, ltb-true 0 (n - i) e))) (λ e. lt-ltb 0 (n - i) (omega (arith, ltb-true i n e)))
 
-module _ (n : ℕ) (rs : List Record) (s : List ℕ) (p i : ℕ) (less : i < 16) where
+module _ (n : ℕ) (rs : List Record) (s : List ℕ) (p i : ℕ) (less : i < perTimeslot) where
   -- place i of a timeslot stands at p
-  pub places-turn : soundPlaces (16 - i) (n - i) (drop p rs) (drop (256 * p) s)
-      ≡ soundPlace (ltb i n) (getD rs p emptyRecord) (take 256 (drop (256 * p) s)) && soundPlaces (16 - (i + 1)) (n - (i + 1)) (drop (p + 1) rs) (drop (256 * (p + 1)) s)
+  pub places-turn : soundPlaces (perTimeslot - i) (n - i) (drop p rs) (drop (cellOctets * p) s)
+      ≡ soundPlace (ltb i n) (getD rs p emptyRecord) (take cellOctets (drop (cellOctets * p) s)) && soundPlaces (perTimeslot - (i + 1)) (n - (i + 1)) (drop (p + 1) rs) (drop (cellOctets * (p + 1)) s)
   places-turn =
-      let k : ℕ = 16 - (i + 1) in
-      let a : 16 - i ≡ suc k = omega arith in
+      let k : ℕ = perTimeslot - (i + 1) in
+      let a : perTimeslot - i ≡ suc k = omega arith in
       let b : n - i - 1 ≡ n - (i + 1) = omega arith in
-      let d : 256 * p + 256 ≡ 256 * (p + 1) = omega arith in
+      let d : cellOctets * p + cellOctets ≡ cellOctets * (p + 1) = omega arith in
       let q : p + 0 ≡ p = omega arith in
       let rec : getD (drop p rs) 0 emptyRecord ≡ getD rs p emptyRecord = getD-drop p rs 0 emptyRecord ∙ ap (λ (j : ℕ). getD rs j emptyRecord) q in
-      let cells : drop 256 (drop (256 * p) s) ≡ drop (256 * (p + 1)) s = drop-drop 256 (256 * p) s ∙ ap (λ (j : ℕ). drop j s) d in
-      ap (λ (j : ℕ). soundPlaces j (n - i) (drop p rs) (drop (256 * p) s)) a
-      ∙ step k (n - i) (drop p rs) (drop (256 * p) s)
-      ∙ ap₂ (λ (t : Bool) (r : Record). soundPlace t r (take 256 (drop (256 * p) s)) && soundPlaces k (n - i - 1) (drop 1 (drop p rs)) (drop 256 (drop (256 * p) s))) (filled n i) rec
-      ∙ ap (λ (m : ℕ). soundPlace (ltb i n) (getD rs p emptyRecord) (take 256 (drop (256 * p) s)) && soundPlaces k m (drop 1 (drop p rs)) (drop 256 (drop (256 * p) s))) b
-      ∙ ap₂ (λ (l : List Record) (m : List ℕ). soundPlace (ltb i n) (getD rs p emptyRecord) (take 256 (drop (256 * p) s)) && soundPlaces k (n - (i + 1)) l m) (drop-drop 1 p rs) cells
+      let cells : drop cellOctets (drop (cellOctets * p) s) ≡ drop (cellOctets * (p + 1)) s = drop-drop cellOctets (cellOctets * p) s ∙ ap (λ (j : ℕ). drop j s) d in
+      ap (λ (j : ℕ). soundPlaces j (n - i) (drop p rs) (drop (cellOctets * p) s)) a
+      ∙ step k (n - i) (drop p rs) (drop (cellOctets * p) s)
+      ∙ ap₂ (λ (t : Bool) (r : Record). soundPlace t r (take cellOctets (drop (cellOctets * p) s)) && soundPlaces k (n - i - 1) (drop 1 (drop p rs)) (drop cellOctets (drop (cellOctets * p) s))) (filled n i) rec
+      ∙ ap (λ (m : ℕ). soundPlace (ltb i n) (getD rs p emptyRecord) (take cellOctets (drop (cellOctets * p) s)) && soundPlaces k m (drop 1 (drop p rs)) (drop cellOctets (drop (cellOctets * p) s))) b
+      ∙ ap₂ (λ (l : List Record) (m : List ℕ). soundPlace (ltb i n) (getD rs p emptyRecord) (take cellOctets (drop (cellOctets * p) s)) && soundPlaces k (n - (i + 1)) l m) (drop-drop 1 p rs) cells
 
-  pub places-pass : soundPlace (ltb i n) (getD rs p emptyRecord) (take 256 (drop (256 * p) s)) ≡ true
-      → soundPlaces (16 - (i + 1)) (n - (i + 1)) (drop (p + 1) rs) (drop (256 * (p + 1)) s) ≡ soundPlaces (16 - i) (n - i) (drop p rs) (drop (256 * p) s)
-  places-pass e = sym (places-turn ∙ ap (λ (t : Bool). t && soundPlaces (16 - (i + 1)) (n - (i + 1)) (drop (p + 1) rs) (drop (256 * (p + 1)) s)) e)
+  pub places-pass : soundPlace (ltb i n) (getD rs p emptyRecord) (take cellOctets (drop (cellOctets * p) s)) ≡ true
+      → soundPlaces (perTimeslot - (i + 1)) (n - (i + 1)) (drop (p + 1) rs) (drop (cellOctets * (p + 1)) s) ≡ soundPlaces (perTimeslot - i) (n - i) (drop p rs) (drop (cellOctets * p) s)
+  places-pass e = sym (places-turn ∙ ap (λ (t : Bool). t && soundPlaces (perTimeslot - (i + 1)) (n - (i + 1)) (drop (p + 1) rs) (drop (cellOctets * (p + 1)) s)) e)
 
-  pub places-fail : soundPlace (ltb i n) (getD rs p emptyRecord) (take 256 (drop (256 * p) s)) ≡ false → false ≡ soundPlaces (16 - i) (n - i) (drop p rs) (drop (256 * p) s)
-  places-fail e = sym (places-turn ∙ ap (λ (t : Bool). t && soundPlaces (16 - (i + 1)) (n - (i + 1)) (drop (p + 1) rs) (drop (256 * (p + 1)) s)) e)
+  pub places-fail : soundPlace (ltb i n) (getD rs p emptyRecord) (take cellOctets (drop (cellOctets * p) s)) ≡ false → false ≡ soundPlaces (perTimeslot - i) (n - i) (drop p rs) (drop (cellOctets * p) s)
+  places-fail e = sym (places-turn ∙ ap (λ (t : Bool). t && soundPlaces (perTimeslot - (i + 1)) (n - (i + 1)) (drop (p + 1) rs) (drop (cellOctets * (p + 1)) s)) e)
 
-pub places-done : (n : ℕ) (rs : List Record) (s : List ℕ) (i : ℕ) → 16 ≤ i → true ≡ soundPlaces (16 - i) n rs s
+pub places-done : (n : ℕ) (rs : List Record) (s : List ℕ) (i : ℕ) → perTimeslot ≤ i → true ≡ soundPlaces (perTimeslot - i) n rs s
 unfolding soundPlaces
-places-done n rs s i h = let e : 0 ≡ 16 - i = omega arith in ap (λ (k : ℕ). soundPlaces k n rs s) e
+places-done n rs s i h = let e : 0 ≡ perTimeslot - i = omega arith in ap (λ (k : ℕ). soundPlaces k n rs s) e
 
 -- timeslot by timeslot
 module _ (ns : List ℕ) (rs : List Record) (s : List ℕ) (t : ℕ) (less : t < length ns) where
-  queue-turn : soundQueue (drop t ns) (drop (16 * t) rs) (drop (4096 * t) s)
-      ≡ leb (getD ns t 0) 16 && soundPlaces 16 (getD ns t 0) (drop (16 * t) rs) (drop (4096 * t) s) && soundQueue (drop (t + 1) ns) (drop (16 * (t + 1)) rs) (drop (4096 * (t + 1)) s)
+  queue-turn : soundQueue (drop t ns) (drop (perTimeslot * t) rs) (drop (timeslotOctets * t) s)
+      ≡ leb (getD ns t 0) perTimeslot && soundPlaces perTimeslot (getD ns t 0) (drop (perTimeslot * t) rs) (drop (timeslotOctets * t) s) && soundQueue (drop (t + 1) ns) (drop (perTimeslot * (t + 1)) rs) (drop (timeslotOctets * (t + 1)) s)
   unfolding soundQueue
   queue-turn =
       let a : suc t ≡ t + 1 = omega arith in
-      let b : 16 * t + 16 ≡ 16 * (t + 1) = omega arith in
-      let d : 4096 * t + 4096 ≡ 4096 * (t + 1) = omega arith in
-      ap (λ (l : List ℕ). soundQueue l (drop (16 * t) rs) (drop (4096 * t) s)) (drop-cons ns t 0 less ∙ ap (λ (j : ℕ). getD ns t 0 ∷ drop j ns) a)
-      ∙ ap₂ (λ (l : List Record) (m : List ℕ). leb (getD ns t 0) 16 && soundPlaces 16 (getD ns t 0) (drop (16 * t) rs) (drop (4096 * t) s) && soundQueue (drop (t + 1) ns) l m)
-      (drop-drop 16 (16 * t) rs ∙ ap (λ (j : ℕ). drop j rs) b) (drop-drop 4096 (4096 * t) s ∙ ap (λ (j : ℕ). drop j s) d)
+      let b : perTimeslot * t + perTimeslot ≡ perTimeslot * (t + 1) = omega arith in
+      let d : timeslotOctets * t + timeslotOctets ≡ timeslotOctets * (t + 1) = omega arith in
+      ap (λ (l : List ℕ). soundQueue l (drop (perTimeslot * t) rs) (drop (timeslotOctets * t) s)) (drop-cons ns t 0 less ∙ ap (λ (j : ℕ). getD ns t 0 ∷ drop j ns) a)
+      ∙ ap₂ (λ (l : List Record) (m : List ℕ). leb (getD ns t 0) perTimeslot && soundPlaces perTimeslot (getD ns t 0) (drop (perTimeslot * t) rs) (drop (timeslotOctets * t) s) && soundQueue (drop (t + 1) ns) l m)
+      (drop-drop perTimeslot (perTimeslot * t) rs ∙ ap (λ (j : ℕ). drop j rs) b) (drop-drop timeslotOctets (timeslotOctets * t) s ∙ ap (λ (j : ℕ). drop j s) d)
 
-  pub queue-many : 16 < getD ns t 0 → false ≡ soundQueue (drop t ns) (drop (16 * t) rs) (drop (4096 * t) s)
+  pub queue-many : perTimeslot < getD ns t 0 → false ≡ soundQueue (drop t ns) (drop (perTimeslot * t) rs) (drop (timeslotOctets * t) s)
   queue-many h =
-      sym (queue-turn ∙ ap (λ (b : Bool). b && soundPlaces 16 (getD ns t 0) (drop (16 * t) rs) (drop (4096 * t) s) && soundQueue (drop (t + 1) ns) (drop (16 * (t + 1)) rs) (drop (4096 * (t + 1)) s)) (lt-leb (getD ns t 0) 16 h))
+      sym (queue-turn ∙ ap (λ (b : Bool). b && soundPlaces perTimeslot (getD ns t 0) (drop (perTimeslot * t) rs) (drop (timeslotOctets * t) s) && soundQueue (drop (t + 1) ns) (drop (perTimeslot * (t + 1)) rs) (drop (timeslotOctets * (t + 1)) s)) (lt-leb (getD ns t 0) perTimeslot h))
 
-  pub queue-fail : getD ns t 0 ≤ 16 → soundPlaces 16 (getD ns t 0) (drop (16 * t) rs) (drop (4096 * t) s) ≡ false → false ≡ soundQueue (drop t ns) (drop (16 * t) rs) (drop (4096 * t) s)
+  pub queue-fail : getD ns t 0 ≤ perTimeslot → soundPlaces perTimeslot (getD ns t 0) (drop (perTimeslot * t) rs) (drop (timeslotOctets * t) s) ≡ false → false ≡ soundQueue (drop t ns) (drop (perTimeslot * t) rs) (drop (timeslotOctets * t) s)
   queue-fail h e =
-      sym (queue-turn ∙ ap₂ (λ (b d : Bool). b && d && soundQueue (drop (t + 1) ns) (drop (16 * (t + 1)) rs) (drop (4096 * (t + 1)) s)) (le-leb (getD ns t 0) 16 h) e)
+      sym (queue-turn ∙ ap₂ (λ (b d : Bool). b && d && soundQueue (drop (t + 1) ns) (drop (perTimeslot * (t + 1)) rs) (drop (timeslotOctets * (t + 1)) s)) (le-leb (getD ns t 0) perTimeslot h) e)
 
-  pub queue-pass : getD ns t 0 ≤ 16 → soundPlaces 16 (getD ns t 0) (drop (16 * t) rs) (drop (4096 * t) s) ≡ true
-      → soundQueue (drop (t + 1) ns) (drop (16 * (t + 1)) rs) (drop (4096 * (t + 1)) s) ≡ soundQueue (drop t ns) (drop (16 * t) rs) (drop (4096 * t) s)
+  pub queue-pass : getD ns t 0 ≤ perTimeslot → soundPlaces perTimeslot (getD ns t 0) (drop (perTimeslot * t) rs) (drop (timeslotOctets * t) s) ≡ true
+      → soundQueue (drop (t + 1) ns) (drop (perTimeslot * (t + 1)) rs) (drop (timeslotOctets * (t + 1)) s) ≡ soundQueue (drop t ns) (drop (perTimeslot * t) rs) (drop (timeslotOctets * t) s)
   queue-pass h e =
-      sym (queue-turn ∙ ap₂ (λ (b d : Bool). b && d && soundQueue (drop (t + 1) ns) (drop (16 * (t + 1)) rs) (drop (4096 * (t + 1)) s)) (le-leb (getD ns t 0) 16 h) e)
+      sym (queue-turn ∙ ap₂ (λ (b d : Bool). b && d && soundQueue (drop (t + 1) ns) (drop (perTimeslot * (t + 1)) rs) (drop (timeslotOctets * (t + 1)) s)) (le-leb (getD ns t 0) perTimeslot h) e)
 
 pub queue-done : (ns : List ℕ) (rs : List Record) (s : List ℕ) (t : ℕ) → length ns ≤ t → true ≡ soundQueue (drop t ns) rs s
 unfolding soundQueue
@@ -101,17 +102,17 @@ getD-any (x ∷ l) (suc i) d e h = getD-any l i d e (omega arith)
 
 -- a place as the code takes it out
 pub place-seen : (b : Bool) (rs : List Record) (p : ℕ) (d : Record) (s : List ℕ) → p < length rs
-    → soundPlace b (getD rs p d) (take (256 * p + 256 - 256 * p) (drop (256 * p) s)) ≡ soundPlace b (getD rs p emptyRecord) (take 256 (drop (256 * p) s))
+    → soundPlace b (getD rs p d) (take (cellOctets * p + cellOctets - cellOctets * p) (drop (cellOctets * p) s)) ≡ soundPlace b (getD rs p emptyRecord) (take cellOctets (drop (cellOctets * p) s))
 place-seen b rs p d s h =
-    let e : 256 * p + 256 - 256 * p ≡ 256 = omega arith in
-    ap₂ (λ (r : Record) (n : ℕ). soundPlace b r (take n (drop (256 * p) s))) (getD-any rs p d emptyRecord h) e
+    let e : cellOctets * p + cellOctets - cellOctets * p ≡ cellOctets = omega arith in
+    ap₂ (λ (r : Record) (n : ℕ). soundPlace b r (take n (drop (cellOctets * p) s))) (getD-any rs p d emptyRecord h) e
 
-pub places-start : (n : ℕ) (rs : List Record) (s : List ℕ) (f : ℕ) → soundPlaces (16 - 0) (n - 0) (drop (f + 0) rs) (drop (256 * (f + 0)) s) ≡ soundPlaces 16 n (drop f rs) (drop (256 * f) s)
+pub places-start : (n : ℕ) (rs : List Record) (s : List ℕ) (f : ℕ) → soundPlaces (perTimeslot - 0) (n - 0) (drop (f + 0) rs) (drop (cellOctets * (f + 0)) s) ≡ soundPlaces perTimeslot n (drop f rs) (drop (cellOctets * f) s)
 places-start n rs s f =
     let a : n - 0 ≡ n = omega arith in
     let b : f + 0 ≡ f = omega arith in
-    ap₂ (λ (m p : ℕ). soundPlaces 16 m (drop p rs) (drop (256 * p) s)) a b
+    ap₂ (λ (m p : ℕ). soundPlaces perTimeslot m (drop p rs) (drop (cellOctets * p) s)) a b
 
 -- a timeslot's places as the code counts them
-pub queue-seen : (n : ℕ) (rs : List Record) (s : List ℕ) (t : ℕ) → soundPlaces 16 n (drop (16 * t) rs) (drop (256 * (16 * t)) s) ≡ soundPlaces 16 n (drop (16 * t) rs) (drop (4096 * t) s)
-queue-seen n rs s t = let e : 256 * (16 * t) ≡ 4096 * t = omega arith in ap (λ (j : ℕ). soundPlaces 16 n (drop (16 * t) rs) (drop j s)) e
+pub queue-seen : (n : ℕ) (rs : List Record) (s : List ℕ) (t : ℕ) → soundPlaces perTimeslot n (drop (perTimeslot * t) rs) (drop (cellOctets * (perTimeslot * t)) s) ≡ soundPlaces perTimeslot n (drop (perTimeslot * t) rs) (drop (timeslotOctets * t) s)
+queue-seen n rs s t = let e : cellOctets * (perTimeslot * t) ≡ timeslotOctets * t = omega arith in ap (λ (j : ℕ). soundPlaces perTimeslot n (drop (perTimeslot * t) rs) (drop j s)) e

@@ -4,6 +4,7 @@ use mathlib.Core.List.{List, [], _∷_}
 use Prim.Native.Nat.{ℕ, zero, suc}
 use lib.Dec.{leb}
 use lib.ListN.{getD, drop, take}
+use Rattle.sizes.specs.Sizes.{perTimeslot, cellOctets, timeslotOctets}
 use Rattle.dl_record.specs.declared.Record.{Record}
 use Rattle.dl_record.specs.Record.{emptyRecord}
 use Rattle.dl_record.specs.Questions.{soundRecord, isEmpty}
@@ -22,13 +23,13 @@ soundPlace filled r cell = soundIn filled r && cleanPast (r .bits) cell
 -- "A timeslot's records fill its places from the first": k places, of which the first n are filled
 unfoldable pub soundPlaces : ℕ → ℕ → List Record → List ℕ → Bool
 soundPlaces zero n rs s = true
-soundPlaces (suc k) zero rs s = soundPlace false (getD rs 0 emptyRecord) (take 256 s) && soundPlaces k zero (drop 1 rs) (drop 256 s)
-soundPlaces (suc k) (suc n) rs s = soundPlace true (getD rs 0 emptyRecord) (take 256 s) && soundPlaces k n (drop 1 rs) (drop 256 s)
+soundPlaces (suc k) zero rs s = soundPlace false (getD rs 0 emptyRecord) (take cellOctets s) && soundPlaces k zero (drop 1 rs) (drop cellOctets s)
+soundPlaces (suc k) (suc n) rs s = soundPlace true (getD rs 0 emptyRecord) (take cellOctets s) && soundPlaces k n (drop 1 rs) (drop cellOctets s)
 
 -- "counts up to 16, stored records passing 5–7, .. records, cells and unfilled places as said above": sixteen places to each count
 unfoldable pub soundQueue : List ℕ → List Record → List ℕ → Bool
 soundQueue [] rs s = true
-soundQueue (n ∷ ns) rs s = leb n 16 && soundPlaces 16 n rs s && soundQueue ns (drop 16 rs) (drop 4096 s)
+soundQueue (n ∷ ns) rs s = leb n perTimeslot && soundPlaces perTimeslot n rs s && soundQueue ns (drop perTimeslot rs) (drop timeslotOctets s)
 
 -- every record of a list is sound, and so is its cell
 unfoldable pub soundItems : List (Item (List ℕ)) → Bool

@@ -4,12 +4,6 @@ ghost use mathlib.Core.Path.{_≡_};
 ghost use mathlib.Core.Bool.{true, false};
 ghost use Rattle.dl_queue.specs.Questions.{soundPlace};
 
-// The number of records queued for each timeslot, and the places.
-pub struct Queue {
-    pub counts: [u8; 4],
-    pub records: [Record; 64],
-}
-
 // Question 1 for a place that is filled, and its cell.
 pub fn filled_is_sound(r: Record, cell: &[u8]) -> bool
     ensures { λ b. ⌜ b ≡ soundPlace true r (now (cell .entry)) ⌝ }

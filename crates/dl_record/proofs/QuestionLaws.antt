@@ -7,6 +7,7 @@ use native.Mathlib.Omega.{arith}
 use lib.Dec.{leb}
 use lib.ListN.{length}
 use borrow.Author.Tests.{leb-true, le-leb}
+use Rattle.sizes.specs.Sizes.{sduBits}
 use Rattle.mac_pdus.specs.declared.AddressKind.{AddressKind}
 use Rattle.dl_record.specs.Record.{addressKindOf}
 use Rattle.dl_record.specs.Questions.{presentSdu}
@@ -23,6 +24,6 @@ octets-present n m =
     same-test (leb ((n + 7) / 8) m) (leb n (8 * m)) (λ e. le-leb n (8 * m) (omega (arith, leb-true ((n + 7) / 8) m e)))
     (λ e. le-leb ((n + 7) / 8) m (omega (arith, leb-true n (8 * m) e)))
 
-pub present-sdu : (n : ℕ) (s : List ℕ) → leb n 2048 && leb ((n + 7) / 8) (length s) ≡ presentSdu n s
+pub present-sdu : (n : ℕ) (s : List ℕ) → leb n sduBits && leb ((n + 7) / 8) (length s) ≡ presentSdu n s
 unfolding presentSdu
-present-sdu n s = ap (λ (b : Bool). leb n 2048 && b) (octets-present n (length s))
+present-sdu n s = ap (λ (b : Bool). leb n sduBits && b) (octets-present n (length s))

@@ -7,6 +7,7 @@ use Prim.Native.Nat.{ℕ, _*_, _≤_}
 use native.Mathlib.Omega.{arith}
 use lib.Dec.{eqb, leb}
 use borrow.Author.Tests.{leb-true, eqb-true}
+use Rattle.sizes.specs.Sizes.{sduBits}
 use Rattle.optional.specs.declared.OptU8.{OptU8}
 use Rattle.optional.specs.declared.OptU16.{OptU16}
 use Rattle.optional.proofs.Tests.{and-left, and-right}
@@ -16,7 +17,8 @@ use Rattle.dl_record.specs.declared.Record.{Record}
 use Rattle.dl_record.specs.declared.QueuedHeader.{QueuedHeader}
 use Rattle.dl_record.specs.declared.Kind.{Kind}
 use Rattle.dl_record.specs.Record.{emptyRecord, grantRecord, ackRecord, offeredRecord, resourceOf}
-use Rattle.dl_record.specs.Questions.{isGrant, headerHoldsGrantOnly, holdsGrantOnly, isEmpty, legalAddress, presentSdu, soundAs, soundRecord}
+use Rattle.dl_record.specs.Kind.{isGrant}
+use Rattle.dl_record.specs.Questions.{headerHoldsGrantOnly, holdsGrantOnly, isEmpty, legalAddress, presentSdu, soundAs, soundRecord}
 use Rattle.mac_pdus.proofs.Conjunctions.{false-not-true, and3, and4}
 use Rattle.dl_record.proofs.Tests.{and6}
 
@@ -69,22 +71,22 @@ pub is-empty : isEmpty emptyRecord ≡ true
 unfolding isEmpty holdsGrantOnly headerHoldsGrantOnly
 is-empty = refl
 
-no-sdu : (r : Record) → holdsGrantOnly r ≡ true → r .bits ≤ 2048
+no-sdu : (r : Record) → holdsGrantOnly r ≡ true → r .bits ≤ sduBits
 unfolding holdsGrantOnly
 no-sdu r e = omega (arith, eqb-true (r .bits) 0 (and4 (eqb (r .bits) 0) (eqb (r .sent) 0) (absentU16 (r .tag)) (headerHoldsGrantOnly (r .header)) e .0))
 
 -- the SDU of a sound record fits its cell
-small-as : (k : Kind) (r : Record) → soundAs k r ≡ true → r .bits ≤ 2048
+small-as : (k : Kind) (r : Record) → soundAs k r ≡ true → r .bits ≤ sduBits
 small-as Kind.Grant r e =
     let h = r .header in
     let p = and4 (holdsGrantOnly r) (not (absentU8 (h .«slot_granting_element»))) (optFits 8 (h .«slot_granting_element»)) (optFits 6 (h .«usage_marker»)) e in
     no-sdu r (p .0)
 small-as Kind.Ack r e = no-sdu r (and3 (holdsGrantOnly r) (absentU8 (r .header .«slot_granting_element»)) (absentU8 (r .header .«usage_marker»)) e .0)
-small-as Kind.Record r e = leb-true (r .bits) 2048 (and3 (legalQueued (resourceOf r 0 0)) (leb (r .bits) 2048) (eqb (r .sent) 0) e .1)
-small-as Kind.Waiting r e = leb-true (r .bits) 2048 (and3 (legalQueued (resourceOf r 0 0)) (leb (r .bits) 2048) (eqb (r .sent) 0) e .1)
-small-as Kind.Started r e = leb-true (r .bits) 2048 (and3 (legalQueued (resourceOf r 0 0)) (leb (r .bits) 2048) (leb (r .sent) (r .bits)) e .1)
+small-as Kind.Record r e = leb-true (r .bits) sduBits (and3 (legalQueued (resourceOf r 0 0)) (leb (r .bits) sduBits) (eqb (r .sent) 0) e .1)
+small-as Kind.Waiting r e = leb-true (r .bits) sduBits (and3 (legalQueued (resourceOf r 0 0)) (leb (r .bits) sduBits) (eqb (r .sent) 0) e .1)
+small-as Kind.Started r e = leb-true (r .bits) sduBits (and3 (legalQueued (resourceOf r 0 0)) (leb (r .bits) sduBits) (leb (r .sent) (r .bits)) e .1)
 
-pub sound-small : (r : Record) → soundRecord r ≡ true → r .bits ≤ 2048
+pub sound-small : (r : Record) → soundRecord r ≡ true → r .bits ≤ sduBits
 unfolding soundRecord
 sound-small r e = small-as (r .kind) r (and-right (legalAddress (r .«address_kind») (r .number)) (soundAs (r .kind) r) e)
 
@@ -102,4 +104,4 @@ pub offered-sound : (k n : ℕ) (t : OptU16) (h : QueuedHeader) (b : ℕ) (s : L
 unfolding soundRecord legalOffered presentSdu
 offered-sound k n t h b s a o p =
     let m = resourceOf (offeredRecord k n t h b) 0 0 in
-    rw (a, and-left (legalQueued m) (absentU8 (m .«slot_granting_element»)) o, and-left (leb b 2048) (leb b (8 * length s)) p)
+    rw (a, and-left (legalQueued m) (absentU8 (m .«slot_granting_element»)) o, and-left (leb b sduBits) (leb b (8 * length s)) p)

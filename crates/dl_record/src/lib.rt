@@ -4,6 +4,7 @@ use mac_pdus::MacResource;
 use mac_pdus::OptChanAlloc;
 use optional::OptU8;
 use optional::OptU16;
+use sizes::SDU_BITS;
 ghost use mathlib.Core.Path.{_≡_};
 ghost use Rattle.mac_pdus.specs.Legal.{legalQueued, legalOffered};
 ghost use Rattle.dl_record.specs.Record.{emptyRecord, grantRecord, ackRecord, offeredRecord, addressKindOf, resourceOf};
@@ -192,5 +193,5 @@ pub fn sdu_is_present(bits: u16, sdu: &[u8]) -> bool
     ensures { λ b. ⌜ b ≡ presentSdu bits (now (sdu .entry)) ⌝ }
 {
     let octets = (bits as usize + 7) / 8;
-    (bits <= 2048) & (octets <= sdu.len())
+    (bits as usize <= SDU_BITS) & (octets <= sdu.len())
 }

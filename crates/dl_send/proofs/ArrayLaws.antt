@@ -1,11 +1,12 @@
 -- Records with their places, and tags, as arrays hold them. Assumes nothing.
 use mathlib.Core.Path.{_≡_, refl, sym, ap, ap₂, _∙_}
 use mathlib.Core.List.{List, [], _∷_, _++_, append-nil}
-use Prim.Native.Nat.{ℕ, zero, suc, _+_, _*_, _<_, _≤_}
+use Prim.Native.Nat.{ℕ, zero, suc, _+_, _<_, _≤_}
 use native.Mathlib.Numerals.{add-one, one-add}
 use native.Mathlib.Omega.{arith}
 use lib.ListN.{length, getD, set, drop, length-append, drop-of-length-le}
 use lib.Seq.{getD-drop}
+use Rattle.sizes.specs.Sizes.{noPlace}
 use Rattle.optional.specs.declared.OptU16.{OptU16}
 use Rattle.dl_record.specs.declared.Record.{Record}
 use Rattle.dl_record.specs.Record.{emptyRecord}
@@ -45,17 +46,15 @@ listed-next n rs fs i h =
 pub listed-end : (n : ℕ) (rs : List Record) (fs : List ℕ) (i : ℕ) → n ≤ i → drop i (listed n rs fs) ≡ []
 listed-end n rs fs i h = drop-of-length-le (listed n rs fs) {i = i} (rw (length-listed n rs fs) h)
 
-all-at : (octets first : ℕ) (l : List (Item ℕ)) (i : ℕ) (x : Item ℕ) (rest : List (Item ℕ)) → AllSendable octets first l → drop i l ≡ x ∷ rest
-    → Sendable (x .rec) × (2048 * (first + x .load) + 2048 ≤ 8 * octets)
+all-at : (l : List (Item ℕ)) (i : ℕ) (x : Item ℕ) (rest : List (Item ℕ)) → AllSendable l → drop i l ≡ x ∷ rest → Sendable (x .rec)
 unfolding AllSendable
-all-at m f [] zero x rest h e = absurd (let z : _≡_ {A = ℕ} 0 (suc (length rest)) = ap length e in omega arith)
-all-at m f [] (suc i) x rest h e = absurd (let z : _≡_ {A = ℕ} 0 (suc (length rest)) = ap length e in omega arith)
-all-at m f (y ∷ l) zero x rest h e = let same : y ≡ x = cc in rw same at (h .0)
-all-at m f (y ∷ l) (suc i) x rest h e = all-at m f l i x rest (h .1) e
+all-at [] zero x rest h e = absurd (let z : _≡_ {A = ℕ} 0 (suc (length rest)) = ap length e in omega arith)
+all-at [] (suc i) x rest h e = absurd (let z : _≡_ {A = ℕ} 0 (suc (length rest)) = ap length e in omega arith)
+all-at (y ∷ l) zero x rest h e = let same : y ≡ x = cc in rw same at (h .0)
+all-at (y ∷ l) (suc i) x rest h e = all-at l i x rest (h .1) e
 
-pub sendable-at : (octets first n : ℕ) (rs : List Record) (fs : List ℕ) (i : ℕ) → AllSendable octets first (listed n rs fs) → i < n
-    → Sendable (getD rs i emptyRecord) × (2048 * (first + getD fs i 0) + 2048 ≤ 8 * octets)
-sendable-at m f n rs fs i a h = all-at m f (listed n rs fs) i (item (getD rs i emptyRecord) (getD fs i 0)) _ a (listed-next n rs fs i h)
+pub sendable-at : (n : ℕ) (rs : List Record) (fs : List ℕ) (i : ℕ) → AllSendable (listed n rs fs) → i < n → Sendable (getD rs i emptyRecord)
+sendable-at n rs fs i a h = all-at (listed n rs fs) i (item (getD rs i emptyRecord) (getD fs i 0)) _ a (listed-next n rs fs i h)
 
 -- ---- a record and a tag written behind those held
 
@@ -65,7 +64,7 @@ records-blank zero xs = refl
 records-blank (suc k) [] = refl
 records-blank (suc k) (x ∷ xs) = ap (_∷_ (x .rec)) (records-blank k xs)
 
-sources-blank : (k : ℕ) (xs : List (Item ℕ)) → set (sourcesOf k xs) (length xs) 16 ≡ sourcesOf k xs
+sources-blank : (k : ℕ) (xs : List (Item ℕ)) → set (sourcesOf k xs) (length xs) noPlace ≡ sourcesOf k xs
 unfolding sourcesOf
 sources-blank zero xs = refl
 sources-blank (suc k) [] = refl

@@ -8,6 +8,7 @@ use native.Mathlib.Omega.{arith}
 use lib.Dec.{ltb}
 use lib.ListN.{length, replicate, length-append, length-replicate}
 use borrow.Author.Tests.{ltb-true, ltb-false}
+use Rattle.sizes.specs.Sizes.{blockWidth, blockOctets}
 use Rattle.bitbuffer.specs.Bits.{bitsOf, packed, AreBits}
 use Rattle.bitbuffer.proofs.Laws.{bits-append}
 use Rattle.bitbuffer.proofs.Octets.{bitsOf-packed}
@@ -17,10 +18,11 @@ use Rattle.mac_reader.proofs.BlockRoundTrip.{block-reads-back}
 use Rattle.dl_record.specs.declared.Record.{Record}
 use Rattle.dl_queue.specs.Queue.{Item}
 use Rattle.dl_merge.proofs.MergeLaws.{All}
-use Rattle.bs_frag.specs.NextPdu.{headerSize, Next, isStarted, next, Sendable}
+use Rattle.dl_record.specs.Kind.{isStarted}
+use Rattle.bs_frag.specs.NextPdu.{headerSize, Next, next, Sendable}
 use Rattle.bs_frag.proofs.HeaderLaws.{header-bounds}
 use Rattle.bs_frag.proofs.Laws.{begin-waits, continue-waits, next-later, next-first}
-use Rattle.dl_send.specs.Send.{Sent, nullIn, sendAll, blockOf}
+use Rattle.dl_send.specs.Send.{Sent, nullIn, sendAll, blockOf, turns, readOff, roomAfter}
 use Rattle.dl_send.proofs.BitLaws.{no-bit, zeros-are-bits, one-is-bits}
 use Rattle.dl_send.proofs.SendLaws.{block-append, null-fits}
 use Rattle.dl_send.proofs.TurnLaws.{Aligned, next-turn}
@@ -48,7 +50,7 @@ no-room r sdu s = go (isStarted (r .kind)) refl
 
 module _ {C : Type 0} (sdu : C → ℕ → List ℕ) where
   pub nothing-left : (room : ℕ) (xs : List (Item C)) → All (Loaded sdu) xs → room ≡ 0 → sendAll sdu room xs .pdus ≡ []
-  unfolding sendAll
+  unfolding sendAll turns readOff roomAfter
   nothing-left room [] h z = rw z
   nothing-left room (x ∷ xs) h z =
       let s : List ℕ = sdu (x .load) (x .rec .bits) in
@@ -78,8 +80,8 @@ pub record SentWell {C : Type 0} (w at room : ℕ) (s : Sent C) : Type 0 where
   pub fits : Fits w at (s .pdus)
   pub aligned : Aligned room → Aligned (s .room)
 
-pub sent-well : {C : Type 0} (sdu : C → ℕ → List ℕ) (w at room : ℕ) (xs : List (Item C)) → at + room ≡ w → w ≤ 268 → All (Loaded sdu) xs → SentWell w at room (sendAll sdu room xs)
-unfolding sendAll
+pub sent-well : {C : Type 0} (sdu : C → ℕ → List ℕ) (w at room : ℕ) (xs : List (Item C)) → at + room ≡ w → w ≤ blockWidth → All (Loaded sdu) xs → SentWell w at room (sendAll sdu room xs)
+unfolding sendAll turns readOff roomAfter
 sent-well sdu w at room [] e width h = record { bits = null-bits (ltb room 16); size = null-fits room; fits = null-place w at room e; aligned = λ a. a }
 sent-well sdu w at room (x ∷ xs) e width h =
     let s : List ℕ = sdu (x .load) (x .rec .bits) in
@@ -97,7 +99,7 @@ sent-well sdu w at room (x ∷ xs) e width h =
 -- ---- the block
 
 -- "the last four bits zero": a built block's bits are its PDUs' and then zeros
-pub built-bits : {C : Type 0} (sdu : C → ℕ → List ℕ) (n w : ℕ) (xs : List (Item C)) → w ≤ 8 * n → w ≤ 268 → All (Loaded sdu) xs
+pub built-bits : {C : Type 0} (sdu : C → ℕ → List ℕ) (n w : ℕ) (xs : List (Item C)) → w ≤ 8 * n → w ≤ blockWidth → All (Loaded sdu) xs
     → bitsOf (blockOf n (blockBits (sendAll sdu w xs .pdus))) ≡ blockBits (sendAll sdu w xs .pdus) ++ replicate (8 * n - length (blockBits (sendAll sdu w xs .pdus))) 0
 unfolding blockOf
 built-bits sdu n w xs inside width h =
@@ -116,7 +118,7 @@ unfolding blockOf
 length-block n f = length-packed n (f ++ replicate (8 * n - length f) 0)
 
 -- a built block of n octets, read by the reader's definition, gives the headers of the PDUs that were written, at their positions
-pub built-read : {C : Type 0} (sdu : C → ℕ → List ℕ) (n : ℕ) (xs : List (Item C)) → 0 < n → n ≤ 34 → All (Loaded sdu) xs
+pub built-read : {C : Type 0} (sdu : C → ℕ → List ℕ) (n : ℕ) (xs : List (Item C)) → 0 < n → n ≤ blockOctets → All (Loaded sdu) xs
     → readBlock n (blockOf n (blockBits (sendAll sdu (8 * n - 4) xs .pdus))) ≡ replyOf (headers (placed 0 (sendAll sdu (8 * n - 4) xs .pdus)))
 built-read sdu n xs some few h =
     let w : ℕ = 8 * n - 4 in

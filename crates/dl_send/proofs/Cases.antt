@@ -3,6 +3,7 @@ use mathlib.Core.Path.{_≡_, refl}
 use mathlib.Core.List.{List, [], _∷_}
 use Prim.Native.Nat.{ℕ, _-_}
 use lib.ListN.{length, replicate}
+use Rattle.sizes.specs.Sizes.{blockWidth}
 use Rattle.bitbuffer.specs.Bits.{part}
 use Rattle.fillbits.specs.Fill.{fillBits, fromLastSet}
 use Rattle.optional.specs.declared.OptU8.{OptU8}
@@ -74,16 +75,16 @@ Holds (case room r x ∷ rows) = (seenIn room r ≡ x) × Holds rows
 -- the last MAC-END empty. Header 57, no SDU, 60 bits left: code 7."
 abbrev pub table : List Row
 table =
-    case 268 (offered 221) (to (wholeOf 33 221 0) 4 Finished)
-    ∷ case 268 (offered 222) (to (wholeOf 33 222 3) 0 Finished)
-    ∷ case 268 (offered 225) (to (wholeOf 33 225 0) 0 Finished)
-    ∷ case 268 (offered 226) (to (firstOf 63 225 0) 0 (Started 225))
-    ∷ case 268 (begun 226 225) (to (endOf 2 1 2) 252 Finished)
-    ∷ case 268 (offered 476) (to (firstOf 63 225 0) 0 (Started 225))
-    ∷ case 268 (begun 476 225) (to (endOf 33 251 0) 4 Finished)
-    ∷ case 268 (offered 477) (to (firstOf 63 225 0) 0 (Started 225))
-    ∷ case 268 (begun 477 225) (to (fragOf 0 252 12) 0 (Started 477))
-    ∷ case 268 (begun 477 477) (to (endOf 2 0 3) 252 Finished)
+    case blockWidth (offered 221) (to (wholeOf 33 221 0) 4 Finished)
+    ∷ case blockWidth (offered 222) (to (wholeOf 33 222 3) 0 Finished)
+    ∷ case blockWidth (offered 225) (to (wholeOf 33 225 0) 0 Finished)
+    ∷ case blockWidth (offered 226) (to (firstOf 63 225 0) 0 (Started 225))
+    ∷ case blockWidth (begun 226 225) (to (endOf 2 1 2) 252 Finished)
+    ∷ case blockWidth (offered 476) (to (firstOf 63 225 0) 0 (Started 225))
+    ∷ case blockWidth (begun 476 225) (to (endOf 33 251 0) 4 Finished)
+    ∷ case blockWidth (offered 477) (to (firstOf 63 225 0) 0 (Started 225))
+    ∷ case blockWidth (begun 477 225) (to (fragOf 0 252 12) 0 (Started 477))
+    ∷ case blockWidth (begun 477 477) (to (endOf 2 0 3) 252 Finished)
     ∷ case 60 wide (to (wholeOf 7 0 3) 0 Finished)
     ∷ []
 

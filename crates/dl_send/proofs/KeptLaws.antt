@@ -8,6 +8,7 @@ use lib.Dec.{leb, eqb}
 use lib.ListN.{length, length-append}
 use lib.Seq.{length-take-le}
 use borrow.Author.Tests.{leb-true, le-leb, eqb-true}
+use Rattle.sizes.specs.Sizes.{cellOctets, sduBits, blockWidth}
 use Rattle.bitbuffer.specs.Bits.{bitsOf}
 use Rattle.bitbuffer.proofs.Laws.{bits-take, bits-bitsOf, length-bitsOf}
 use Rattle.mac_pdus.specs.Legal.{legalQueued}
@@ -19,12 +20,12 @@ use Rattle.dl_record.specs.Record.{resourceOf}
 use Rattle.dl_record.specs.Questions.{legalAddress, soundAs, soundRecord}
 use Rattle.dl_queue.specs.Queue.{Item}
 use Rattle.dl_queue.specs.Questions.{soundPlace}
-use Rattle.dl_merge.specs.Merge.{isKept}
+use Rattle.dl_record.specs.Kind.{isKept, isUnderway}
 use Rattle.dl_merge.proofs.MergeLaws.{All}
 use Rattle.bs_frag.specs.NextPdu.{Next, next, Sendable}
 use Rattle.bs_frag.specs.declared.Outcome.{Outcome}
 use Rattle.bs_frag.specs.declared.Outcome.the-variants.{Finished, Waiting, Started}
-use Rattle.dl_send.specs.Send.{again, kept, isUnderway, sendAll, cellSdu}
+use Rattle.dl_send.specs.Send.{again, kept, sendAll, cellSdu, turns, readOff, roomAfter}
 use Rattle.dl_send.specs.Carried.{sentBy}
 use Rattle.dl_send.proofs.TurnLaws.{next-turn}
 use Rattle.dl_send.proofs.BlockLaws.{Loaded}
@@ -34,20 +35,20 @@ use Rattle.dl_send.proofs.BlockLaws.{Loaded}
 pub record SoundParts (r : Record) : Type 0 where
   pub address : legalAddress (r .«address_kind») (r .number) ≡ true
   pub legal : legalQueued (resourceOf r 0 0) ≡ true
-  pub bits : leb (r .bits) 2048 ≡ true
+  pub bits : leb (r .bits) sduBits ≡ true
   pub sent : r .sent ≤ r .bits
 
 parts-as : (k : Kind) (r : Record) → isKept k ≡ true → legalAddress (r .«address_kind») (r .number) ≡ true → soundAs k r ≡ true → SoundParts r
 parts-as Kind.Grant r h a e = false-not-true h
 parts-as Kind.Ack r h a e = false-not-true h
 parts-as Kind.Record r h a e =
-    let p = and3 (legalQueued (resourceOf r 0 0)) (leb (r .bits) 2048) (eqb (r .sent) 0) e in
+    let p = and3 (legalQueued (resourceOf r 0 0)) (leb (r .bits) sduBits) (eqb (r .sent) 0) e in
     record { address = a; legal = p .0; bits = p .1; sent = omega (arith, eqb-true (r .sent) 0 (p .2)) }
 parts-as Kind.Waiting r h a e =
-    let p = and3 (legalQueued (resourceOf r 0 0)) (leb (r .bits) 2048) (eqb (r .sent) 0) e in
+    let p = and3 (legalQueued (resourceOf r 0 0)) (leb (r .bits) sduBits) (eqb (r .sent) 0) e in
     record { address = a; legal = p .0; bits = p .1; sent = omega (arith, eqb-true (r .sent) 0 (p .2)) }
 parts-as Kind.Started r h a e =
-    let p = and3 (legalQueued (resourceOf r 0 0)) (leb (r .bits) 2048) (leb (r .sent) (r .bits)) e in
+    let p = and3 (legalQueued (resourceOf r 0 0)) (leb (r .bits) sduBits) (leb (r .sent) (r .bits)) e in
     record { address = a; legal = p .0; bits = p .1; sent = leb-true (r .sent) (r .bits) (p .2) }
 
 pub sound-parts : (r : Record) → isKept (r .kind) ≡ true → soundRecord r ≡ true → SoundParts r
@@ -55,7 +56,7 @@ unfolding soundRecord
 sound-parts r k e = let p = and2 (legalAddress (r .«address_kind») (r .number)) (soundAs (r .kind) r) e in parts-as (r .kind) r k (p .0) (p .1)
 
 pub parts-sendable : (r : Record) → SoundParts r → Sendable r
-parts-sendable r p = record { legal = p .legal; bits = leb-true (r .bits) 2048 (p .bits); sent = p .sent }
+parts-sendable r p = record { legal = p .legal; bits = leb-true (r .bits) sduBits (p .bits); sent = p .sent }
 
 -- and as it stays it is sound
 waiting-sound : (r : Record) → SoundParts r → soundRecord (again Kind.Waiting 0 r) ≡ true
@@ -72,7 +73,7 @@ started-sound r n p h = rw (p .address, p .legal, p .bits, le-leb n (r .bits) h)
 pub record Stored (x : Item (List ℕ)) : Type 0 where
   pub kind : isKept (x .rec .kind) ≡ true
   pub sound : soundPlace true (x .rec) (x .load) ≡ true
-  pub cell : length (x .load) ≡ 256
+  pub cell : length (x .load) ≡ cellOctets
 
 -- one that stays: "as waiting or started"
 pub record Staying (x : Item (List ℕ)) : Type 0 where
@@ -115,14 +116,14 @@ all-append P [] ys h k = k
 all-append P (x ∷ xs) ys h k = (h .0, all-append P xs ys (h .1) k)
 
 -- after a build only waiting and started records are left, and they are sound
-pub left-stays : (room : ℕ) (xs : List (Item (List ℕ))) → room ≤ 268 → All Stored xs → All Staying (sendAll cellSdu room xs .left)
-unfolding sendAll
+pub left-stays : (room : ℕ) (xs : List (Item (List ℕ))) → room ≤ blockWidth → All Stored xs → All Staying (sendAll cellSdu room xs .left)
+unfolding sendAll turns readOff roomAfter
 left-stays room [] w h = tt
 left-stays room (x ∷ xs) w h =
     let l = stored-loaded x (h .0) in
     let s : List ℕ = cellSdu (x .load) (x .rec .bits) in
     let n : Next = next room (x .rec) s in
-    let t = next-turn 268 room (x .rec) s w (omega arith) (l .sendable) (l .bits) (l .size) in
+    let t = next-turn blockWidth room (x .rec) s w (omega arith) (l .sendable) (l .bits) (l .size) in
     all-append Staying (kept (n .outcome) x) _ (kept-stays (n .outcome) x (h .0) (t .within)) (left-stays (n .room) xs (omega (arith, t .size)) (h .1))
 
 kept-few : {C : Type 0} (o : Outcome) (x : Item C) → length (kept o x) ≤ 1
@@ -132,7 +133,7 @@ kept-few (Started n) x = omega arith
 
 -- no more stay than there were
 pub left-few : {C : Type 0} (sdu : C → ℕ → List ℕ) (room : ℕ) (xs : List (Item C)) → length (sendAll sdu room xs .left) ≤ length xs
-unfolding sendAll
+unfolding sendAll turns readOff roomAfter
 left-few sdu room [] = omega arith
 left-few sdu room (x ∷ xs) =
     let n : Next = next room (x .rec) (sdu (x .load) (x .rec .bits)) in
@@ -146,7 +147,7 @@ module _ {C : Type 0} (P : C → Type 0) where
   kept-loads (Started n) x h = (h, tt)
 
   pub left-loads : (sdu : C → ℕ → List ℕ) (room : ℕ) (xs : List (Item C)) → All (λ (x : Item C). P (x .load)) xs → All (λ (x : Item C). P (x .load)) (sendAll sdu room xs .left)
-  unfolding sendAll
+  unfolding sendAll turns readOff roomAfter
   left-loads sdu room [] h = tt
   left-loads sdu room (x ∷ xs) h =
       let n : Next = next room (x .rec) (sdu (x .load) (x .rec .bits)) in

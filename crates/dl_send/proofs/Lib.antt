@@ -1,3 +1,4 @@
+pub mod StepLaws
 pub mod ArrayLaws
 pub mod SendLaws
 pub mod BitLaws

@@ -10,7 +10,8 @@ use Rattle.dl_merge.proofs.MergeLaws.{All, reload}
 use Rattle.bs_frag.specs.NextPdu.{Next, next}
 use Rattle.bs_frag.specs.declared.Outcome.{Outcome}
 use Rattle.bs_frag.specs.declared.Outcome.the-variants.{Finished, Waiting, Started}
-use Rattle.dl_send.specs.Send.{again, kept, tagsOf, Sent, andThen, sendAll}
+use Rattle.dl_send.specs.Send.{again, kept, tagsOf, Sent, sendAll, turns, readOff, roomAfter}
+use Rattle.dl_send.proofs.StepLaws.{andThen}
 
 -- a map of loads that does not look at what a turn changes of a record
 abbrev pub Steady : {C D : Type 0} → (Record → C → D) → Type 0
@@ -41,7 +42,7 @@ module _ {C D : Type 0} (f : Record → C → D) (steady : Steady f) where
   -- to send and then map the loads is to map them and then send
   pub sendAll-map : (sc : C → ℕ → List ℕ) (sd : D → ℕ → List ℕ) (room : ℕ) (xs : List (Item C)) → All (SameSdu f sc sd) xs
       → sendAll sd room (map (reload f) xs) ≡ reloadSent (sendAll sc room xs)
-  unfolding sendAll
+  unfolding sendAll turns readOff roomAfter
   sendAll-map sc sd room [] h = refl
   sendAll-map sc sd room (x ∷ xs) h =
       let n : Next = next room (x .rec) (sc (x .load) (x .rec .bits)) in

@@ -4,6 +4,7 @@ use mathlib.Core.List.{List, [], _∷_, _++_, append-assoc, append-nil}
 use Prim.Native.Nat.{ℕ, _≤_}
 use native.Mathlib.Omega.{arith}
 use lib.ListN.{length, drop, drop-of-length-le}
+use Rattle.sizes.specs.Sizes.{blockWidth}
 use Rattle.bitbuffer.specs.Bits.{AreBits}
 use Rattle.dl_merge.proofs.MergeLaws.{All}
 use Rattle.mac_reader.specs.PduList.{Pdu}
@@ -36,7 +37,7 @@ again-sendable : (k : Kind) (n : ℕ) (r : Record) → Sendable r → n ≤ r .b
 again-sendable k n r s h = record { legal = s .legal; bits = s .bits; sent = h }
 
 -- the SDU bits sent in any blocks, and those still to be sent, are what was to be sent
-pub each-once : (rooms : List ℕ) (o : Outcome) (r : Record) (sdu : List ℕ) → All (λ (room : ℕ). room ≤ 268) rooms → Sendable-SDU r sdu → sentBy o r ≤ r .bits
+pub each-once : (rooms : List ℕ) (o : Outcome) (r : Record) (sdu : List ℕ) → All (λ (room : ℕ). room ≤ blockWidth) rooms → Sendable-SDU r sdu → sentBy o r ≤ r .bits
     → carried (over rooms o r sdu .pdus) ++ drop (sentBy (over rooms o r sdu .outcome) r) sdu ≡ drop (sentBy o r) sdu
 unfolding over
 each-once [] o r sdu h s b = unfold carried in refl
@@ -44,7 +45,7 @@ each-once (room ∷ rooms) Finished r sdu h s b = unfold carried in refl
 each-once (room ∷ rooms) Waiting r sdu h s b =
     let r' : Record = again Kind.Waiting 0 r in
     let x : Next = next room r' sdu in
-    let t = next-turn 268 room r' sdu (h .0) (omega arith) (again-sendable Kind.Waiting 0 r (s .sendable) (omega arith)) (s .bits) (s .size) in
+    let t = next-turn blockWidth room r' sdu (h .0) (omega arith) (again-sendable Kind.Waiting 0 r (s .sendable) (omega arith)) (s .bits) (s .size) in
     let e = sent-again (x .outcome) Kind.Waiting 0 r in
     ap (λ (l : List ℕ). l ++ drop (sentBy (over rooms (x .outcome) r sdu .outcome) r) sdu) (carried-append (x .pdus) (over rooms (x .outcome) r sdu .pdus))
     ∙ append-assoc (carried (x .pdus)) (carried (over rooms (x .outcome) r sdu .pdus)) _
@@ -53,7 +54,7 @@ each-once (room ∷ rooms) Waiting r sdu h s b =
 each-once (room ∷ rooms) (Started n) r sdu h s b =
     let r' : Record = again Kind.Started n r in
     let x : Next = next room r' sdu in
-    let t = next-turn 268 room r' sdu (h .0) (omega arith) (again-sendable Kind.Started n r (s .sendable) b) (s .bits) (s .size) in
+    let t = next-turn blockWidth room r' sdu (h .0) (omega arith) (again-sendable Kind.Started n r (s .sendable) b) (s .bits) (s .size) in
     let e = sent-again (x .outcome) Kind.Started n r in
     ap (λ (l : List ℕ). l ++ drop (sentBy (over rooms (x .outcome) r sdu .outcome) r) sdu) (carried-append (x .pdus) (over rooms (x .outcome) r sdu .pdus))
     ∙ append-assoc (carried (x .pdus)) (carried (over rooms (x .outcome) r sdu .pdus)) _
@@ -61,7 +62,7 @@ each-once (room ∷ rooms) (Started n) r sdu h s b =
     ∙ t .once
 
 -- when a record is finished its PDUs carry its SDU
-pub finished-whole : (rooms : List ℕ) (r : Record) (sdu : List ℕ) → All (λ (room : ℕ). room ≤ 268) rooms → Sendable-SDU r sdu → over rooms Waiting r sdu .outcome ≡ Finished
+pub finished-whole : (rooms : List ℕ) (r : Record) (sdu : List ℕ) → All (λ (room : ℕ). room ≤ blockWidth) rooms → Sendable-SDU r sdu → over rooms Waiting r sdu .outcome ≡ Finished
     → carried (over rooms Waiting r sdu .pdus) ≡ sdu
 finished-whole rooms r sdu h s e =
     sym (append-nil (carried (over rooms Waiting r sdu .pdus)))

@@ -2,13 +2,14 @@
 use mathlib.Core.Path.{_≡_, refl, sym, ap, ap₂, _∙_}
 use mathlib.Core.Bool.{Bool, true, false}
 use mathlib.Core.List.{List, [], _∷_, _++_, append-assoc, append-nil}
-use Prim.Native.Nat.{ℕ, zero, suc, _+_, _-_, _*_, _^_, _<_, _≤_}
+use Prim.Native.Nat.{ℕ, zero, suc, _+_, _-_, _*_, _%_, _^_, _<_, _≤_}
 use native.Mathlib.Nat.{zero-add}
 use native.Mathlib.Omega.{arith}
 use lib.Dec.{ltb, leb}
 use lib.ListN.{length, drop, getD, set, replicate, length-append, drop-of-length-le, length-replicate, replicate-append-replicate}
 use lib.Seq.{take-all, drop-at, paste}
 use borrow.Author.Tests.{lt-ltb, le-ltb, ltb-true, ltb-false, leb-true, leb-false}
+use Rattle.sizes.specs.Sizes.{perTimeslot, noPlace}
 use Rattle.bitbuffer.specs.Bits.{bitsOf, written, packed}
 use Rattle.bitbuffer.proofs.Chunks.{valueBits-zero}
 use Rattle.bitbuffer.proofs.Laws.{written-append, length-bitsOf, written-eq}
@@ -24,8 +25,9 @@ use Rattle.bs_frag.specs.NextPdu.{Next, next, sduAt, Chunked}
 use Rattle.bs_frag.specs.declared.Outcome.{Outcome}
 use Rattle.bs_frag.specs.declared.Chunk.{Chunk}
 use Rattle.dl_send.specs.declared.Progress.{Progress}
-use Rattle.dl_send.specs.Send.{kept, tagsOf, Sent, andThen, nullIn, sendAll, blockOf}
+use Rattle.dl_send.specs.Send.{kept, tagsOf, Sent, nullIn, sendAll, blockOf}
 use Rattle.dl_send.specs.Progress.{listed, placeSdu, sentOf, tagRow, staysIn, stayedAs, stayedFrom, firstTag, WrittenAs, BuiltAs}
+use Rattle.dl_send.proofs.StepLaws.{andThen, send-none, send-next}
 use Rattle.dl_send.proofs.ArrayLaws.{listed-next, listed-end, records-step, sources-step, length-step, stays-most, tags-step}
 
 -- ---- bits of PDUs
@@ -77,11 +79,11 @@ module _ (block₀ : List ℕ) (w : ℕ) (store : List ℕ) (first : ℕ) (recor
     pub place : i ≤ n
     pub room : at ≤ w
     pub size : length block ≡ length block₀
-    pub records-held : out ≡ recordsOf 16 held
-    pub sources-held : out-from ≡ sourcesOf 16 held
+    pub records-held : out ≡ recordsOf perTimeslot held
+    pub sources-held : out-from ≡ sourcesOf perTimeslot held
     pub left-held : left ≡ length held
     pub few : left ≤ i
-    pub tags-noted : tags ≡ tagRow 16 noted
+    pub tags-noted : tags ≡ tagRow perTimeslot noted
     pub count-noted : tag-count ≡ length noted
     pub few-tags : tag-count ≤ i
     pub bits : written (bitsOf block) at (blockBits (sendAll (placeSdu store first) (w - at) (drop i (listed n records from)) .pdus)) ≡ written (bitsOf block₀) 0 (blockBits (sentOf store first w records from n .pdus))
@@ -89,7 +91,7 @@ module _ (block₀ : List ℕ) (w : ℕ) (store : List ℕ) (first : ℕ) (recor
     pub stay : held ++ sendAll (placeSdu store first) (w - at) (drop i (listed n records from)) .left ≡ sentOf store first w records from n .left
     pub tagged : noted ++ sendAll (placeSdu store first) (w - at) (drop i (listed n records from)) .tags ≡ sentOf store first w records from n .tags
 
-  pub running-start : (out : List Record) (out-from tags : List ℕ) → out ≡ replicate 16 emptyRecord → out-from ≡ replicate 16 16 → tags ≡ replicate 16 0 → Running block₀ out out-from 0 tags 0 0 0
+  pub running-start : (out : List Record) (out-from tags : List ℕ) → out ≡ replicate perTimeslot emptyRecord → out-from ≡ replicate perTimeslot noPlace → tags ≡ replicate perTimeslot 0 → Running block₀ out out-from 0 tags 0 0 0
   unfolding sentOf recordsOf sourcesOf tagRow
   running-start out out-from tags eo ef et =
       let z : w - 0 ≡ w = omega arith in
@@ -113,15 +115,6 @@ module _ (block₀ : List ℕ) (w : ℕ) (store : List ℕ) (first : ℕ) (recor
         tagged = ap (λ (y : Sent ℕ). y .tags) start;
       }
 
-  send-next : (room : ℕ) (x : Item ℕ) (xs l : List (Item ℕ)) → l ≡ x ∷ xs
-      → sendAll (placeSdu store first) room l ≡ andThen (next room (x .rec) (placeSdu store first (x .load) (x .rec .bits))) x (sendAll (placeSdu store first) (next room (x .rec) (placeSdu store first (x .load) (x .rec .bits)) .room) xs)
-  unfolding sendAll
-  send-next room x xs l e = rw e
-
-  send-none : (room : ℕ) (l : List (Item ℕ)) → l ≡ [] → sendAll (placeSdu store first) room l ≡ record { pdus = nullIn room; room = room; left = []; tags = [] }
-  unfolding sendAll
-  send-none room l e = rw e
-
   abbrev theRecord : ℕ → Record
   theRecord i = getD records i emptyRecord
 
@@ -129,8 +122,8 @@ module _ (block₀ : List ℕ) (w : ℕ) (store : List ℕ) (first : ℕ) (recor
   thePlace i = getD from i 0
 
   pub running-step : (block : List ℕ) (out : List Record) (out-from : List ℕ) (left : ℕ) (tags : List ℕ) (tag-count at i : ℕ) (m : List ℕ) (c : Chunk) (x : Record) (f t k l : ℕ)
-      → n ≤ 16 → i < n → Running block out out-from left tags tag-count at i → length m ≡ length block
-      → Chunked (bitsOf block) at w (bitsOf m) c (next (w - at) (theRecord i) (sduAt store (first + thePlace i) (theRecord i .bits)))
+      → n ≤ perTimeslot → i < n → Running block out out-from left tags tag-count at i → length m ≡ length block
+      → Chunked (bitsOf block) at w (bitsOf m) c (next (w - at) (theRecord i) (sduAt store (first + thePlace i % perTimeslot) (theRecord i .bits)))
       → x ≡ stayedAs (c .outcome) (theRecord i) → f ≡ stayedFrom (c .outcome) (thePlace i) → t ≡ firstTag (tagsOf (c .outcome) (theRecord i .tag))
       → k ≡ staysIn (c .outcome) → l ≡ length (tagsOf (c .outcome) (theRecord i .tag)) → l ≤ 1
       → Running m (set out left x) (set out-from left f) (left + k) (set tags tag-count t) (tag-count + l) (c .next) (i + 1)
@@ -141,22 +134,22 @@ module _ (block₀ : List ℕ) (w : ℕ) (store : List ℕ) (first : ℕ) (recor
       let u : Sent ℕ = rest (c .next) (i + 1) in
       let room : s .room ≡ w - c .next = omega (arith, ch .left) in
       let here : rest at i ≡ andThen s y u =
-      send-next (w - at) y _ _ (listed-next n records from i hi) ∙ ap (λ (z : ℕ). andThen s y (sendAll (placeSdu store first) z (drop (i + 1) (listed n records from)))) room
+      ap (sendAll (placeSdu store first) (w - at)) (listed-next n records from i hi) ∙ send-next (placeSdu store first) (w - at) y _ ∙ ap (λ (z : ℕ). andThen s y (sendAll (placeSdu store first) z (drop (i + 1) (listed n records from)))) room
       in
       let joined : blockBits (rest at i .pdus) ≡ blockBits (s .pdus) ++ blockBits (u .pdus) = ap (λ (z : Sent ℕ). blockBits (z .pdus)) here ∙ block-append (s .pdus) (u .pdus) in
-      let less : length (run .held) < 16 = omega (arith, run .few, run .left-held) in
-      let fewer : length (run .noted) < 16 = omega (arith, run .few-tags, run .count-noted) in
+      let less : length (run .held) < perTimeslot = omega (arith, run .few, run .left-held) in
+      let fewer : length (run .noted) < perTimeslot = omega (arith, run .few-tags, run .count-noted) in
       record {
         held = run .held ++ kept (c .outcome) y;
         noted = run .noted ++ tagsOf (c .outcome) (y .rec .tag);
         place = omega arith;
         room = omega (arith, ch .left);
         size = e ∙ run .size;
-        records-held = rw (run .records-held, run .left-held, ex) (records-step 16 (run .held) (c .outcome) y less);
-        sources-held = rw (run .sources-held, run .left-held, ef) (sources-step 16 (run .held) (c .outcome) y less);
+        records-held = rw (run .records-held, run .left-held, ex) (records-step perTimeslot (run .held) (c .outcome) y less);
+        sources-held = rw (run .sources-held, run .left-held, ef) (sources-step perTimeslot (run .held) (c .outcome) y less);
         left-held = ap₂ _+_ (run .left-held) ek ∙ sym (length-step (run .held) (c .outcome) y);
         few = omega (arith, run .few, stays-most (c .outcome));
-        tags-noted = rw (run .tags-noted, run .count-noted, et) (tags-step 16 (run .noted) (c .outcome) (y .rec .tag) fewer);
+        tags-noted = rw (run .tags-noted, run .count-noted, et) (tags-step perTimeslot (run .noted) (c .outcome) (y .rec .tag) fewer);
         count-noted = ap₂ _+_ (run .count-noted) el ∙ sym (length-append (run .noted) (tagsOf (c .outcome) (y .rec .tag)));
         few-tags = omega (arith, run .few-tags);
         bits =
@@ -175,12 +168,12 @@ module _ (block₀ : List ℕ) (w : ℕ) (store : List ℕ) (first : ℕ) (recor
       }
 
   pub running-end : (block : List ℕ) (out : List Record) (out-from : List ℕ) (left : ℕ) (tags : List ℕ) (tag-count at i : ℕ) (m : List ℕ)
-      → n ≤ 16 → n ≤ i → Running block out out-from left tags tag-count at i → w ≤ 8 * length block₀
+      → n ≤ perTimeslot → n ≤ i → Running block out out-from left tags tag-count at i → w ≤ 8 * length block₀
       → bitsOf m ≡ written (bitsOf block) at (blockBits (nullIn (w - at)))
       → WrittenAs (bitsOf block₀) (bitsOf m) (record { records = out; from = out-from; left = left; tags = tags; «tag_count» = tag-count }) (sentOf store first w records from n)
   running-end block out out-from left tags tag-count at i m n16 hi run hw e =
       let t : Sent ℕ = record { pdus = nullIn (w - at); room = w - at; left = []; tags = [] } in
-      let here : rest at i ≡ t = send-none (w - at) _ (listed-end n records from i hi) in
+      let here : rest at i ≡ t = ap (sendAll (placeSdu store first) (w - at)) (listed-end n records from i hi) ∙ send-none (placeSdu store first) (w - at) in
       let stayed : run .held ≡ sentOf store first w records from n .left =
       sym (append-nil (run .held)) ∙ ap (λ (y : Sent ℕ). run .held ++ y .left) (sym here) ∙ run .stay
       in
@@ -191,10 +184,10 @@ module _ (block₀ : List ℕ) (w : ℕ) (store : List ℕ) (first : ℕ) (recor
         bits = e ∙ ap (λ (y : Sent ℕ). written (bitsOf block) at (blockBits (y .pdus))) (sym here) ∙ run .bits;
         size = rw (length-bitsOf block₀) (omega (arith, run .total, run .room, ap (λ (y : Sent ℕ). length (blockBits (y .pdus))) here, null-fits (w - at)));
         arrays = λ j. record {
-          records = (run .records-held ∙ ap (recordsOf 16) stayed) j;
-          from = (run .sources-held ∙ ap (sourcesOf 16) stayed) j;
+          records = (run .records-held ∙ ap (recordsOf perTimeslot) stayed) j;
+          from = (run .sources-held ∙ ap (sourcesOf perTimeslot) stayed) j;
           left = (run .left-held ∙ ap length stayed) j;
-          tags = (run .tags-noted ∙ ap (tagRow 16) given) j;
+          tags = (run .tags-noted ∙ ap (tagRow perTimeslot) given) j;
           «tag_count» = (run .count-noted ∙ ap length given) j;
         };
         few = omega (arith, run .few, run .place);

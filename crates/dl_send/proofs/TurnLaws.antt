@@ -10,6 +10,7 @@ use lib.Dec.{leb, ltb}
 use lib.ListN.{length, take, drop, length-append, length-drop, drop-of-length-le, take-append-drop}
 use lib.Seq.{length-take-le, take-all, drop-drop}
 use borrow.Author.Tests.{ltb-true, ltb-false, leb-true, leb-false}
+use Rattle.sizes.specs.Sizes.{blockWidth}
 use Rattle.bitbuffer.specs.Bits.{part, AreBits}
 use Rattle.bitbuffer.proofs.Laws.{bits-take, bits-drop, length-part, length-valueBits}
 use Rattle.fillbits.specs.Fill.{fillWanted, fillBits}
@@ -18,7 +19,8 @@ use Rattle.mac_pdus.specs.Headers.{headerBits, resourceBits, fragBits, endBits}
 use Rattle.mac_pdus.specs.Legal.{onAir}
 use Rattle.mac_reader.specs.PduList.{Pdu, header, body, pduBits, blockBits, Fits}
 use Rattle.dl_record.specs.declared.Record.{Record}
-use Rattle.bs_frag.specs.NextPdu.{fillFlag, headerOf, headerSize, wholePdu, firstPdu, fragPdu, endPdu, endOctets, Next, begin, continue, isStarted, next, Sendable}
+use Rattle.dl_record.specs.Kind.{isStarted}
+use Rattle.bs_frag.specs.NextPdu.{fillFlag, headerOf, headerSize, wholePdu, firstPdu, fragPdu, endPdu, endOctets, Next, begin, continue, next, Sendable}
 use Rattle.bs_frag.specs.declared.Outcome.{Outcome}
 use Rattle.bs_frag.specs.declared.Outcome.the-variants.{Waiting, Started}
 use Rattle.bs_frag.proofs.HeaderLaws.{header-bits, header-bounds, header-taken, header-address}
@@ -31,7 +33,7 @@ abbrev pub Aligned : ℕ → Type 0
 Aligned n = (n ≡ 0) ⊎ (n % 8 ≡ 4)
 
 -- what a turn of a record with `from` bits sent leaves, in a block of w bits with `room` left
-pub record Turn (w room from : ℕ) (r : Record) (sdu : List ℕ) (x : Next) : Type 0 where
+pub record SoundTurn (w room from : ℕ) (r : Record) (sdu : List ℕ) (x : Next) : Type 0 where
   -- it writes bits
   pub bits : AreBits (blockBits (x .pdus))
   -- as many as the room loses
@@ -44,8 +46,8 @@ pub record Turn (w room from : ℕ) (r : Record) (sdu : List ℕ) (x : Next) : T
   -- no more is sent than there is
   pub within : sentBy (x .outcome) r ≤ r .bits
 
-turn-as : {w room from : ℕ} {r : Record} {sdu : List ℕ} {x y : Next} → x ≡ y → Turn w room from r sdu y → Turn w room from r sdu x
-turn-as {w} {room} {from} {r} {sdu} e h = subst (λ (z : Next). Turn w room from r sdu z) (sym e) h
+turn-as : {w room from : ℕ} {r : Record} {sdu : List ℕ} {x y : Next} → x ≡ y → SoundTurn w room from r sdu y → SoundTurn w room from r sdu x
+turn-as {w} {room} {from} {r} {sdu} e h = subst (λ (z : Next). SoundTurn w room from r sdu z) (sym e) h
 
 -- ---- one PDU
 
@@ -146,11 +148,11 @@ end-octets rest = omega arith
 
 -- ---- the six ways
 
-module _ (w room : ℕ) (r : Record) (sdu : List ℕ) (few : room ≤ w) (width : w ≤ 268) (sendable : Sendable r) (are : AreBits sdu) (long : length sdu ≡ r .bits) where
+module _ (w room : ℕ) (r : Record) (sdu : List ℕ) (few : room ≤ w) (width : w ≤ blockWidth) (sendable : Sendable r) (are : AreBits sdu) (long : length sdu ≡ r .bits) where
   bounds : (43 ≤ headerSize r) × (headerSize r ≤ 88)
   bounds = header-bounds r (sendable .legal)
 
-  nothing : (from : ℕ) (o : Outcome) → sentBy o r ≡ from → from ≤ r .bits → Turn w room from r sdu (record { pdus = []; room = room; outcome = o })
+  nothing : (from : ℕ) (o : Outcome) → sentBy o r ≡ from → from ≤ r .bits → SoundTurn w room from r sdu (record { pdus = []; room = room; outcome = o })
   nothing from o e b =
       record {
         bits = no-bits;
@@ -161,7 +163,7 @@ module _ (w room : ℕ) (r : Record) (sdu : List ℕ) (few : room ≤ w) (width 
         within = omega arith;
       }
 
-  whole-turn : headerSize r + r .bits ≤ room → Turn w room 0 r sdu (begin room r sdu)
+  whole-turn : headerSize r + r .bits ≤ room → SoundTurn w room 0 r sdu (begin room r sdu)
   unfolding Fits
   whole-turn i =
       let n : ℕ = headerSize r + r .bits in
@@ -192,7 +194,7 @@ module _ (w room : ℕ) (r : Record) (sdu : List ℕ) (few : room ≤ w) (width 
         within = omega arith;
       })
 
-  first-turn : room < headerSize r + r .bits → 32 ≤ room → headerSize r ≤ room → Turn w room 0 r sdu (begin room r sdu)
+  first-turn : room < headerSize r + r .bits → 32 ≤ room → headerSize r ≤ room → SoundTurn w room 0 r sdu (begin room r sdu)
   unfolding Fits
   first-turn i j k =
       let m : ℕ = room - headerSize r in
@@ -218,7 +220,7 @@ module _ (w room : ℕ) (r : Record) (sdu : List ℕ) (few : room ≤ w) (width 
         within = omega arith;
       })
 
-  end-turn : endOctets (r .bits - r .sent) * 8 ≤ room → Turn w room (r .sent) r sdu (continue room r sdu)
+  end-turn : endOctets (r .bits - r .sent) * 8 ≤ room → SoundTurn w room (r .sent) r sdu (continue room r sdu)
   unfolding part Fits
   end-turn i =
       let rest : ℕ = r .bits - r .sent in
@@ -252,7 +254,7 @@ module _ (w room : ℕ) (r : Record) (sdu : List ℕ) (few : room ≤ w) (width 
         within = omega arith;
       })
 
-  frag-turn : room < endOctets (r .bits - r .sent) * 8 → 16 ≤ room → Turn w room (r .sent) r sdu (continue room r sdu)
+  frag-turn : room < endOctets (r .bits - r .sent) * 8 → 16 ≤ room → SoundTurn w room (r .sent) r sdu (continue room r sdu)
   unfolding part Fits
   frag-turn i j =
       let rest : ℕ = r .bits - r .sent in
@@ -273,26 +275,26 @@ module _ (w room : ℕ) (r : Record) (sdu : List ℕ) (few : room ≤ w) (width 
         within = omega arith;
       })
 
-  pub begin-turn : Turn w room 0 r sdu (begin room r sdu)
+  pub begin-turn : SoundTurn w room 0 r sdu (begin room r sdu)
   begin-turn = go (leb (headerSize r + r .bits) room) refl
     where
-      start : room < headerSize r + r .bits → (b : Bool) → ltb room 32 ≡ b → (c : Bool) → ltb room (headerSize r) ≡ c → Turn w room 0 r sdu (begin room r sdu)
+      start : room < headerSize r + r .bits → (b : Bool) → ltb room 32 ≡ b → (c : Bool) → ltb room (headerSize r) ≡ c → SoundTurn w room 0 r sdu (begin room r sdu)
       start i true e c f = turn-as (begin-waits room r sdu (headerSize r) refl i (inl (ltb-true room 32 e))) (nothing 0 Waiting refl (omega arith))
       start i false e true f = turn-as (begin-waits room r sdu (headerSize r) refl i (inr (ltb-true room (headerSize r) f))) (nothing 0 Waiting refl (omega arith))
       start i false e false f = first-turn i (ltb-false room 32 e) (ltb-false room (headerSize r) f)
 
-      go : (b : Bool) → leb (headerSize r + r .bits) room ≡ b → Turn w room 0 r sdu (begin room r sdu)
+      go : (b : Bool) → leb (headerSize r + r .bits) room ≡ b → SoundTurn w room 0 r sdu (begin room r sdu)
       go true e = whole-turn (leb-true (headerSize r + r .bits) room e)
       go false e = start (leb-false (headerSize r + r .bits) room e) (ltb room 32) refl (ltb room (headerSize r)) refl
 
-  pub continue-turn : Turn w room (r .sent) r sdu (continue room r sdu)
+  pub continue-turn : SoundTurn w room (r .sent) r sdu (continue room r sdu)
   continue-turn = go (leb (endOctets (r .bits - r .sent) * 8) room) refl
     where
-      on : room < endOctets (r .bits - r .sent) * 8 → (b : Bool) → ltb room 16 ≡ b → Turn w room (r .sent) r sdu (continue room r sdu)
+      on : room < endOctets (r .bits - r .sent) * 8 → (b : Bool) → ltb room 16 ≡ b → SoundTurn w room (r .sent) r sdu (continue room r sdu)
       on i true e = turn-as (continue-waits room r sdu (r .bits - r .sent) refl i (ltb-true room 16 e)) (nothing (r .sent) (Started (r .sent)) refl (sendable .sent))
       on i false e = frag-turn i (ltb-false room 16 e)
 
-      go : (b : Bool) → leb (endOctets (r .bits - r .sent) * 8) room ≡ b → Turn w room (r .sent) r sdu (continue room r sdu)
+      go : (b : Bool) → leb (endOctets (r .bits - r .sent) * 8) room ≡ b → SoundTurn w room (r .sent) r sdu (continue room r sdu)
       go true e = end-turn (leb-true (endOctets (r .bits - r .sent) * 8) room e)
       go false e = on (leb-false (endOctets (r .bits - r .sent) * 8) room e) (ltb room 16) refl
 
@@ -301,10 +303,10 @@ abbrev pub sentBefore : Bool → Record → ℕ
 sentBefore true r = r .sent
 sentBefore false r = 0
 
-pub next-turn : (w room : ℕ) (r : Record) (sdu : List ℕ) → room ≤ w → w ≤ 268 → Sendable r → AreBits sdu → length sdu ≡ r .bits
-    → Turn w room (sentBefore (isStarted (r .kind)) r) r sdu (next room r sdu)
+pub next-turn : (w room : ℕ) (r : Record) (sdu : List ℕ) → room ≤ w → w ≤ blockWidth → Sendable r → AreBits sdu → length sdu ≡ r .bits
+    → SoundTurn w room (sentBefore (isStarted (r .kind)) r) r sdu (next room r sdu)
 next-turn w room r sdu few width sendable are long = go (isStarted (r .kind)) refl
   where
-    go : (b : Bool) → isStarted (r .kind) ≡ b → Turn w room (sentBefore b r) r sdu (next room r sdu)
+    go : (b : Bool) → isStarted (r .kind) ≡ b → SoundTurn w room (sentBefore b r) r sdu (next room r sdu)
     go true e = turn-as (next-later room r sdu e) (continue-turn w room r sdu few width sendable are long)
     go false e = turn-as (next-first room r sdu e) (begin-turn w room r sdu few width sendable are long)

@@ -1,8 +1,9 @@
 -- What the sending loop works on: arrays of records with their places, and what they hold in the end. Assumes nothing.
 use mathlib.Core.Path.{_≡_}
 use mathlib.Core.List.{List, [], _∷_}
-use Prim.Native.Nat.{ℕ, zero, suc, _+_, _*_, _^_, _<_, _≤_}
+use Prim.Native.Nat.{ℕ, zero, suc, _+_, _*_, _%_, _^_, _<_, _≤_}
 use lib.ListN.{length, getD, drop}
+use Rattle.sizes.specs.Sizes.{perTimeslot, noPlace, cellOctets, timeslotOctets, blockWidth}
 use Rattle.bitbuffer.specs.Bits.{written}
 use Rattle.mac_reader.specs.PduList.{blockBits}
 use Rattle.dl_record.specs.declared.Kind.{Kind}
@@ -21,9 +22,9 @@ unfoldable pub listed : ℕ → List Record → List ℕ → List (Item ℕ)
 listed zero rs fs = []
 listed (suc n) rs fs = item (getD rs 0 emptyRecord) (getD fs 0 0) ∷ listed n (drop 1 rs) (drop 1 fs)
 
--- the SDU of the record at a place of a timeslot whose first place is `first`
+-- the SDU of a record that comes from a place of the timeslot whose first place is `first`; one that comes from none has no bits, whatever cell is read
 unfoldable pub placeSdu : List ℕ → ℕ → ℕ → ℕ → List ℕ
-placeSdu store first place n = sduAt store (first + place) n
+placeSdu store first place n = sduAt store (first + place % perTimeslot) n
 
 -- what the first n records come to
 unfoldable pub sentOf : List ℕ → ℕ → ℕ → List Record → List ℕ → ℕ → Sent ℕ
@@ -40,7 +41,7 @@ tagRow (suc k) (t ∷ ts) = t ∷ tagRow k ts
 -- what stays, empty records behind it; and the tags
 abbrev pub progressOf : Sent ℕ → Progress
 progressOf s =
-    record { records = recordsOf 16 (s .left); from = sourcesOf 16 (s .left); left = length (s .left); tags = tagRow 16 (s .tags); «tag_count» = length (s .tags) }
+    record { records = recordsOf perTimeslot (s .left); from = sourcesOf perTimeslot (s .left); left = length (s .left); tags = tagRow perTimeslot (s .tags); «tag_count» = length (s .tags) }
 
 -- each record is written behind those that stay, and counted or not: one that is finished as the empty record
 abbrev pub staysIn : Outcome → ℕ
@@ -54,7 +55,7 @@ stayedAs Waiting r = again Kind.Waiting 0 r
 stayedAs (Started n) r = again Kind.Started n r
 
 abbrev pub stayedFrom : Outcome → ℕ → ℕ
-stayedFrom Finished p = 16
+stayedFrom Finished p = noPlace
 stayedFrom Waiting p = p
 stayedFrom (Started n) p = p
 
@@ -65,32 +66,32 @@ firstTag (t ∷ ts) = t
 
 -- ---- the contract
 
--- each record can be sent, and its place is one of the store
-unfoldable pub AllSendable : ℕ → ℕ → List (Item ℕ) → Type 0
-AllSendable octets first [] = Unit
-AllSendable octets first (x ∷ xs) = (Sendable (x .rec) × (2048 * (first + x .load) + 2048 ≤ 8 * octets)) × AllSendable octets first xs
+-- each record can be sent
+unfoldable pub AllSendable : List (Item ℕ) → Type 0
+AllSendable [] = Unit
+AllSendable (x ∷ xs) = Sendable (x .rec) × AllSendable xs
 
--- a block of w bits in so many octets, a store, and records with their places
+-- a block of w bits in so many octets, a store with the cells of a timeslot, and records with their places
 pub record CanSend (octets w : ℕ) (store : List ℕ) (first : ℕ) (records : List Record) (from : List ℕ) (n : ℕ) : Type 0 where
-  pub count : n ≤ 16
-  pub timeslot : first ≤ 48
-  pub width : w ≤ 268
+  pub count : n ≤ perTimeslot
+  pub width : w ≤ blockWidth
   pub inside : w ≤ 8 * octets
   pub bounded : 8 * octets < 2 ^ 64
+  pub cells : cellOctets * first + timeslotOctets ≤ length store
   pub stored : 8 * length store < 2 ^ 64
-  pub all : AllSendable (length store) first (listed n records from)
+  pub all : AllSendable (listed n records from)
 
 -- the block as built, and the arrays as they are left
 pub record BuiltAs (octets : ℕ) (b : List ℕ) (p : Progress) (s : Sent ℕ) : Type 0 where
   pub block : b ≡ blockOf octets (blockBits (s .pdus))
   pub arrays : p ≡ progressOf s
-  pub few : p .left ≤ 16
-  pub few-tags : p .«tag_count» ≤ 16
+  pub few : p .left ≤ perTimeslot
+  pub few-tags : p .«tag_count» ≤ perTimeslot
 
 -- the same with the bits written over those of l, from 0 on
 pub record WrittenAs (l m : List ℕ) (p : Progress) (s : Sent ℕ) : Type 0 where
   pub bits : m ≡ written l 0 (blockBits (s .pdus))
   pub size : length (blockBits (s .pdus)) ≤ length l
   pub arrays : p ≡ progressOf s
-  pub few : p .left ≤ 16
-  pub few-tags : p .«tag_count» ≤ 16
+  pub few : p .left ≤ perTimeslot
+  pub few-tags : p .«tag_count» ≤ perTimeslot

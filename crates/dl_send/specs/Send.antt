@@ -1,6 +1,6 @@
 -- A list of records sent in a block, one after another, and then the null PDU: document 01, section "Block". A record goes with a load by which its SDU
 -- is known: its cell, the place that it stands at, or its SDU with the name of its grant. Assumes nothing.
-use mathlib.Core.Bool.{Bool, true, false, cond}
+use mathlib.Core.Bool.{cond}
 use mathlib.Core.List.{List, [], _∷_, _++_}
 use Prim.Native.Nat.{ℕ, _-_, _*_}
 use lib.Dec.{ltb}
@@ -25,13 +25,6 @@ kept Finished x = []
 kept Waiting x = item (again Kind.Waiting 0 (x .rec)) (x .load) ∷ []
 kept (Started n) x = item (again Kind.Started n (x .rec)) (x .load) ∷ []
 
-abbrev pub isUnderway : Kind → Bool
-isUnderway Kind.Grant = false
-isUnderway Kind.Ack = false
-isUnderway Kind.Record = false
-isUnderway Kind.Waiting = true
-isUnderway Kind.Started = true
-
 abbrev pub tagIn : OptU16 → List ℕ
 tagIn OptU16.Absent = []
 tagIn (OptU16.Of t) = t ∷ []
@@ -42,6 +35,38 @@ tagsOf Finished t = tagIn t
 tagsOf Waiting t = []
 tagsOf (Started n) t = []
 
+-- "If 16 bits or more are left, a null PDU (octets 00 10 hexadecimal) follows."
+abbrev pub nullIn : ℕ → List Pdu
+nullIn room = cond (ltb room 16) [] (null ∷ [])
+
+-- ---- turns
+
+-- a record's turn: the record as it is taken, and its PDUs, the room behind them and what becomes of it
+pub record Turn (C : Type 0) : Type 0 where
+  pub taken : Item C
+  pub next : Next
+
+-- sdu c n is the SDU, of n bits, that a load c stands for
+module _ {C : Type 0} (sdu : C → ℕ → List ℕ) where
+  abbrev pub turn : ℕ → Item C → Next
+  turn room x = next room (x .rec) (sdu (x .load) (x .rec .bits))
+
+  -- one record after another, each in the room that the one before left
+  unfoldable pub turns : ℕ → List (Item C) → List (Turn C)
+  turns room [] = []
+  turns room (x ∷ xs) = let s : Next = turn room x in record { taken = x; next = s } ∷ turns (s .room) xs
+
+-- ---- what is read off the turns in a room
+
+-- of each turn a list, one after another; the last is of the room that is left
+unfoldable pub readOff : {C A : Type 0} → (Turn C → List A) → (ℕ → List A) → ℕ → List (Turn C) → List A
+readOff each end room [] = end room
+readOff each end room (t ∷ ts) = each t ++ readOff each end (t .next .room) ts
+
+unfoldable pub roomAfter : {C : Type 0} → ℕ → List (Turn C) → ℕ
+roomAfter room [] = room
+roomAfter room (t ∷ ts) = roomAfter (t .next .room) ts
+
 -- what a list of records comes to: the PDUs, the room behind them, what stays "in the order taken", and the tags
 pub record Sent (C : Type 0) : Type 0 where
   pub pdus : List Pdu
@@ -49,22 +74,17 @@ pub record Sent (C : Type 0) : Type 0 where
   pub left : List (Item C)
   pub tags : List ℕ
 
-abbrev pub andThen : {C : Type 0} → Next → Item C → Sent C → Sent C
-andThen s x t =
-    record { pdus = s .pdus ++ t .pdus; room = t .room; left = kept (s .outcome) x ++ t .left; tags = tagsOf (s .outcome) (x .rec .tag) ++ t .tags }
+abbrev pub sentIn : {C : Type 0} → ℕ → List (Turn C) → Sent C
+sentIn room ts =
+    record {
+      pdus = readOff (λ t. t .next .pdus) nullIn room ts;
+      room = roomAfter room ts;
+      left = readOff (λ t. kept (t .next .outcome) (t .taken)) (λ r. []) room ts;
+      tags = readOff (λ t. tagsOf (t .next .outcome) (t .taken .rec .tag)) (λ r. []) room ts;
+    }
 
--- "If 16 bits or more are left, a null PDU (octets 00 10 hexadecimal) follows."
-abbrev pub nullIn : ℕ → List Pdu
-nullIn room = cond (ltb room 16) [] (null ∷ [])
-
--- sdu c n is the SDU, of n bits, that a load c stands for
-module _ {C : Type 0} (sdu : C → ℕ → List ℕ) where
-  abbrev pub turn : ℕ → Item C → Next
-  turn room x = next room (x .rec) (sdu (x .load) (x .rec .bits))
-
-  unfoldable pub sendAll : ℕ → List (Item C) → Sent C
-  sendAll room [] = record { pdus = nullIn room; room = room; left = []; tags = [] }
-  sendAll room (x ∷ xs) = let s : Next = turn room x in andThen s x (sendAll (s .room) xs)
+unfoldable pub sendAll : {C : Type 0} → (C → ℕ → List ℕ) → ℕ → List (Item C) → Sent C
+sendAll sdu room xs = sentIn room (turns sdu room xs)
 
 -- ---- the loads
 

@@ -10,13 +10,15 @@ use bs_frag::Outcome;
 use dl_record::Kind;
 use dl_record::Record;
 use optional::OptU16;
+use sizes::NO_PLACE;
+use sizes::PER_TIMESLOT;
 
 // What stays, with the places that it comes from, and the tags of what is finished.
 pub struct Progress {
-    pub records: [Record; 16],
-    pub from: [u8; 16],
+    pub records: [Record; PER_TIMESLOT],
+    pub from: [u8; PER_TIMESLOT],
     pub left: usize,
-    pub tags: [u16; 16],
+    pub tags: [u16; PER_TIMESLOT],
     pub tag_count: usize,
 }
 
@@ -58,12 +60,12 @@ fn stayed(outcome: Outcome, r: Record) -> Record
     }
 }
 
-// The place of a record that stays, 16 if it does not.
+// The place of a record that stays, none if it does not.
 fn stayed_from(outcome: Outcome, place: u8) -> u8
     ensures { λ x. ⌜ x ≡ stayedFrom outcome place ⌝ }
 {
     match outcome {
-        Outcome::Finished => 16,
+        Outcome::Finished => NO_PLACE,
         Outcome::Waiting => place,
         Outcome::Started(_) => place,
     }
@@ -114,24 +116,25 @@ fn send_all(
     w: usize,
     store: &[u8],
     first: usize,
-    records: [Record; 16],
-    from: [u8; 16],
+    records: [Record; PER_TIMESLOT],
+    from: [u8; PER_TIMESLOT],
     n: usize,
 ) -> Progress
     requires { ⌜ CanSend (length (now block)) w (now store) first records from n ⌝ }
     ensures { λ p. ⌜ WrittenAs (bitsOf (now (block .entry))) (bitsOf (now (block .exit))) p (sentOf (now (store .entry)) first w records from n) ⌝ }
 {
-    let mut out = [Record::EMPTY; 16];
-    let mut out_from = [16u8; 16];
+    let mut out = [Record::EMPTY; PER_TIMESLOT];
+    let mut out_from = [NO_PLACE; PER_TIMESLOT];
     let mut left = 0;
-    let mut tags = [0u16; 16];
+    let mut tags = [0u16; PER_TIMESLOT];
     let mut tag_count = 0;
     let mut at = 0;
     let mut i = 0;
     while i < n {
         let r = records[i];
         let place = from[i];
-        let chunk = next_chunk::get_next_chunk(block, at, w, store, first + place as usize, r);
+        let cell = first + place as usize % PER_TIMESLOT;
+        let chunk = next_chunk::get_next_chunk(block, at, w, store, cell, r);
         let outcome = chunk.outcome;
         let tag = r.tag;
         out[left] = stayed(outcome, r);
@@ -158,8 +161,8 @@ pub fn build_records(
     w: usize,
     store: &[u8],
     first: usize,
-    records: [Record; 16],
-    from: [u8; 16],
+    records: [Record; PER_TIMESLOT],
+    from: [u8; PER_TIMESLOT],
     n: usize,
 ) -> Progress
     requires { ⌜ CanSend (length (now block)) w (now store) first records from n ⌝ }

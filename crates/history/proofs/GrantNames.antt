@@ -21,14 +21,19 @@ use Rattle.dl_queue.specs.Queue.{Item}
 use Rattle.dl_merge.specs.Merge.{mergeNamed}
 use Rattle.dl_merge.proofs.MergeLaws.{All}
 use Rattle.dl_merge.proofs.NameLaws.{Tied, merge-tied}
-use Rattle.bs_frag.specs.NextPdu.{fillFlag, headerOf, headerSize, Next, beginWith, begin, continue, isStarted, next, endOctets}
+use Rattle.dl_record.specs.Kind.{isStarted}
+use Rattle.bs_frag.specs.NextPdu.{fillFlag, headerOf, headerSize, Next, beginWith, begin, continue, next, endOctets}
 use Rattle.bs_frag.specs.declared.Outcome.{Outcome}
 use Rattle.bs_frag.specs.declared.Outcome.the-variants.{Finished, Waiting, Started}
-use Rattle.dl_send.specs.Send.{kept, nullIn, turn, sendAll}
+use Rattle.dl_send.specs.Send.{kept, nullIn, turn, sendAll, turns, readOff, roomAfter}
 use Rattle.dl_send.proofs.KeptLaws.{all-append}
 use Rattle.dl_build.specs.Build.{inOrder, buildList}
 use Rattle.dl_build.proofs.OrderLaws.{order-all}
-use Rattle.history.specs.Model.{NamedSdu, namedSdu, namedBuilt, nameIn, namesSent}
+use Rattle.history.specs.Model.{NamedSdu, namedSdu, namedBuilt, nameIn, namesIn}
+
+-- the names of the PDUs that a list of records comes to
+abbrev pub sentNames : ℕ → List (Item NamedSdu) → List (Option ℕ)
+sentNames room xs = namesIn room (turns namedSdu room xs)
 
 -- ---- two lists, element by element
 
@@ -145,12 +150,12 @@ module _ (R : ℕ → OptU8 → Option ℕ → Type 0) (bare : (n : ℕ) → R n
       go true = tt
       go false = (bare _, tt)
 
-  pdus-tied : (room : ℕ) (xs : List (Item NamedSdu)) → All (Tied R) xs → Along (GrantIn R) (sendAll namedSdu room xs .pdus) (namesSent room xs)
-  unfolding sendAll namesSent
+  pdus-tied : (room : ℕ) (xs : List (Item NamedSdu)) → All (Tied R) xs → Along (GrantIn R) (sendAll namedSdu room xs .pdus) (sentNames room xs)
+  unfolding sendAll turns readOff roomAfter
   pdus-tied room [] h = along-map (GrantIn R) (nameIn none) (nullIn room) (null-in room)
   pdus-tied room (x ∷ xs) h =
       let s : Next = turn namedSdu room x in
-      along-append (GrantIn R) (s .pdus) (sendAll namedSdu (s .room) xs .pdus) (map (nameIn (x .load .name)) (s .pdus)) (namesSent (s .room) xs)
+      along-append (GrantIn R) (s .pdus) (sendAll namedSdu (s .room) xs .pdus) (map (nameIn (x .load .name)) (s .pdus)) (sentNames (s .room) xs)
       (along-map (GrantIn R) (nameIn (x .load .name)) (s .pdus) (next-in room (x .rec) (x .load .sdu) (x .load .name) (h .0))) (pdus-tied (s .room) xs (h .1))
 
 module _ (R : ℕ → OptU8 → Option ℕ → Type 0) where
@@ -162,7 +167,7 @@ module _ (R : ℕ → OptU8 → Option ℕ → Type 0) where
   kept-tied (Started n) x k = (k, tt)
 
   left-tied : (room : ℕ) (xs : List (Item NamedSdu)) → All (Tied R) xs → All (Tied R) (sendAll namedSdu room xs .left)
-  unfolding sendAll
+  unfolding sendAll turns readOff roomAfter
   left-tied room [] h = tt
   left-tied room (x ∷ xs) h =
       let s : Next = turn namedSdu room x in
@@ -178,6 +183,6 @@ module _ (R : ℕ → OptU8 → Option ℕ → Type 0) where
   built-left xs h = left-tied blockWidth (inOrder (mergeNamed [] xs)) (merged-tied xs h)
 
   pub built-tied : ((n : ℕ) → R n OptU8.Absent none) → (xs : List (Item NamedSdu)) → All (Tied R) xs
-      → Along (GrantIn R) (namedBuilt xs .pdus) (namesSent blockWidth (inOrder (mergeNamed [] xs)))
+      → Along (GrantIn R) (namedBuilt xs .pdus) (sentNames blockWidth (inOrder (mergeNamed [] xs)))
   unfolding namedBuilt buildList
   built-tied bare xs h = pdus-tied R bare blockWidth (inOrder (mergeNamed [] xs)) (merged-tied xs h)

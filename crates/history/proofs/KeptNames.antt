@@ -14,16 +14,17 @@ use Rattle.optional.proofs.Tests.{and-left, and-right}
 use Rattle.uplink.proofs.Basics.{not-both}
 use Rattle.dl_record.specs.declared.Kind.{Kind}
 use Rattle.dl_record.specs.declared.Record.{Record}
-use Rattle.dl_record.specs.Questions.{isGrant}
+use Rattle.dl_record.specs.Kind.{isGrant, isGrantOrAck, isKept, isRecord, isStarted, isUnderway}
 use Rattle.dl_queue.specs.Queue.{Item, item}
-use Rattle.dl_merge.specs.Merge.{isGrantOrAck, isKept, isRecord, joined, takes, only, put, puts, merge, nameAfter, freshName, joinName, mergeNamed}
+use Rattle.dl_merge.specs.Merge.{joined, takes, only, put, puts, merge, nameAfter, freshName, joinName, mergeNamed}
 use Rattle.dl_merge.proofs.MergeLaws.{All}
-use Rattle.bs_frag.specs.NextPdu.{headerSize, Next, beginWith, begin, isStarted, next}
+use Rattle.bs_frag.specs.NextPdu.{headerSize, Next, beginWith, begin, next}
 use Rattle.bs_frag.proofs.Laws.{next-first}
 use Rattle.bs_frag.specs.declared.Outcome.the-variants.{Waiting}
-use Rattle.dl_send.specs.Send.{kept, isUnderway, turn, sendAll}
+use Rattle.dl_send.specs.Send.{kept, turn, sendAll, turns, readOff, roomAfter}
 use Rattle.dl_build.specs.Build.{inOrder, buildList}
-use Rattle.history.specs.Model.{NamedSdu, namedSdu, namedBuilt, nameIn, namesSent, pendingAs, pending, replaces}
+use Rattle.history.proofs.GrantNames.{sentNames}
+use Rattle.history.specs.Model.{NamedSdu, namedSdu, namedBuilt, nameIn, pendingAs, pending, replaces}
 
 -- ---- some element of a list
 
@@ -219,8 +220,8 @@ module _ (number name : ℕ) where
   one-sent s x names left n e (inr o) = inr (rw o (inl (record { its-kind = refl; its-number = n; its-name = e })))
 
   send-keeps : (kind : Kind) → isStarted kind ≡ false → (room : ℕ) (xs : List (Item NamedSdu)) → Any (Has kind number name) xs
-      → Fate (namesSent room xs) (sendAll namedSdu room xs .left)
-  unfolding namesSent sendAll
+      → Fate (sentNames room xs) (sendAll namedSdu room xs .left)
+  unfolding sendAll turns readOff roomAfter
   send-keeps kind b room [] h = absurd h
   send-keeps kind b room (x ∷ xs) (inl h) =
       one-sent (turn namedSdu room x) x _ _ (h .its-number) (h .its-name) (first-writes room (x .rec) (x .load .sdu) (x .load .name) (rw (h .its-kind) b))
@@ -233,7 +234,7 @@ module _ (number name : ℕ) where
   -- ---- a build
 
   order-keeps : (xs : List (Item NamedSdu)) → Any (Has Kind.Record number name) xs ⊎ Any (Has Kind.Waiting number name) xs
-      → Fate (namesSent blockWidth (inOrder xs)) (sendAll namedSdu blockWidth (inOrder xs) .left)
+      → Fate (sentNames blockWidth (inOrder xs)) (sendAll namedSdu blockWidth (inOrder xs) .left)
   unfolding inOrder
   order-keeps xs (inl h) =
       send-keeps Kind.Record refl blockWidth _
@@ -249,7 +250,7 @@ module _ (number name : ℕ) where
 
 pub build-keeps : (front back : List (Item NamedSdu)) (g : Item NamedSdu) (name : ℕ) → pending g ≡ some name
     → ((y : Item NamedSdu) → List·Memᴰ y back → replaces y g ≡ false)
-    → List·Memᴰ (some name) (namesSent blockWidth (inOrder (mergeNamed [] (front ++ g ∷ back))))
+    → List·Memᴰ (some name) (sentNames blockWidth (inOrder (mergeNamed [] (front ++ g ∷ back))))
     ⊎ List·Memᴰ (some name) (map pending (namedBuilt (front ++ g ∷ back) .left))
 unfolding namedBuilt buildList
 build-keeps front back g name e k =

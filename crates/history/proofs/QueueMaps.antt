@@ -7,7 +7,7 @@ use Rattle.sizes.specs.Sizes.{blockWidth}
 use Rattle.dl_record.specs.declared.Record.{Record}
 use Rattle.dl_queue.specs.Queue.{Item}
 use Rattle.dl_merge.specs.Merge.{merge, always, keep, mergeCells, mergeNamed}
-use Rattle.dl_merge.proofs.MergeLaws.{All, reload, sduBits, merge-sdus, unnamed, merge-unnamed}
+use Rattle.dl_merge.proofs.MergeLaws.{All, reload, sduInCell, merge-sdus, unnamed, merge-unnamed}
 use Rattle.dl_send.specs.Send.{Sent, cellSdu}
 use Rattle.dl_send.proofs.MapLaws.{Steady, SameSdu, reloadSent}
 use Rattle.dl_build.specs.Build.{buildList}
@@ -57,16 +57,16 @@ ownSdu s n = s
 sdusBuilt : List (Item (List ℕ)) → Sent (List ℕ)
 sdusBuilt xs = buildList ownSdu blockWidth (merge (always []) keep xs)
 
-abbrev pub steadyBits : Steady sduBits
+abbrev pub steadyBits : Steady sduInCell
 steadyBits k n r c = refl
 
 abbrev pub steadyNames : Steady (unnamed {S = List ℕ} {N = ℕ})
 steadyNames k n r c = refl
 
-cells-built : (xs : List (Item (List ℕ))) → reloadSent sduBits steadyBits (cellsBuilt xs) ≡ sdusBuilt (map (reload sduBits) xs)
+cells-built : (xs : List (Item (List ℕ))) → reloadSent sduInCell steadyBits (cellsBuilt xs) ≡ sdusBuilt (map (reload sduInCell) xs)
 unfolding cellsBuilt sdusBuilt
 cells-built xs =
-    sym (build-map sduBits steadyBits cellSdu ownSdu blockWidth (mergeCells xs) (all-every (SameSdu sduBits cellSdu ownSdu) (λ x. refl) (mergeCells xs)))
+    sym (build-map sduInCell steadyBits cellSdu ownSdu blockWidth (mergeCells xs) (all-every (SameSdu sduInCell cellSdu ownSdu) (λ x. refl) (mergeCells xs)))
     ∙ ap (buildList ownSdu blockWidth) (merge-sdus xs)
 
 names-built : (ys : List (Item NamedSdu)) → reloadSent unnamed steadyNames (namedBuilt ys) ≡ sdusBuilt (map (reload unnamed) ys)
@@ -80,28 +80,28 @@ names-built ys =
 
 -- the same records with the same SDUs
 abbrev pub Held : Queues (List ℕ) → Queues NamedSdu → Type 0
-Held qs ms = reloads sduBits qs ≡ reloads unnamed ms
+Held qs ms = reloads sduInCell qs ≡ reloads unnamed ms
 
 module _ (qs : Queues (List ℕ)) (ms : Queues NamedSdu) (h : Held qs ms) where
-  pub same-queue : (t : ℕ) → map (reload sduBits) (queueAt qs t) ≡ map (reload unnamed) (queueAt ms t)
-  same-queue t = sym (queue-map sduBits qs t) ∙ ap (λ (q : Queues (List ℕ)). queueAt q t) h ∙ queue-map unnamed ms t
+  pub same-queue : (t : ℕ) → map (reload sduInCell) (queueAt qs t) ≡ map (reload unnamed) (queueAt ms t)
+  same-queue t = sym (queue-map sduInCell qs t) ∙ ap (λ (q : Queues (List ℕ)). queueAt q t) h ∙ queue-map unnamed ms t
 
   pub same-count : (t : ℕ) → length (queueAt qs t) ≡ length (queueAt ms t)
-  same-count t = sym (length-queue sduBits qs t) ∙ ap (λ (q : Queues (List ℕ)). length (queueAt q t)) h ∙ length-queue unnamed ms t
+  same-count t = sym (length-queue sduInCell qs t) ∙ ap (λ (q : Queues (List ℕ)). length (queueAt q t)) h ∙ length-queue unnamed ms t
 
-  pub appended-held : (t : ℕ) (x : Item (List ℕ)) (y : Item NamedSdu) → reload sduBits x ≡ reload unnamed y → Held (appended qs t x) (appended ms t y)
+  pub appended-held : (t : ℕ) (x : Item (List ℕ)) (y : Item NamedSdu) → reload sduInCell x ≡ reload unnamed y → Held (appended qs t x) (appended ms t y)
   appended-held t x y e =
-      appended-map sduBits qs t x
+      appended-map sduInCell qs t x
       ∙ ap₂ (λ (q : Queues (List ℕ)) (z : Item (List ℕ)). appended q t z) h e
       ∙ sym (appended-map unnamed ms t y)
 
-  pub set-held : (i : ℕ) (xs : List (Item (List ℕ))) (ys : List (Item NamedSdu)) → map (reload sduBits) xs ≡ map (reload unnamed) ys
+  pub set-held : (i : ℕ) (xs : List (Item (List ℕ))) (ys : List (Item NamedSdu)) → map (reload sduInCell) xs ≡ map (reload unnamed) ys
       → Held (set qs i xs) (set ms i ys)
   set-held i xs ys e =
-      map-set (map (reload sduBits)) qs i xs
+      map-set (map (reload sduInCell)) qs i xs
       ∙ ap₂ (λ (q : Queues (List ℕ)) (z : List (Item (List ℕ))). set q i z) h e
       ∙ sym (map-set (map (reload unnamed)) ms i ys)
 
   -- a build writes the same PDUs and finishes the same records, and what it leaves is the same
-  pub same-built : (t : ℕ) → reloadSent sduBits steadyBits (cellsBuilt (queueAt qs t)) ≡ reloadSent unnamed steadyNames (namedBuilt (queueAt ms t))
+  pub same-built : (t : ℕ) → reloadSent sduInCell steadyBits (cellsBuilt (queueAt qs t)) ≡ reloadSent unnamed steadyNames (namedBuilt (queueAt ms t))
   same-built t = cells-built (queueAt qs t) ∙ ap sdusBuilt (same-queue t) ∙ sym (names-built (queueAt ms t))

@@ -25,7 +25,7 @@ use Rattle.dl_queue.proofs.QueueLaws.{counts-back}
 use Rattle.dl_queue.proofs.PushLaws.{queues-push}
 use Rattle.dl_queue.proofs.SetLaws.{zero-size}
 use Rattle.dl_queue.proofs.SoundLaws.{queue-at, unused-cell}
-use Rattle.dl_merge.proofs.MergeLaws.{reload, sduBits, unnamed}
+use Rattle.dl_merge.proofs.MergeLaws.{reload, sduInCell, unnamed}
 use Rattle.questions.specs.declared.Refusal.{Refusal}
 use Rattle.questions.specs.Questions.{Question, ask}
 use Rattle.questions.proofs.AskLaws.{ask-both}
@@ -117,7 +117,7 @@ module _ (m : Memory) (b : Model) (k : SoundMemory m) (a : Same m b) where
     queuesWith r st = queuesOf (enqueued ns (m .records) (t - 1) r .counts) (enqueued ns (m .records) (t - 1) r .records) st
 
     -- with its cell, in the place behind its timeslot's records
-    joins : (r : Record) (c : List ℕ) (y : NamedSdu) → length c ≡ cellOctets → reload sduBits (item r c) ≡ reload unnamed (item r y)
+    joins : (r : Record) (c : List ℕ) (y : NamedSdu) → length c ≡ cellOctets → reload sduInCell (item r c) ≡ reload unnamed (item r y)
         → Held (queuesWith r (withCell (m .store) ns (t - 1) c)) (appended (b .queues) t (item r y))
     unfolding appended
     joins r c y l e =
@@ -128,7 +128,7 @@ module _ (m : Memory) (b : Model) (k : SoundMemory m) (a : Same m b) where
         (appended-held (listsOf m) (b .queues) (a .queues) t (item r c) (item r y) e)
 
     -- without SDU: its cell is zero as it stands
-    bare-joins : (r : Record) (y : NamedSdu) → reload sduBits (item r zeroCell) ≡ reload unnamed (item r y)
+    bare-joins : (r : Record) (y : NamedSdu) → reload sduInCell (item r zeroCell) ≡ reload unnamed (item r y)
         → Held (queuesWith r (m .store)) (appended (b .queues) t (item r y))
     bare-joins r y e =
         subst

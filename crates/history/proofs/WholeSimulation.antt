@@ -14,11 +14,11 @@ use Rattle.tdma_time.specs.Time.{Valid, timeslot, usable}
 use Rattle.mac_reader.specs.PduList.{Pdu, blockBits}
 use Rattle.dl_queue.specs.Queue.{Item, queueOf, queuesOf}
 use Rattle.dl_queue.proofs.PushLaws.{queues-at}
-use Rattle.dl_merge.specs.Merge.{mergeCells, mergedQueue}
-use Rattle.dl_merge.proofs.MergeLaws.{sduBits, unnamed}
+use Rattle.dl_merge.specs.Merge.{mergeCells}
+use Rattle.dl_merge.proofs.MergeLaws.{sduInCell, unnamed}
 use Rattle.dl_send.specs.Send.{Sent, cellSdu, blockOf}
 use Rattle.dl_send.proofs.MapLaws.{reloadSent}
-use Rattle.dl_build.specs.Build.{buildList, builtOf}
+use Rattle.dl_build.specs.Build.{buildList, builtFrom, builtOf}
 use Rattle.dl_build.proofs.AfterBuild.{build-holds}
 use Rattle.questions.specs.declared.Refusal.{Refusal}
 use Rattle.questions.specs.Questions.{refusalNumber, ask}
@@ -70,11 +70,11 @@ module _ (m : Memory) (b : Model) (k : SoundMemory m) (a : Same m b) where
   sent = builtOf ns (m .records) (m .store) (t - 1)
 
   sent-is : sent ≡ cellsBuilt (queueAt (listsOf m) t)
-  unfolding builtOf mergedQueue cellsBuilt
+  unfolding builtOf builtFrom cellsBuilt
   sent-is = ap (λ (q : List (Item (List ℕ))). buildList cellSdu blockWidth (mergeCells q)) (sym (queues-at ns (m .records) (m .store) (t - 1) now-inside))
 
-  same-sent : reloadSent sduBits steadyBits sent ≡ reloadSent unnamed steadyNames (namedBuilt (queueNow b))
-  same-sent = ap (reloadSent sduBits steadyBits) sent-is ∙ same-built (listsOf m) (b .queues) (a .queues) t
+  same-sent : reloadSent sduInCell steadyBits sent ≡ reloadSent unnamed steadyNames (namedBuilt (queueNow b))
+  same-sent = ap (reloadSent sduInCell steadyBits) sent-is ∙ same-built (listsOf m) (b .queues) (a .queues) t
 
   pub same-pdus : sent .pdus ≡ namedBuilt (queueNow b) .pdus
   same-pdus = ap (λ (s : Sent (List ℕ)). s .pdus) same-sent

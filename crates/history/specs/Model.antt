@@ -1,7 +1,7 @@
 -- The reference model (document 01's book), whole: its uplink, and the queues with named grants. Assumes nothing.
 use mathlib.Core.Bool.{Bool, _&&_, cond}
 use mathlib.Core.Option.{Option, none, some}
-use mathlib.Core.List.{List, [], _∷_, _++_, map}
+use mathlib.Core.List.{List, [], _∷_, map}
 use Prim.Native.Nat.{ℕ, suc}
 use lib.Dec.{eqb}
 use lib.ListN.{take}
@@ -17,11 +17,10 @@ use Rattle.uplink.specs.Request.{Verdict, noRun, tooLate, grant, capacity, rese
 use Rattle.mac_reader.specs.PduList.{Pdu, whole, first, frag, final, null, blockBits}
 use Rattle.dl_record.specs.declared.Kind.{Kind}
 use Rattle.dl_record.specs.Record.{grantRecord, ackRecord}
-use Rattle.dl_record.specs.Questions.{isGrant}
+use Rattle.dl_record.specs.Kind.{isGrant}
 use Rattle.dl_queue.specs.Queue.{Item, item}
 use Rattle.dl_merge.specs.Merge.{Named, mergeNamed}
-use Rattle.bs_frag.specs.NextPdu.{Next}
-use Rattle.dl_send.specs.Send.{Sent, blockOf, nullIn, turn}
+use Rattle.dl_send.specs.Send.{Sent, blockOf, nullIn, Turn, turns, readOff}
 use Rattle.dl_build.specs.Build.{inOrder, buildList}
 use Rattle.sched_core.specs.Questions.{requestQuestions, ackQuestions, tmaQuestions, buildLent, timeQuestions}
 use Rattle.history.specs.Call.{CapacityRequest, asked, recordOf, timeRead, Call, advance, request, enqueueAck, enqueueRecord, build, read}
@@ -136,15 +135,12 @@ nameIn name (frag f b) = none
 nameIn name (final e b) = none
 nameIn name null = none
 
--- "a grant keeps its name through merging into the header written": for each PDU the name of the grant in its header, or none
-unfoldable pub namesSent : ℕ → List (Item NamedSdu) → List (Option ℕ)
-namesSent room [] = map (nameIn none) (nullIn room)
-namesSent room (x ∷ xs) =
-    let s : Next = turn namedSdu room x in
-    map (nameIn (x .load .name)) (s .pdus) ++ namesSent (s .room) xs
+-- "a grant keeps its name through merging into the header written": for each PDU of the turns the name of the grant in its header, or none
+abbrev pub namesIn : ℕ → List (Turn NamedSdu) → List (Option ℕ)
+namesIn room ts = readOff (λ t. map (nameIn (t .taken .load .name)) (t .next .pdus)) (λ left. map (nameIn none) (nullIn left)) room ts
 
 unfoldable pub namesBuilt : Model → List (Option ℕ)
-namesBuilt m = namesSent blockWidth (inOrder (mergeNamed [] (queueNow m)))
+namesBuilt m = namesIn blockWidth (turns namedSdu blockWidth (inOrder (mergeNamed [] (queueNow m))))
 
 -- ---- grants in no header yet
 

@@ -10,9 +10,10 @@ use Rattle.sched_core.specs.declared.Reply.{Reply}
 use Rattle.sched_core.specs.declared.RequestReply.{RequestReply}
 use Rattle.sched_core.specs.declared.Answer.{Answer}
 use Rattle.sched_core.specs.declared.RequestAnswer.{RequestAnswer}
-use Rattle.sched_core.specs.declared.BuildCoreAnswer.{BuildCoreAnswer}
+use Rattle.interpreter.specs.declared.calls.BuildDone.{BuildDone}
+use Rattle.interpreter.specs.Steps.{BuildAnswered}
 use Rattle.sched_core.specs.Questions.{Memory, memory}
-use Rattle.sched_core.specs.Calls.{Outcome, outcome, BuildOutcome, BuildAnswered, tmaCall}
+use Rattle.sched_core.specs.Calls.{Outcome, outcome, BuildOutcome, tmaCall}
 use Rattle.bs_sched.specs.declared.BuildAnswer.{BuildAnswer}
 use Rattle.bs_sched.specs.Entries.{BuildLeft, buildLeft, leftBy}
 use Rattle.interpreter.specs.declared.calls.RequestLeft.{RequestLeft}
@@ -33,7 +34,7 @@ pub record-queued : (r : QueueLeft) (a : Answer) (rs : List Record) (st : List �
 record-queued r a rs st m t kind n tag header bits sdu e none h =
     ack-queued r a rs st _ e h ∙ ap (λ (x : QueuedHeader). tmaCall m t kind n tag x bits sdu) none
 
-pub build-answered : (r : BuildCoreAnswer) (a : BuildAnswer) (rs : List Record) (st block : List ℕ) (o : BuildOutcome)
+pub build-answered : (r : BuildDone) (a : BuildAnswer) (rs : List Record) (st block : List ℕ) (o : BuildOutcome)
     → r ≡ record { reply = a .reply; tags = a .tags; «tag_count» = a .«tag_count»; station = a .station; records = rs }
     → buildLeft a rs st block ≡ leftBy o → BuildAnswered o r st block
 build-answered r a rs st block o e h =

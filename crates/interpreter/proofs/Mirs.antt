@@ -4,6 +4,7 @@ use mir.Syntax.{Ty}
 use denote.Slice.{sliceTy}
 use Rattle.interpreter.proofs.calls.RequestLeft.Laws as calls-RequestLeft-laws
 use Rattle.interpreter.proofs.calls.QueueLeft.Laws as calls-QueueLeft-laws
+use Rattle.interpreter.proofs.calls.BuildDone.Laws as calls-BuildDone-laws
 use Rattle.interpreter.proofs.Command.Laws as Command-laws
 use Rattle.interpreter.proofs.Executed.Laws as Executed-laws
 use Rattle.interpreter.proofs.Advanced.Laws as Advanced-laws
@@ -14,6 +15,7 @@ use Rattle.optional.proofs.OptU16.Laws as optional-OptU16-laws
 use Rattle.optional.proofs.OptU32.Laws as optional-OptU32-laws
 use Rattle.tdma_time.proofs.TdmaTime.Laws as tdma_time-TdmaTime-laws
 use Rattle.uplink.proofs.Entry.Laws as uplink-Entry-laws
+use Rattle.uplink.proofs.Uplink.Laws as uplink-Uplink-laws
 use Rattle.uplink.proofs.PhyBlockNum.Laws as uplink-PhyBlockNum-laws
 use Rattle.uplink.proofs.AccessAssignUlUsage.Laws as uplink-AccessAssignUlUsage-laws
 use Rattle.uplink.proofs.Opportunity.Laws as uplink-Opportunity-laws
@@ -44,12 +46,10 @@ use Rattle.mac_writer.proofs.WriteReply.Laws as mac_writer-WriteReply-laws
 use Rattle.dl_record.proofs.Kind.Laws as dl_record-Kind-laws
 use Rattle.dl_record.proofs.QueuedHeader.Laws as dl_record-QueuedHeader-laws
 use Rattle.dl_record.proofs.Record.Laws as dl_record-Record-laws
-use Rattle.dl_queue.proofs.Queue.Laws as dl_queue-Queue-laws
 use Rattle.dl_merge.proofs.Merged.Laws as dl_merge-Merged-laws
 use Rattle.bs_frag.proofs.Outcome.Laws as bs_frag-Outcome-laws
 use Rattle.bs_frag.proofs.Chunk.Laws as bs_frag-Chunk-laws
 use Rattle.dl_send.proofs.Progress.Laws as dl_send-Progress-laws
-use Rattle.dl_build.proofs.Built.Laws as dl_build-Built-laws
 use Rattle.sched_core.proofs.Station.Laws as sched_core-Station-laws
 use Rattle.sched_core.proofs.Reply.Laws as sched_core-Reply-laws
 use Rattle.sched_core.proofs.RequestReply.Laws as sched_core-RequestReply-laws
@@ -58,7 +58,6 @@ use Rattle.sched_core.proofs.OwnerReply.Laws as sched_core-OwnerReply-laws
 use Rattle.sched_core.proofs.UsageReply.Laws as sched_core-UsageReply-laws
 use Rattle.sched_core.proofs.Answer.Laws as sched_core-Answer-laws
 use Rattle.sched_core.proofs.RequestAnswer.Laws as sched_core-RequestAnswer-laws
-use Rattle.sched_core.proofs.BuildCoreAnswer.Laws as sched_core-BuildCoreAnswer-laws
 use Rattle.bs_sched.proofs.BuildAnswer.Laws as bs_sched-BuildAnswer-laws
 use Rattle.bs_sched.proofs.Verdict.Laws as bs_sched-Verdict-laws
 
@@ -70,6 +69,9 @@ calls-RequestLeft = calls-RequestLeft-laws.mir
 
 abbrev pub calls-QueueLeft : Ty
 calls-QueueLeft = calls-QueueLeft-laws.mir
+
+abbrev pub calls-BuildDone : Ty
+calls-BuildDone = calls-BuildDone-laws.mir
 
 abbrev pub Command : Ty
 Command = Command-laws.mir
@@ -100,6 +102,9 @@ tdma_time-TdmaTime = tdma_time-TdmaTime-laws.mir
 
 abbrev pub uplink-Entry : Ty
 uplink-Entry = uplink-Entry-laws.mir
+
+abbrev pub uplink-Uplink : Ty
+uplink-Uplink = uplink-Uplink-laws.mir
 
 abbrev pub uplink-PhyBlockNum : Ty
 uplink-PhyBlockNum = uplink-PhyBlockNum-laws.mir
@@ -191,9 +196,6 @@ dl_record-QueuedHeader = dl_record-QueuedHeader-laws.mir
 abbrev pub dl_record-Record : Ty
 dl_record-Record = dl_record-Record-laws.mir
 
-abbrev pub dl_queue-Queue : Ty
-dl_queue-Queue = dl_queue-Queue-laws.mir
-
 abbrev pub dl_merge-Merged : Ty
 dl_merge-Merged = dl_merge-Merged-laws.mir
 
@@ -205,9 +207,6 @@ bs_frag-Chunk = bs_frag-Chunk-laws.mir
 
 abbrev pub dl_send-Progress : Ty
 dl_send-Progress = dl_send-Progress-laws.mir
-
-abbrev pub dl_build-Built : Ty
-dl_build-Built = dl_build-Built-laws.mir
 
 abbrev pub sched_core-Station : Ty
 sched_core-Station = sched_core-Station-laws.mir
@@ -232,9 +231,6 @@ sched_core-Answer = sched_core-Answer-laws.mir
 
 abbrev pub sched_core-RequestAnswer : Ty
 sched_core-RequestAnswer = sched_core-RequestAnswer-laws.mir
-
-abbrev pub sched_core-BuildCoreAnswer : Ty
-sched_core-BuildCoreAnswer = sched_core-BuildCoreAnswer-laws.mir
 
 abbrev pub bs_sched-BuildAnswer : Ty
 bs_sched-BuildAnswer = bs_sched-BuildAnswer-laws.mir

@@ -18,14 +18,14 @@ use Rattle.dl_send.specs.Progress.{tagRow}
 use Rattle.sched_core.specs.declared.Station.{Station}
 use Rattle.sched_core.specs.declared.Reply.{Reply}
 use Rattle.sched_core.specs.declared.Answer.{Answer}
-use Rattle.sched_core.specs.declared.BuildCoreAnswer.{BuildCoreAnswer}
+use Rattle.interpreter.specs.declared.calls.BuildDone.{BuildDone}
 use Rattle.sched_core.specs.declared.RequestReply.{RequestReply}
 use Rattle.sched_core.specs.declared.BuildReply.{BuildReply}
 use Rattle.questions.specs.declared.Refusal.{Refusal}
 use Rattle.sched_core.specs.Station.{newStation}
 use Rattle.questions.specs.Questions.{refusalNumber}
 use Rattle.sched_core.specs.Questions.{Memory, memory, timeQuestions}
-use Rattle.sched_core.specs.Calls.{Outcome, outcome, replyNumber, newCall, newMemory, advanceCall, advanceMemory, requestCall, tmaCall, buildCall, BuildAnswered}
+use Rattle.sched_core.specs.Calls.{Outcome, outcome, replyNumber, newCall, newMemory, advanceCall, advanceMemory, requestCall, tmaCall, buildCall}
 use Rattle.sched_core.specs.Invariant.{isDone}
 use Rattle.questions.proofs.AskLaws.{ask-elim}
 use Rattle.interpreter.specs.declared.calls.RequestLeft.{RequestLeft}
@@ -34,7 +34,7 @@ use Rattle.interpreter.specs.declared.Command.{Command}
 use Rattle.interpreter.specs.declared.Executed.{Executed}
 use Rattle.interpreter.specs.Text.{number, line}
 use Rattle.interpreter.specs.Slotrun.{Session, session, Step, stageKept, step, operandCount, octet, twoOctets, fourOctets, timeOf, newStep, advanceStep, requestStep, grantFields, staged, stageLine, queueStep, buildStep, blockFields}
-use Rattle.interpreter.specs.Steps.{Executes, Advances, Steps}
+use Rattle.interpreter.specs.Steps.{BuildAnswered, Executes, Advances, Steps}
 use Rattle.interpreter.proofs.TextLaws.{nothing}
 use Rattle.interpreter.proofs.TagLaws.{few-tags}
 
@@ -130,11 +130,11 @@ tags-taken zero (t ∷ ts) h = absurd (omega arith)
 tags-taken (suc k) [] h = refl
 tags-taken (suc k) (t ∷ ts) h = ap (λ (l : List ℕ). t ∷ l) (tags-taken k ts (omega arith))
 
-pub tag-count : (m : Memory) (block st block' : List ℕ) (a : BuildCoreAnswer) → length (m .station .queued) ≡ 4 → BuildAnswered (buildCall m block) a st block'
+pub tag-count : (m : Memory) (block st block' : List ℕ) (a : BuildDone) → length (m .station .queued) ≡ 4 → BuildAnswered (buildCall m block) a st block'
     → a .«tag_count» ≤ 16
-tag-count m block st block' a four h = subst (λ (n : ℕ). n ≤ 16) (sym (ap (λ (b : BuildCoreAnswer). b .«tag_count») (h .answer))) (few-tags m block four)
+tag-count m block st block' a four h = subst (λ (n : ℕ). n ≤ 16) (sym (ap (λ (b : BuildDone). b .«tag_count») (h .answer))) (few-tags m block four)
 
-pub built : (m : Memory) (out out' st block' : List ℕ) (a : BuildCoreAnswer) (count : ℕ) → length (m .station .queued) ≡ 4
+pub built : (m : Memory) (out out' st block' : List ℕ) (a : BuildDone) (count : ℕ) → length (m .station .queued) ≡ 4
     → BuildAnswered (buildCall m (replicate 34 0)) a st block' → count ≤ 173
     → Wrote out 0 out' count (line 66 (blockFields (a .reply) block' (take (a .«tag_count») (a .tags))))
     → Executes (buildStep m) (record { station = a .station; queue = a .records; count = count }) st out out'
@@ -142,8 +142,8 @@ unfolding buildStep
 built m out out' st block' a count four h few w =
     let o = buildCall m (replicate 34 0) in
     record {
-      memory-after = ap (λ (b : BuildCoreAnswer). memory (b .station) (b .records) st) (h .answer) ∙ ap (λ (l : List ℕ). memory (o .memory .station) (o .memory .records) l) (h .store);
-      line = relined (ap (λ (b : BuildCoreAnswer). line 66 (blockFields (b .reply) block' (take (b .«tag_count») (b .tags)))) (h .answer)
+      memory-after = ap (λ (b : BuildDone). memory (b .station) (b .records) st) (h .answer) ∙ ap (λ (l : List ℕ). memory (o .memory .station) (o .memory .records) l) (h .store);
+      line = relined (ap (λ (b : BuildDone). line 66 (blockFields (b .reply) block' (take (b .«tag_count») (b .tags)))) (h .answer)
           ∙ ap (λ (l : List ℕ). line 66 (blockFields (o .reply) l (take (length (o .tags)) (tagRow 16 (o .tags))))) (h .block)
           ∙ ap (λ (l : List ℕ). line 66 (blockFields (o .reply) (o .block) l)) (tags-taken 16 (o .tags) (few-tags m (replicate 34 0) four))) w;
       most = few;

@@ -13,11 +13,10 @@ use Rattle.bs_frag.specs.declared.Outcome.{Outcome}
 use Rattle.bs_frag.specs.declared.Outcome.the-variants.{Finished, Waiting, Started}
 use Rattle.optional.proofs.Tests.{and-left, and-right}
 use Rattle.dl_queue.specs.Queue.{Item}
-use Rattle.dl_merge.specs.Merge.{mergedQueue}
-use Rattle.dl_send.specs.Send.{sendAll, tagsOf, cellSdu}
-use Rattle.dl_build.specs.Build.{inOrder, buildList, builtOf}
+use Rattle.dl_send.specs.Send.{turns, readOff, roomAfter, sendAll, tagsOf, cellSdu}
+use Rattle.dl_build.specs.Build.{inOrder, buildList, builtFrom, builtOf}
 use Rattle.dl_build.proofs.OrderLaws.{order-length}
-use Rattle.dl_build.proofs.BuildLaws.{merged-most}
+use Rattle.dl_build.proofs.BuildLaws.{mergedQueue, merged-most}
 use Rattle.sched_core.specs.declared.BuildReply.{BuildReply}
 use Rattle.sched_core.specs.Questions.{Memory, memoryQuestions, buildLent}
 use Rattle.sched_core.specs.Calls.{BuildOutcome, notBuilt, current, buildsNow, builtNow, blockBuilt, buildCall}
@@ -31,7 +30,7 @@ one-tag (Started n) t = omega arith
 
 -- no more tags than records
 sent-tags : {C : Type 0} (sdu : C → ℕ → List ℕ) (room : ℕ) (xs : List (Item C)) → length (sendAll sdu room xs .tags) ≤ length xs
-unfolding sendAll
+unfolding sendAll turns readOff roomAfter
 sent-tags sdu room [] = omega arith
 sent-tags sdu room (x ∷ xs) =
     let n : Next = next room (x .rec) (sdu (x .load) (x .rec .bits)) in
@@ -39,7 +38,7 @@ sent-tags sdu room (x ∷ xs) =
 
 module _ (m : Memory) (block : List ℕ) (four : length (m .station .queued) ≡ 4) where
   built-tags : AllYes (memoryQuestions m (buildLent block)) → length (builtNow m .tags) ≤ 16
-  unfolding builtNow builtOf buildList
+  unfolding builtNow builtOf builtFrom buildList mergedQueue
   built-tags said =
       let ns = m .station .queued in
       let t = current (m .station) in

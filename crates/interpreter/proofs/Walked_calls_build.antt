@@ -1,11 +1,11 @@
 -- Derived by `python3 tools/derive.py --walks=tools/walks_interpreter.py`: run it again, do not edit.
 -- `interpreter::calls::build`: the kinds of its parameters, and its contract as its callers read it.
 use Rattle.bs_sched.proofs.Rows_Record as in-Record
+use Rattle.interpreter.proofs.calls.BuildDone
+use Rattle.interpreter.proofs.calls.BuildDone.Laws as Laws'
 use Rattle.interpreter.proofs.calls.build
-use Rattle.sched_core.proofs.BuildCoreAnswer
-use Rattle.sched_core.proofs.BuildCoreAnswer.Laws
 use Rattle.sched_core.proofs.Station
-use Rattle.sched_core.proofs.Station.Laws as Laws'
+use Rattle.sched_core.proofs.Station.Laws
 use base.Logic
 use borrow.Fn.Kinds
 use borrow.Fn.Learn
@@ -34,21 +34,21 @@ abbrev pub kinds : List.List (Kinds.PK 2)
 kinds = (Value.pVal record {
   ty = Declared.row Station.the-type;
   one = Path'.refl;
-  val = Laws''.val Station.the-type Laws'.the-laws;
+  val = Laws''.val Station.the-type Laws.the-laws;
   tells =
-      Laws''.tells Station.the-type Laws'.the-laws;
-  still = Laws''.still Station.the-type Laws'.the-copy Exit.yes;
+      Laws''.tells Station.the-type Laws.the-laws;
+  still = Laws''.still Station.the-type Laws.the-copy Exit.yes;
   row = Rows.whole (Declared.row
       Station.the-type);
   rd = λ x. x;
   mk = λ x. x;
 } λ M 𝓤 H A W. record {
-  copies = Laws''.copy Station.the-type Laws'.the-copy 𝓤 H A W;
+  copies = Laws''.copy Station.the-type Laws.the-copy 𝓤 H A W;
   lawful =
-      Laws''.lawful Station.the-type Laws'.the-laws 𝓤 H A W;
-  makes = Laws''.makes Station.the-type Laws'.the-plain 𝓤 H A;
-  in-mem = Local.mem-whole 𝓤 H A
-      W (Declared.row Station.the-type);
+      Laws''.lawful Station.the-type Laws.the-laws 𝓤 H A W;
+  makes = Laws''.makes Station.the-type Laws.the-plain 𝓤 H A;
+  in-mem = Local.mem-whole 𝓤 H A W
+      (Declared.row Station.the-type);
   of-mem = Local.whole-mem 𝓤 H A W (Declared.row Station.the-type);
 }) ∷ (Array.pArr in-Record.element
     in-Record.element-laws 64) ∷ (MutSlice.pMutS (Referent.rtF (Referent.fInt Syntax.w8)) 0 tt) ∷ (MutSlice.pMutS (Referent.rtF (Referent.fInt
@@ -56,24 +56,24 @@ kinds = (Value.pVal record {
 
 abbrev pub result : Kinds.RK 2
 result = Value.rVal record {
-  ty = Declared.row BuildCoreAnswer.the-type;
+  ty = Declared.row BuildDone.the-type;
   one = Path'.refl;
-  val = Laws''.val BuildCoreAnswer.the-type Laws.the-laws;
-  tells = Laws''.tells BuildCoreAnswer.the-type Laws.the-laws;
-  still = Laws''.still BuildCoreAnswer.the-type Laws.the-copy Exit.yes;
-  row =
-      Rows.whole (Declared.row BuildCoreAnswer.the-type);
+  val = Laws''.val BuildDone.the-type Laws'.the-laws;
+  tells =
+      Laws''.tells BuildDone.the-type Laws'.the-laws;
+  still = Laws''.still BuildDone.the-type Laws'.the-copy Exit.yes;
+  row = Rows.whole (Declared.row
+      BuildDone.the-type);
   rd = λ x. x;
   mk = λ x. x;
 } λ M 𝓤 H A W. record {
-  copies = Laws''.copy BuildCoreAnswer.the-type
-      Laws.the-copy 𝓤 H A W;
-  lawful = Laws''.lawful BuildCoreAnswer.the-type Laws.the-laws 𝓤 H A W;
-  makes = Laws''.makes BuildCoreAnswer.the-type
-      Laws.the-plain 𝓤 H A;
-  in-mem = Local.mem-whole 𝓤 H A W (Declared.row BuildCoreAnswer.the-type);
-  of-mem = Local.whole-mem 𝓤 H A W (Declared.row
-      BuildCoreAnswer.the-type);
+  copies = Laws''.copy BuildDone.the-type Laws'.the-copy 𝓤 H A W;
+  lawful =
+      Laws''.lawful BuildDone.the-type Laws'.the-laws 𝓤 H A W;
+  makes = Laws''.makes BuildDone.the-type Laws'.the-plain 𝓤 H A;
+  in-mem = Local.mem-whole 𝓤
+      H A W (Declared.row BuildDone.the-type);
+  of-mem = Local.whole-mem 𝓤 H A W (Declared.row BuildDone.the-type);
 }
 
 abbrev pub Ghost : Type 0

@@ -1,11 +1,11 @@
 -- Derived by `python3 tools/derive.py --walks=tools/walks_interpreter.py`: run it again, do not edit.
 -- `interpreter::calls::queue_ack`: the kinds of its parameters, and its contract as its callers read it.
 use Rattle.bs_sched.proofs.Rows_Record as in-Record
+use Rattle.interpreter.proofs.calls.QueueLeft
+use Rattle.interpreter.proofs.calls.QueueLeft.Laws as Laws'
 use Rattle.interpreter.proofs.calls.queue_ack
-use Rattle.sched_core.proofs.CoreAnswer
-use Rattle.sched_core.proofs.CoreAnswer.Laws
 use Rattle.sched_core.proofs.Station
-use Rattle.sched_core.proofs.Station.Laws as Laws'
+use Rattle.sched_core.proofs.Station.Laws
 use base.Logic
 use borrow.Fn.Kinds
 use borrow.Fn.Learn
@@ -34,21 +34,21 @@ abbrev pub kinds : List.List (Kinds.PK 1)
 kinds = (Value.pVal record {
   ty = Declared.row Station.the-type;
   one = Path'.refl;
-  val = Laws''.val Station.the-type Laws'.the-laws;
+  val = Laws''.val Station.the-type Laws.the-laws;
   tells =
-      Laws''.tells Station.the-type Laws'.the-laws;
-  still = Laws''.still Station.the-type Laws'.the-copy Exit.yes;
+      Laws''.tells Station.the-type Laws.the-laws;
+  still = Laws''.still Station.the-type Laws.the-copy Exit.yes;
   row = Rows.whole (Declared.row
       Station.the-type);
   rd = λ x. x;
   mk = λ x. x;
 } λ M 𝓤 H A W. record {
-  copies = Laws''.copy Station.the-type Laws'.the-copy 𝓤 H A W;
+  copies = Laws''.copy Station.the-type Laws.the-copy 𝓤 H A W;
   lawful =
-      Laws''.lawful Station.the-type Laws'.the-laws 𝓤 H A W;
-  makes = Laws''.makes Station.the-type Laws'.the-plain 𝓤 H A;
-  in-mem = Local.mem-whole 𝓤 H A
-      W (Declared.row Station.the-type);
+      Laws''.lawful Station.the-type Laws.the-laws 𝓤 H A W;
+  makes = Laws''.makes Station.the-type Laws.the-plain 𝓤 H A;
+  in-mem = Local.mem-whole 𝓤 H A W
+      (Declared.row Station.the-type);
   of-mem = Local.whole-mem 𝓤 H A W (Declared.row Station.the-type);
 }) ∷ (Array.pArr in-Record.element
     in-Record.element-laws 64) ∷ (ShrSlice.pShrS (Referent.rtF (Referent.fInt Syntax.w8)) 0 tt) ∷ (Kinds.pNum Syntax.w8) ∷ (Kinds.pNum Syntax.w8) ∷
@@ -56,24 +56,24 @@ kinds = (Value.pVal record {
 
 abbrev pub result : Kinds.RK 1
 result = Value.rVal record {
-  ty = Declared.row CoreAnswer.the-type;
+  ty = Declared.row QueueLeft.the-type;
   one = Path'.refl;
-  val = Laws''.val CoreAnswer.the-type Laws.the-laws;
+  val = Laws''.val QueueLeft.the-type Laws'.the-laws;
   tells =
-      Laws''.tells CoreAnswer.the-type Laws.the-laws;
-  still = Laws''.still CoreAnswer.the-type Laws.the-copy Exit.yes;
+      Laws''.tells QueueLeft.the-type Laws'.the-laws;
+  still = Laws''.still QueueLeft.the-type Laws'.the-copy Exit.yes;
   row = Rows.whole (Declared.row
-      CoreAnswer.the-type);
+      QueueLeft.the-type);
   rd = λ x. x;
   mk = λ x. x;
 } λ M 𝓤 H A W. record {
-  copies = Laws''.copy CoreAnswer.the-type Laws.the-copy 𝓤 H A W;
+  copies = Laws''.copy QueueLeft.the-type Laws'.the-copy 𝓤 H A W;
   lawful =
-      Laws''.lawful CoreAnswer.the-type Laws.the-laws 𝓤 H A W;
-  makes = Laws''.makes CoreAnswer.the-type Laws.the-plain 𝓤 H A;
+      Laws''.lawful QueueLeft.the-type Laws'.the-laws 𝓤 H A W;
+  makes = Laws''.makes QueueLeft.the-type Laws'.the-plain 𝓤 H A;
   in-mem = Local.mem-whole 𝓤
-      H A W (Declared.row CoreAnswer.the-type);
-  of-mem = Local.whole-mem 𝓤 H A W (Declared.row CoreAnswer.the-type);
+      H A W (Declared.row QueueLeft.the-type);
+  of-mem = Local.whole-mem 𝓤 H A W (Declared.row QueueLeft.the-type);
 }
 
 abbrev pub Ghost : Type 0

@@ -4,10 +4,13 @@ use mathlib.Core.List.{List}
 use Prim.Native.Nat.{ℕ, _*_, _≤_}
 use lib.ListN.{length, drop}
 use Rattle.bitbuffer.specs.Bits.{Wrote}
+use Rattle.sizes.specs.Sizes.{perTimeslot}
 use Rattle.dl_record.specs.declared.Record.{Record}
+use Rattle.dl_send.specs.Progress.{tagRow}
 use Rattle.sched_core.specs.declared.Station.{Station}
 use Rattle.sched_core.specs.Questions.{memory}
-use Rattle.sched_core.specs.Calls.{Outcome}
+use Rattle.sched_core.specs.Calls.{Outcome, BuildOutcome}
+use Rattle.interpreter.specs.declared.calls.BuildDone.{BuildDone}
 use Rattle.interpreter.specs.declared.Executed.{Executed}
 use Rattle.interpreter.specs.declared.Advanced.{Advanced}
 use Rattle.interpreter.specs.declared.RunAnswer.{RunAnswer}
@@ -38,3 +41,9 @@ pub record Runs (x : Ran) (r : RunAnswer) (input store' stage' out out' : List �
   pub left : drop (r .taken) input ≡ x .left
   pub inside : r .taken ≤ length input
   pub room : r .count ≤ 173 * length input
+
+-- what a build by value answers and leaves: sixteen tags, zeros behind those that come back, and the caller's buffers
+pub record BuildAnswered (o : BuildOutcome) (a : BuildDone) (store' block' : List ℕ) : Type 0 where
+  pub answer : a ≡ record { reply = o .reply; tags = tagRow perTimeslot (o .tags); «tag_count» = length (o .tags); station = o .memory .station; records = o .memory .records }
+  pub store : store' ≡ o .memory .store
+  pub block : block' ≡ o .block

@@ -4,7 +4,7 @@ use dl_record::QueuedHeader;
 use dl_record::Record;
 use optional::OptU16;
 use sched_core::Answer;
-use sched_core::BuildCoreAnswer;
+use sched_core::BuildReply;
 use sched_core::Reply;
 use sched_core::RequestAnswer;
 use sched_core::RequestReply;
@@ -13,20 +13,30 @@ ghost use mathlib.Core.Path.{_≡_};
 ghost use Rattle.dl_record.specs.Record.{emptyHeader};
 ghost use Rattle.optional.specs.declared.OptU16.{OptU16};
 ghost use Rattle.sched_core.specs.Questions.{memory};
-ghost use Rattle.sched_core.specs.Calls.{outcome, requestCall, ackCall, tmaCall, buildCall, BuildAnswered};
+ghost use Rattle.sched_core.specs.Calls.{outcome, requestCall, ackCall, tmaCall, buildCall};
+ghost use Rattle.interpreter.specs.Steps.{BuildAnswered};
 
 // The reply to a request, and the station and the queue after it.
 pub struct RequestLeft {
     pub reply: RequestReply,
     pub station: Station,
-    pub records: [Record; 64],
+    pub records: [Record; sizes::QUEUE_PLACES],
 }
 
 // The same for an ack or a record that is queued.
 pub struct QueueLeft {
     pub reply: Reply,
     pub station: Station,
-    pub records: [Record; 64],
+    pub records: [Record; sizes::QUEUE_PLACES],
+}
+
+// The same for a build, with the tags of the records that are finished.
+pub struct BuildDone {
+    pub reply: BuildReply,
+    pub tags: [u16; sizes::PER_TIMESLOT],
+    pub tag_count: u8,
+    pub station: Station,
+    pub records: [Record; sizes::QUEUE_PLACES],
 }
 
 // An answer with the queue after the call.
@@ -54,13 +64,13 @@ fn queue_left(a: Answer, records: [Record; 64]) -> QueueLeft
     }
 }
 
-fn build_left(a: BuildAnswer, records: [Record; 64]) -> BuildCoreAnswer
+fn build_left(a: BuildAnswer, records: [Record; sizes::QUEUE_PLACES]) -> BuildDone
     ensures { λ r. ⌜ r ≡ record { reply = a .reply; tags = a .tags; «tag_count» = a .«tag_count»; station = a .station; records = records } ⌝ }
 {
     let reply = a.reply;
     let tags = a.tags;
     let station = a.station;
-    BuildCoreAnswer {
+    BuildDone {
         reply: reply,
         tags: tags,
         tag_count: a.tag_count,
@@ -145,12 +155,7 @@ pub fn queue_record(
 }
 
 // The block of the current slot is built.
-pub fn build(
-    s: Station,
-    records: [Record; 64],
-    store: &mut [u8],
-    block: &mut [u8],
-) -> BuildCoreAnswer
+pub fn build(s: Station, records: [Record; 64], store: &mut [u8], block: &mut [u8]) -> BuildDone
     ensures { λ r. ⌜ BuildAnswered (buildCall (memory s records (now (store .entry))) (now (block .entry))) r (now (store .exit)) (now (block .exit)) ⌝ }
 {
     let mut queue = records;

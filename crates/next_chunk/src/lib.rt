@@ -3,10 +3,12 @@ use bs_frag::Chunk;
 use bs_frag::Outcome;
 use dl_record::Kind;
 use dl_record::Record;
+use sizes::SDU_BITS;
 ghost use mathlib.Core.Path.{_≡_};
 ghost use Prim.Native.Nat.{_-_};
 ghost use Rattle.bitbuffer.specs.Bits.{bitsOf};
-ghost use Rattle.bs_frag.specs.NextPdu.{begin, continue, isStarted, next, sduAt, Ready, Chunked};
+ghost use Rattle.dl_record.specs.Kind.{isStarted};
+ghost use Rattle.bs_frag.specs.NextPdu.{begin, continue, next, sduAt, Ready, Chunked};
 
 // The first PDU of a record: MAC-RESOURCE, whole or the first fragment, or none.
 pub fn get_resource_chunk(
@@ -21,7 +23,7 @@ pub fn get_resource_chunk(
     ensures { λ c. ⌜ Chunked (bitsOf (now (block .entry))) at w (bitsOf (now (block .exit))) c (begin (w - at) r (sduAt (now (store .entry)) cell (r .bits))) ⌝ }
 {
     let room = w - at;
-    let from = 2048 * cell;
+    let from = SDU_BITS * cell;
     let bits = r.bits as usize;
     let h = bs_frag::header_size(r);
     let n = h + bits;
@@ -71,7 +73,7 @@ pub fn get_frag_or_end_chunk(
     let room = w - at;
     let bits = r.bits as usize;
     let sent = r.sent as usize;
-    let from = 2048 * cell + sent;
+    let from = SDU_BITS * cell + sent;
     let rest = bits - sent;
     let octets = (13 + rest + 7) / 8;
     if octets * 8 <= room {

@@ -2,8 +2,10 @@
 use dl_record::Kind;
 use dl_record::QueuedHeader;
 use dl_record::Record;
+use sizes::SDU_BITS;
 ghost use mathlib.Core.Path.{_≡_};
-ghost use Rattle.dl_record.specs.Questions.{isGrant, headerHoldsGrantOnly, holdsGrantOnly, soundAs, soundRecord, isEmpty};
+ghost use Rattle.dl_record.specs.Kind.{isGrant};
+ghost use Rattle.dl_record.specs.Questions.{headerHoldsGrantOnly, holdsGrantOnly, soundAs, soundRecord, isEmpty};
 
 // Whether a record is a grant.
 fn is_grant(k: Kind) -> bool
@@ -50,15 +52,16 @@ fn sound_as_its_kind(r: Record) -> bool
     let h = r.header;
     let g = h.slot_granting_element;
     let m = h.usage_marker;
+    let fits = r.bits as usize <= SDU_BITS;
     match k {
         Kind::Grant => holds_grant_only(r)
             & !mac_legal::absent_u8(g)
             & mac_legal::opt_below(256, g)
             & mac_legal::opt_below(64, m),
         Kind::Ack => holds_grant_only(r) & mac_legal::absent_u8(g) & mac_legal::absent_u8(m),
-        Kind::Record => dl_record::header_is_legal(r) & (r.bits <= 2048) & (r.sent == 0),
-        Kind::Waiting => dl_record::header_is_legal(r) & (r.bits <= 2048) & (r.sent == 0),
-        Kind::Started => dl_record::header_is_legal(r) & (r.bits <= 2048) & (r.sent <= r.bits),
+        Kind::Record => dl_record::header_is_legal(r) & fits & (r.sent == 0),
+        Kind::Waiting => dl_record::header_is_legal(r) & fits & (r.sent == 0),
+        Kind::Started => dl_record::header_is_legal(r) & fits & (r.sent <= r.bits),
     }
 }
 

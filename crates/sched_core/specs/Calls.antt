@@ -24,7 +24,6 @@ use Rattle.dl_record.specs.Record.{emptyRecord, grantRecord, ackRecord, offered
 use Rattle.sdu_store.specs.Cells.{cellOf}
 use Rattle.dl_queue.specs.Queue.{enqueued, withCell, withQueue, withCells}
 use Rattle.dl_send.specs.Send.{Sent, blockOf}
-use Rattle.dl_send.specs.Progress.{tagRow}
 use Rattle.dl_build.specs.Build.{builtOf}
 use Rattle.sched_core.specs.declared.Station.{Station}
 use Rattle.sched_core.specs.declared.Reply.{Reply}
@@ -33,7 +32,6 @@ use Rattle.sched_core.specs.declared.BuildReply.{BuildReply}
 use Rattle.sched_core.specs.declared.OwnerReply.{OwnerReply}
 use Rattle.sched_core.specs.declared.UsageReply.{UsageReply}
 use Rattle.sched_core.specs.declared.Answer.{Answer}
-use Rattle.sched_core.specs.declared.BuildCoreAnswer.{BuildCoreAnswer}
 use Rattle.sched_core.specs.Station.{stationOf, newStation, advancedStation, withQueued}
 use Rattle.sched_core.specs.Questions.{Memory, memory, asksStation, queuedFor, memoryQuestions, requestQuestions, ackQuestions, tmaQuestions, buildLent, timeQuestions}
 
@@ -177,17 +175,6 @@ buildCall m block =
     ask (memoryQuestions m (buildLent block))
     (cond (buildsNow (m .station)) (blockBuilt m (current (m .station)) (builtNow m)) (notBuilt BuildReply.NoBlock m block))
     (λ r. notBuilt (BuildReply.Refused r) m block)
-
--- what the body of a build answers for an outcome: sixteen tags, zeros behind those that come back
-abbrev pub buildCoreAnswer : BuildOutcome → BuildCoreAnswer
-buildCoreAnswer o =
-    record { reply = o .reply; tags = tagRow perTimeslot (o .tags); «tag_count» = length (o .tags); station = o .memory .station; records = o .memory .records }
-
--- and the caller's buffers after it
-pub record BuildAnswered (o : BuildOutcome) (a : BuildCoreAnswer) (store' block' : List ℕ) : Type 0 where
-  pub answer : a ≡ buildCoreAnswer o
-  pub store : store' ≡ o .memory .store
-  pub block : block' ≡ o .block
 
 -- ---- a history's memory
 

@@ -67,15 +67,6 @@ pub struct RequestAnswer {
     pub station: Station,
 }
 
-// What the body of a build answers: the reply, the tags of the records that are finished, with the station and the records after it.
-pub struct BuildCoreAnswer {
-    pub reply: BuildReply,
-    pub tags: [u16; sizes::PER_TIMESLOT],
-    pub tag_count: u8,
-    pub station: Station,
-    pub records: [Record; sizes::QUEUE_PLACES],
-}
-
 // Is no more queued for a timeslot than its places hold?
 fn counts_are_sound(queued: [u8; 4]) -> bool
     ensures { λ r. ⌜ r ≡ all soundCount queued ⌝ }

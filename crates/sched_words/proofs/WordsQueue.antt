@@ -7,7 +7,8 @@ use Prim.Native.Nat.{ℕ, zero, suc, _+_, _-_, _*_, _/_, _%_, _≤_, _<_}
 use native.Mathlib.Omega.{arith}
 use lib.Dec.{ltb}
 use lib.ListN.{length, getD, set, take, drop, replicate, length-append, length-drop, take-append-drop}
-use lib.Seq.{sets, sets-eq, set-split, drop-cons, drop-drop, take-at, drop-at, take-take, length-take-le, getD-take, getD-drop, paste, length-paste, take-paste, drop-paste}
+use lib.Seq.{sets, sets-eq, set-split, drop-cons, drop-drop, take-at, take-all, drop-at, take-take, length-take-le, getD-take, getD-drop, paste, length-paste, take-paste, drop-paste}
+use Rattle.sizes.specs.Sizes.{timeslots, perTimeslot, queuePlaces}
 use Rattle.optional.proofs.Tests.{and-left, and-right, and-intro}
 use Rattle.uplink.proofs.Basics.{not-both}
 use Rattle.dl_record.proofs.Tests.{and-assoc}
@@ -214,58 +215,65 @@ set-words ns s ws counts h p l r =
 
 -- ---- sixteen records stored in their words
 
--- those of a timeslot, the first at place f
-abbrev pub sixteen : List Record → ℕ → List Record
-sixteen rs f = take 16 (drop f rs)
+-- a turn: record i of them is stored, the first at place f
+pub sixteen-next : (rs : List Record) (f : ℕ) → length rs ≡ perTimeslot → (l l' : List ℕ) (i : ℕ) → i < perTimeslot → l' ≡ sets l (23 * (f + i)) (recordWords (recAt rs i))
+    → sets l' (23 * (f + (i + 1))) (queueWords (drop (i + 1) rs)) ≡ sets l (23 * (f + i)) (queueWords (drop i rs))
+sixteen-next rs f size l l' i h stored =
+    joined-next recordWords 23 record-size l l' (recordWords (recAt rs i)) rs (23 * (f + i)) (23 * (f + (i + 1))) i emptyRecord (omega arith) stored refl (omega arith)
 
-module _ (rs : List Record) (f : ℕ) (places : length rs ≡ 64) (room : f ≤ 48) where
-  sixteen-size : length (sixteen rs f) ≡ 16
-  sixteen-size = length-take-le 16 (drop f rs) (omega (arith, length-drop f rs))
+pub sixteen-start : (rs : List Record) (f : ℕ) (l : List ℕ) → sets l (23 * (f + 0)) (queueWords (drop 0 rs)) ≡ sets l (23 * f) (queueWords rs)
+sixteen-start rs f l = let e : f + 0 ≡ f = omega arith in ap (λ (p : ℕ). sets l (23 * p) (queueWords rs)) e
 
-  -- a turn: record i of them is stored
-  pub sixteen-next : (l l' : List ℕ) (i : ℕ) → i < 16 → l' ≡ sets l (23 * (f + i)) (recordWords (recAt rs (f + i)))
-      → sets l' (23 * (f + (i + 1))) (queueWords (drop (i + 1) (sixteen rs f))) ≡ sets l (23 * (f + i)) (queueWords (drop i (sixteen rs f)))
-  sixteen-next l l' i h stored =
-      joined-next recordWords 23 record-size l l' (recordWords (recAt rs (f + i))) (sixteen rs f) (23 * (f + i)) (23 * (f + (i + 1))) i emptyRecord (omega (arith, sixteen-size)) stored
-      (ap recordWords (sym (getD-take 16 (drop f rs) i emptyRecord h ∙ getD-drop f rs i emptyRecord))) (omega arith)
+pub sixteen-done : (rs : List Record) → length rs ≡ perTimeslot → (l : List ℕ) (p i : ℕ) → perTimeslot ≤ i → sets l p (queueWords (drop i rs)) ≡ l
+sixteen-done rs size l p i h = joined-done recordWords 23 record-size l rs p i (omega arith)
 
-  pub sixteen-start : (l : List ℕ) → sets l (23 * (f + 0)) (queueWords (drop 0 (sixteen rs f))) ≡ sets l (23 * f) (queueWords (sixteen rs f))
-  sixteen-start l = let e : f + 0 ≡ f = omega arith in ap (λ (p : ℕ). sets l (23 * p) (queueWords (sixteen rs f))) e
+-- those of a queue, from place f on
+abbrev sixteen : List Record → ℕ → List Record
+sixteen rs f = take perTimeslot (drop f rs)
 
-  pub sixteen-done : (l : List ℕ) (p i : ℕ) → 16 ≤ i → sets l p (queueWords (drop i (sixteen rs f))) ≡ l
-  sixteen-done l p i h = joined-done recordWords 23 record-size l (sixteen rs f) p i (omega (arith, sixteen-size))
+sixteen-size : (rs : List Record) (f : ℕ) → length rs ≡ queuePlaces → f + perTimeslot ≤ queuePlaces → length (sixteen rs f) ≡ perTimeslot
+sixteen-size rs f places room = length-take-le perTimeslot (drop f rs) (omega (arith, length-drop f rs))
+
+sixteen-pasted : (rs xs : List Record) (f : ℕ) → f ≤ length rs → length xs ≡ perTimeslot → sixteen (paste rs f xs perTimeslot) f ≡ xs
+sixteen-pasted rs xs f inside size =
+    ap (λ (l : List Record). take perTimeslot (drop f l)) (append-assoc (take f rs) (take perTimeslot xs) (drop (f + perTimeslot) rs))
+    ∙ ap (take perTimeslot) (drop-at (take f rs) (take perTimeslot xs ++ drop (f + perTimeslot) rs) f (length-take-le f rs inside))
+    ∙ take-at (take perTimeslot xs) (drop (f + perTimeslot) rs) perTimeslot (length-take-le perTimeslot xs (omega arith))
+    ∙ take-all perTimeslot xs (omega arith)
 
 -- the records before them, they, and those behind
-queue-split : (rs : List Record) (f : ℕ) → queueWords rs ≡ queueWords (take f rs) ++ (queueWords (sixteen rs f) ++ queueWords (drop (f + 16) rs))
+queue-split : (rs : List Record) (f : ℕ) → queueWords rs ≡ queueWords (take f rs) ++ (queueWords (sixteen rs f) ++ queueWords (drop (f + perTimeslot) rs))
 queue-split rs f =
     ap queueWords (sym (take-append-drop f rs))
     ∙ joined-append recordWords (take f rs) (drop f rs)
     ∙ ap (λ (l : List ℕ). queueWords (take f rs) ++ l)
-    (ap queueWords (sym (take-append-drop 16 (drop f rs))) ∙ joined-append recordWords (sixteen rs f) (drop 16 (drop f rs))
-    ∙ ap (λ (l : List Record). queueWords (sixteen rs f) ++ queueWords l) (drop-drop 16 f rs))
+    (ap queueWords (sym (take-append-drop perTimeslot (drop f rs))) ∙ joined-append recordWords (sixteen rs f) (drop perTimeslot (drop f rs))
+    ∙ ap (λ (l : List Record). queueWords (sixteen rs f) ++ queueWords l) (drop-drop perTimeslot f rs))
 
 -- where all others are unchanged
-pub sixteen-words : (ns s ws : List ℕ) → length ns ≡ 4 → soundQueue ns (queueFrom ws) s ≡ true → (f : ℕ) → f ≤ 48 → (rs : List Record) → length rs ≡ 64
-    → take f rs ≡ take f (queueFrom ws) → drop (f + 16) rs ≡ drop (f + 16) (queueFrom ws) → sets ws (23 * f) (queueWords (sixteen rs f)) ≡ queueWords rs
+pub sixteen-words : (ns s ws : List ℕ) → length ns ≡ 4 → soundQueue ns (queueFrom ws) s ≡ true → (f : ℕ) → f + perTimeslot ≤ queuePlaces → (rs : List Record) → length rs ≡ queuePlaces
+    → take f rs ≡ take f (queueFrom ws) → drop (f + perTimeslot) rs ≡ drop (f + perTimeslot) (queueFrom ws) → sets ws (23 * f) (queueWords (sixteen rs f)) ≡ queueWords rs
 sixteen-words ns s ws counts h f room rs places before behind =
     let old = queueFrom ws in
-    let olds : length old ≡ 64 = ap (length {A = Record}) (sound-read ns s ws counts h) ∙ length-parts recordRead 23 64 ws in
+    let olds : length old ≡ queuePlaces = ap (length {A = Record}) (sound-read ns s ws counts h) ∙ length-parts recordRead 23 queuePlaces ws in
     let size : (n : ℕ) (xs : List Record) → length xs ≡ n → length (queueWords xs) ≡ n * 23 = λ n xs e. length-joined recordWords 23 record-size xs ∙ ap (λ (m : ℕ). m * 23) e in
     let first : length (queueWords (take f old)) ≡ 23 * f = size f (take f old) (length-take-le f old (omega (arith, olds))) ∙ omega arith in
     let middle : length (queueWords (sixteen old f)) ≡ length (queueWords (sixteen rs f)) =
-    size 16 (sixteen old f) (sixteen-size old f olds room) ∙ sym (size 16 (sixteen rs f) (sixteen-size rs f places room)) in
+    size perTimeslot (sixteen old f) (sixteen-size old f olds room) ∙ sym (size perTimeslot (sixteen rs f) (sixteen-size rs f places room)) in
     ap (λ (l : List ℕ). sets l (23 * f) (queueWords (sixteen rs f))) (sym (sound-words ns s ws counts h) ∙ queue-split old f)
-    ∙ sets-middle (queueWords (take f old)) (queueWords (sixteen old f)) (queueWords (drop (f + 16) old)) (queueWords (sixteen rs f)) (23 * f) first middle
+    ∙ sets-middle (queueWords (take f old)) (queueWords (sixteen old f)) (queueWords (drop (f + perTimeslot) old)) (queueWords (sixteen rs f)) (23 * f) first middle
     ∙ ap₂ (λ (a b : List Record). queueWords a ++ (queueWords (sixteen rs f) ++ queueWords b)) (sym before) (sym behind)
     ∙ sym (queue-split rs f)
 
 -- as a call leaves a timeslot's records
-pub pasted-words : (ns s ws : List ℕ) → length ns ≡ 4 → soundQueue ns (queueFrom ws) s ≡ true → (f : ℕ) → f ≤ 48 → (xs : List Record) → 16 ≤ length xs
-    → sets ws (23 * f) (queueWords (sixteen (paste (queueFrom ws) f xs 16) f)) ≡ queueWords (paste (queueFrom ws) f xs 16)
-pasted-words ns s ws counts h f room xs long =
+pub pasted-words : (ns s ws : List ℕ) → length ns ≡ timeslots → soundQueue ns (queueFrom ws) s ≡ true → (f : ℕ) → f + perTimeslot ≤ queuePlaces → (xs : List Record) → length xs ≡ perTimeslot
+    → sets ws (23 * f) (queueWords xs) ≡ queueWords (paste (queueFrom ws) f xs perTimeslot)
+pasted-words ns s ws counts h f room xs size =
     let old = queueFrom ws in
-    let olds : length old ≡ 64 = ap (length {A = Record}) (sound-read ns s ws counts h) ∙ length-parts recordRead 23 64 ws in
-    let before : take f (paste old f xs 16) ≡ take f old =
-    sym (take-take f (f + 16) (paste old f xs 16) (omega arith)) ∙ ap (take f) (take-paste old f xs 16 (omega (arith, olds)) long)
-    ∙ take-at (take f old) (take 16 xs) f (length-take-le f old (omega (arith, olds))) in
-    sixteen-words ns s ws counts h f room (paste old f xs 16) (length-paste old f xs 16 (omega (arith, olds)) long ∙ olds) before (drop-paste old f xs 16 (omega (arith, olds)) long)
+    let olds : length old ≡ queuePlaces = ap (length {A = Record}) (sound-read ns s ws counts h) ∙ length-parts recordRead 23 queuePlaces ws in
+    let before : take f (paste old f xs perTimeslot) ≡ take f old =
+    sym (take-take f (f + perTimeslot) (paste old f xs perTimeslot) (omega arith)) ∙ ap (take f) (take-paste old f xs perTimeslot (omega (arith, olds)) (omega arith))
+    ∙ take-at (take f old) (take perTimeslot xs) f (length-take-le f old (omega (arith, olds))) in
+    ap (λ (l : List Record). sets ws (23 * f) (queueWords l)) (sym (sixteen-pasted old xs f (omega (arith, olds)) size))
+    ∙ sixteen-words ns s ws counts h f room (paste old f xs perTimeslot) (length-paste old f xs perTimeslot (omega (arith, olds)) (omega arith) ∙ olds) before
+    (drop-paste old f xs perTimeslot (omega (arith, olds)) (omega arith))

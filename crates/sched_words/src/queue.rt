@@ -6,11 +6,13 @@ use dl_record::Record;
 use mac_pdus::ChanAllocElement;
 use mac_pdus::OptChanAlloc;
 use optional::OptU16;
+use sizes::PER_TIMESLOT;
 ghost use mathlib.Core.Path.{_≡_};
 ghost use mathlib.Core.Bool.{true, false, _&&_};
-ghost use Prim.Native.Nat.{_*_, _<_, _≤_};
+ghost use Prim.Native.Nat.{_+_, _*_, _<_, _≤_};
 ghost use lib.ListN.{length, take, drop};
 ghost use lib.Seq.{sets};
+ghost use Rattle.sizes.specs.Sizes.{perTimeslot, queuePlaces};
 ghost use Rattle.dl_queue.specs.Questions.{soundPlace, soundQueue};
 ghost use Rattle.sched_words.specs.Words.{sameWords, wordAt, allocWords, allocFrom, headerFrom, recordWords, recordRead, noRecord, recordFrom, queueWords, recordsRead, queueFrom};
 ghost use Rattle.sched_words.specs.Front.{begins};
@@ -157,16 +159,16 @@ fn record_read(words: &[u32]) -> Record
     }
 }
 
-// The 64 records read from the words as they stand.
-pub fn records_read(words: &[u32]) -> [Record; 64]
-    requires { ⌜ 1472 ≤ length (now words) ⌝ }
-    ensures { λ r. ⌜ r ≡ recordsRead (now (words .entry)) ⌝ }
+// The records of a timeslot, the first of them at `first`, read from the words as they stand.
+pub fn sixteen_read(words: &[u32], first: usize) -> [Record; PER_TIMESLOT]
+    requires { ⌜ (first + perTimeslot ≤ queuePlaces) × (length (now words) ≡ 1472) ⌝ }
+    ensures { λ r. ⌜ r ≡ take perTimeslot (drop first (recordsRead (now (words .entry)))) ⌝ }
 {
-    let mut records = [Record::EMPTY; 64];
-    for i in 0..64 {
-        let at = 23 * i;
+    let mut records = [Record::EMPTY; PER_TIMESLOT];
+    for k in 0..PER_TIMESLOT {
+        let at = 23 * (first + k);
         let r = record_read(&words[at..]);
-        records[i] = r;
+        records[k] = r;
     }
     records
 }
@@ -304,14 +306,13 @@ pub fn put_record(words: &mut [u32], place: usize, r: Record)
     word::put(words, 23 * place, &w);
 }
 
-// Stores the words of the sixteen records of a timeslot, the first of them at `first`.
-pub fn put_sixteen(words: &mut [u32], first: usize, records: [Record; 64])
-    requires { ⌜ (first ≤ 48) × (length (now words) ≡ 1472) ⌝ }
-    ensures { λ _. ⌜ now (words .exit) ≡ sets (now (words .entry)) (23 * first) (queueWords (take 16 (drop first records))) ⌝ }
+// Stores the words of the records of a timeslot, the first of them at `first`.
+pub fn put_sixteen(words: &mut [u32], first: usize, records: [Record; PER_TIMESLOT])
+    requires { ⌜ (first + perTimeslot ≤ queuePlaces) × (length (now words) ≡ 1472) ⌝ }
+    ensures { λ _. ⌜ now (words .exit) ≡ sets (now (words .entry)) (23 * first) (queueWords records) ⌝ }
 {
-    for i in 0..16 {
-        let place = first + i;
-        let r = records[place];
-        put_record(words, place, r);
+    for i in 0..PER_TIMESLOT {
+        let r = records[i];
+        put_record(words, first + i, r);
     }
 }

@@ -7,6 +7,7 @@ use Prim.Native.Nat.{ℕ, zero, suc, _+_, _-_, _*_, _/_, _%_, _^_, _<_, _≤_, m
 use native.Mathlib.Nat.{add-zero}
 use lib.Dec.{eqb}
 use borrow.Author.Tests.{eqb-true}
+use Rattle.sizes.specs.Sizes.{cellOctets, sduBits}
 use Rattle.optional.proofs.Tests.{and-left, and-right}
 use Rattle.dl_record.proofs.Tests.{lt-or-le}
 use native.Mathlib.Omega.{arith}
@@ -102,25 +103,25 @@ octets-from (suc k) n s h zero = kept-small (min n 8) (getD s 0 0) (h 0)
 octets-from (suc k) n s h (suc i) = octets-from k (n - 8) (drop 1 s) (λ j. rw (getD-drop 1 s j 0) (h (1 + j))) i
 
 -- its octets are those that are written one by one
-pub cell-octets : (n : ℕ) (s : List ℕ) → n ≤ 2048 → n ≤ 8 * length s → ((i : ℕ) → getD s i 0 < 2 ^ 8) → octetCell n s ≡ cellOf n s
+pub cell-octets : (n : ℕ) (s : List ℕ) → n ≤ sduBits → n ≤ 8 * length s → ((i : ℕ) → getD s i 0 < 2 ^ 8) → octetCell n s ≡ cellOf n s
 unfolding cellOf octetCell
 cell-octets n s h l o =
-    sym (packed-bitsOf (cellFrom 256 n s) (octets-from 256 n s o))
-    ∙ ap₂ packed (length-cellFrom 256 n s) (bits-cellFrom 256 n s h l)
+    sym (packed-bitsOf (cellFrom cellOctets n s) (octets-from cellOctets n s o))
+    ∙ ap₂ packed (length-cellFrom cellOctets n s) (bits-cellFrom cellOctets n s h l)
 
-sdu-size : (n : ℕ) (s : List ℕ) → n ≤ 2048 → n ≤ 8 * length s → length (take n (bitsOf s) ++ zeros (2048 - n)) ≡ 2048
+sdu-size : (n : ℕ) (s : List ℕ) → n ≤ sduBits → n ≤ 8 * length s → length (take n (bitsOf s) ++ zeros (sduBits - n)) ≡ sduBits
 sdu-size n s h l =
     let a : length (take n (bitsOf s)) ≡ n = length-take-le n (bitsOf s) (rw length-bitsOf l) in
-    length-append (take n (bitsOf s)) (zeros (2048 - n)) ∙ omega (arith, a, length-replicate {A = ℕ} (2048 - n) 0)
+    length-append (take n (bitsOf s)) (zeros (sduBits - n)) ∙ omega (arith, a, length-replicate {A = ℕ} (sduBits - n) 0)
 
 length-packed : (n : ℕ) (l : List ℕ) → length (packed n l) ≡ n
 unfolding packed
 length-packed zero l = refl
 length-packed (suc n) l = ap suc (length-packed n (drop 8 l))
 
-pub length-cellOf : (n : ℕ) (s : List ℕ) → length (cellOf n s) ≡ 256
+pub length-cellOf : (n : ℕ) (s : List ℕ) → length (cellOf n s) ≡ cellOctets
 unfolding cellOf
-length-cellOf n s = length-packed 256 (take n (bitsOf s) ++ zeros (2048 - n))
+length-cellOf n s = length-packed cellOctets (take n (bitsOf s) ++ zeros (sduBits - n))
 
 pub zero-bits : (n : ℕ) → AreBits (zeros n)
 unfolding AreBits
@@ -128,9 +129,9 @@ zero-bits zero = tt
 zero-bits (suc n) = (omega arith, zero-bits n)
 
 -- its bits are the SDU's, then zeros
-pub bits-cellOf : (n : ℕ) (s : List ℕ) → n ≤ 2048 → n ≤ 8 * length s → bitsOf (cellOf n s) ≡ take n (bitsOf s) ++ zeros (2048 - n)
+pub bits-cellOf : (n : ℕ) (s : List ℕ) → n ≤ sduBits → n ≤ 8 * length s → bitsOf (cellOf n s) ≡ take n (bitsOf s) ++ zeros (sduBits - n)
 unfolding cellOf
-bits-cellOf n s h l = bitsOf-packed 256 (take n (bitsOf s) ++ zeros (2048 - n)) (bits-append (take n (bitsOf s)) (zeros (2048 - n)) (bits-take n (bitsOf s) (bits-bitsOf s)) (zero-bits (2048 - n))) (sdu-size n s h l)
+bits-cellOf n s h l = bitsOf-packed cellOctets (take n (bitsOf s) ++ zeros (sduBits - n)) (bits-append (take n (bitsOf s)) (zeros (sduBits - n)) (bits-take n (bitsOf s) (bits-bitsOf s)) (zero-bits (sduBits - n))) (sdu-size n s h l)
 
 pub all-zeros : (n : ℕ) → allZero (zeros n) ≡ true
 unfolding allZero
@@ -138,12 +139,12 @@ all-zeros zero = refl
 all-zeros (suc n) = all-zeros n
 
 -- a cell that was written is clean
-pub clean-cellOf : (n : ℕ) (s : List ℕ) → n ≤ 2048 → n ≤ 8 * length s → cleanPast n (cellOf n s) ≡ true
+pub clean-cellOf : (n : ℕ) (s : List ℕ) → n ≤ sduBits → n ≤ 8 * length s → cleanPast n (cellOf n s) ≡ true
 unfolding cleanPast
 clean-cellOf n s h l =
     ap (λ (b : List ℕ). allZero (drop n b)) (bits-cellOf n s h l)
-    ∙ ap allZero (drop-at (take n (bitsOf s)) (zeros (2048 - n)) n (length-take-le n (bitsOf s) (rw length-bitsOf l)))
-    ∙ all-zeros (2048 - n)
+    ∙ ap allZero (drop-at (take n (bitsOf s)) (zeros (sduBits - n)) n (length-take-le n (bitsOf s) (rw length-bitsOf l)))
+    ∙ all-zeros (sduBits - n)
 
 -- a list of zeros
 pub zero-list : (l : List ℕ) → allZero l ≡ true → l ≡ zeros (length l)

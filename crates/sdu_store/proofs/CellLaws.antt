@@ -8,6 +8,7 @@ use native.Mathlib.Omega.{arith}
 use lib.Pow.{split}
 use lib.ListN.{length, drop, take, getD, set, replicate, length-replicate, length-drop, getD-replicate}
 use lib.Seq.{getD-drop, drop-drop, length-take-le, drop-paste, take-paste, take-add, getD-take, ext-getD, paste, paste-suc}
+use Rattle.sizes.specs.Sizes.{cellOctets, sduBits}
 use Rattle.sdu_store.specs.Cells.{kept}
 
 -- k octets of a cell, one by one: the first n bits of s, then zeros
@@ -16,16 +17,16 @@ cellFrom zero n s = []
 cellFrom (suc k) n s = kept (min n 8) (getD s 0 0) ∷ cellFrom k (n - 8) (drop 1 s)
 
 unfoldable pub octetCell : ℕ → List ℕ → List ℕ
-octetCell n s = cellFrom 256 n s
+octetCell n s = cellFrom cellOctets n s
 
 pub length-cellFrom : (k n : ℕ) (s : List ℕ) → length (cellFrom k n s) ≡ k
 unfolding cellFrom
 length-cellFrom zero n s = refl
 length-cellFrom (suc k) n s = ap suc (length-cellFrom k (n - 8) (drop 1 s))
 
-pub length-octetCell : (n : ℕ) (s : List ℕ) → length (octetCell n s) ≡ 256
+pub length-octetCell : (n : ℕ) (s : List ℕ) → length (octetCell n s) ≡ cellOctets
 unfolding octetCell
-length-octetCell n s = length-cellFrom 256 n s
+length-octetCell n s = length-cellFrom cellOctets n s
 
 cell-at : (k i n : ℕ) (s : List ℕ) → i < k → getD (cellFrom k n s) i 0 ≡ kept (min (n - 8 * i) 8) (getD s i 0)
 unfolding cellFrom
@@ -60,23 +61,23 @@ pub edge-none : (x r : ℕ) → r ≡ 0 → 0 ≡ kept r x
 edge-none x r e = sym (ap (λ (m : ℕ). kept m x) e ∙ kept-none x)
 
 -- a whole octet, the octet at the edge, an octet past it
-pub cell-whole : (n i : ℕ) (s : List ℕ) → i < 256 → i < n / 8 → getD s i 0 ≡ getD (octetCell n s) i 0
+pub cell-whole : (n i : ℕ) (s : List ℕ) → i < cellOctets → i < n / 8 → getD s i 0 ≡ getD (octetCell n s) i 0
 unfolding octetCell
 cell-whole n i s h k =
     let e : min (n - 8 * i) 8 ≡ 8 = omega arith in
-    sym (cell-at 256 i n s h ∙ ap (λ (m : ℕ). kept m (getD s i 0)) e ∙ kept-all (getD s i 0))
+    sym (cell-at cellOctets i n s h ∙ ap (λ (m : ℕ). kept m (getD s i 0)) e ∙ kept-all (getD s i 0))
 
-pub cell-edge : (n : ℕ) (s : List ℕ) → n / 8 < 256 → kept (n % 8) (getD s (n / 8) 0) ≡ getD (octetCell n s) (n / 8) 0
+pub cell-edge : (n : ℕ) (s : List ℕ) → n / 8 < cellOctets → kept (n % 8) (getD s (n / 8) 0) ≡ getD (octetCell n s) (n / 8) 0
 unfolding octetCell
 cell-edge n s h =
     let e : min (n - 8 * (n / 8)) 8 ≡ n % 8 = omega arith in
-    sym (cell-at 256 (n / 8) n s h ∙ ap (λ (m : ℕ). kept m (getD s (n / 8) 0)) e)
+    sym (cell-at cellOctets (n / 8) n s h ∙ ap (λ (m : ℕ). kept m (getD s (n / 8) 0)) e)
 
-pub cell-past : (n i : ℕ) (s : List ℕ) → i < 256 → n / 8 < i → 0 ≡ getD (octetCell n s) i 0
+pub cell-past : (n i : ℕ) (s : List ℕ) → i < cellOctets → n / 8 < i → 0 ≡ getD (octetCell n s) i 0
 unfolding octetCell
 cell-past n i s h k =
     let e : min (n - 8 * i) 8 ≡ 0 = omega arith in
-    sym (cell-at 256 i n s h ∙ ap (λ (m : ℕ). kept m (getD s i 0)) e ∙ kept-none (getD s i 0))
+    sym (cell-at cellOctets i n s h ∙ ap (λ (m : ℕ). kept m (getD s i 0)) e ∙ kept-none (getD s i 0))
 
 -- a turn of a loop that writes a list octet by octet
 module _ {A : Type 0} (d : List A) (at : ℕ) (s l : List A) (i : ℕ) (x z : A) where
@@ -100,7 +101,7 @@ paste-next {A} d at s i e k h hd hs =
 pub paste-same : {A : Type 0} (d : List A) (at : ℕ) (s t : List A) (n : ℕ) → take n s ≡ take n t → paste d at s n ≡ paste d at t n
 paste-same {A} d at s t n e = ap (λ (a : List A). take at d ++ a ++ drop (at + n) d) e
 
-pub cell-prefix : (n : ℕ) (s : List ℕ) → n ≤ 2048 → n ≤ 8 * length s → take (n / 8) s ≡ take (n / 8) (octetCell n s)
+pub cell-prefix : (n : ℕ) (s : List ℕ) → n ≤ sduBits → n ≤ 8 * length s → take (n / 8) s ≡ take (n / 8) (octetCell n s)
 cell-prefix n s h k =
     let w : ℕ = n / 8 in
     let one : length (take w s) ≡ w = length-take-le w s (omega arith) in
@@ -109,7 +110,7 @@ cell-prefix n s h k =
     (λ i b. let q : i < w = omega (arith, one, b) in
     getD-take w s i 0 q ∙ cell-whole n i s (omega arith) q ∙ sym (getD-take w (octetCell n s) i 0 q))
 
-pub cell-suffix : (n : ℕ) (s : List ℕ) → n / 8 < 256 → take (255 - n / 8) (replicate (255 - n / 8) 0) ≡ take (255 - n / 8) (drop (n / 8 + 1) (octetCell n s))
+pub cell-suffix : (n : ℕ) (s : List ℕ) → n / 8 < cellOctets → take (cellOctets - 1 - n / 8) (replicate (cellOctets - 1 - n / 8) 0) ≡ take (cellOctets - 1 - n / 8) (drop (n / 8 + 1) (octetCell n s))
 cell-suffix n s h =
     let w : ℕ = n / 8 in
     let k : ℕ = 255 - w in
@@ -123,19 +124,19 @@ cell-suffix n s h =
     ∙ cell-past n (w + 1 + i) s (omega arith) (omega arith) ∙ sym (getD-drop (w + 1) (octetCell n s) i 0) ∙ sym (getD-take k t i 0 q))
 
 -- a cell written in three steps
-pub cell-written : (d : List ℕ) (base n : ℕ) (s : List ℕ) (x : ℕ) → base + 256 ≤ length d → n ≤ 2048 → n ≤ 8 * length s → n / 8 < 256 → x ≡ kept (n % 8) (getD s (n / 8) 0)
-    → paste (set (paste d base s (n / 8)) (base + n / 8) x) (base + (n / 8 + 1)) (replicate (255 - n / 8) 0) (255 - n / 8) ≡ paste d base (octetCell n s) 256
+pub cell-written : (d : List ℕ) (base n : ℕ) (s : List ℕ) (x : ℕ) → base + cellOctets ≤ length d → n ≤ sduBits → n ≤ 8 * length s → n / 8 < cellOctets → x ≡ kept (n % 8) (getD s (n / 8) 0)
+    → paste (set (paste d base s (n / 8)) (base + n / 8) x) (base + (n / 8 + 1)) (replicate (cellOctets - 1 - n / 8) 0) (cellOctets - 1 - n / 8) ≡ paste d base (octetCell n s) cellOctets
 cell-written d base n s x hd h k b e =
     let w : ℕ = n / 8 in
     let c : List ℕ = octetCell n s in
-    let full : length c ≡ 256 = length-octetCell n s in
-    let end : w + 1 + (255 - w) ≡ 256 = omega arith in
+    let full : length c ≡ cellOctets = length-octetCell n s in
+    let end : w + 1 + (cellOctets - 1 - w) ≡ cellOctets = omega arith in
     let first : paste d base s w ≡ paste d base c w = paste-same d base s c w (cell-prefix n s h k) in
     let second : set (paste d base s w) (base + w) x ≡ paste d base c (w + 1) =
     paste-turn d base c (paste d base s w) w x 0 first (omega arith) (omega arith) (e ∙ cell-edge n s b) in
-    ap (λ (l : List ℕ). paste l (base + (w + 1)) (replicate (255 - w) 0) (255 - w)) second
-    ∙ paste-next d base c (w + 1) (replicate (255 - w) 0) (255 - w) (cell-suffix n s b) (omega arith) (omega arith)
+    ap (λ (l : List ℕ). paste l (base + (w + 1)) (replicate (cellOctets - 1 - w) 0) (cellOctets - 1 - w)) second
+    ∙ paste-next d base c (w + 1) (replicate (cellOctets - 1 - w) 0) (cellOctets - 1 - w) (cell-suffix n s b) (omega arith) (omega arith)
     ∙ ap (paste d base c) end
 
-pub cell-full : (d : List ℕ) (base n : ℕ) (s : List ℕ) → n ≤ 2048 → n ≤ 8 * length s → n / 8 ≡ 256 → paste d base s (n / 8) ≡ paste d base (octetCell n s) 256
+pub cell-full : (d : List ℕ) (base n : ℕ) (s : List ℕ) → n ≤ sduBits → n ≤ 8 * length s → n / 8 ≡ cellOctets → paste d base s (n / 8) ≡ paste d base (octetCell n s) cellOctets
 cell-full d base n s h k e = paste-same d base s (octetCell n s) (n / 8) (cell-prefix n s h k) ∙ ap (paste d base (octetCell n s)) e

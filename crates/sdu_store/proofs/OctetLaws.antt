@@ -4,6 +4,7 @@ use Prim.Native.Nat.{ℕ, zero, suc, _+_, _-_, _^_, _<_}
 use native.Mathlib.Omega.{arith}
 use lib.ListN.{getD, drop, take, replicate}
 use lib.Seq.{getD-drop, paste}
+use Rattle.sizes.specs.Sizes.{cellOctets, sduBits}
 use Rattle.bitbuffer.specs.Bits.{bitsOf, packed, part, AreBits}
 use Rattle.bitbuffer.proofs.Laws.{part-lt, bits-drop, bits-append, bits-take, bits-bitsOf}
 use Rattle.sdu_store.specs.Cells.{cellOf}
@@ -44,5 +45,5 @@ octets-packed (suc n) l h (suc i) = octets-packed n (drop 8 l) (bits-drop 8 l h)
 pub octets-cellOf : (n : ℕ) (s : List ℕ) → Octets (cellOf n s)
 unfolding cellOf
 octets-cellOf n s =
-    octets-packed 256 (take n (bitsOf s) ++ replicate (2048 - n) 0)
-    (bits-append (take n (bitsOf s)) (replicate (2048 - n) 0) (bits-take n (bitsOf s) (bits-bitsOf s)) (zero-bits (2048 - n)))
+    octets-packed cellOctets (take n (bitsOf s) ++ replicate (sduBits - n) 0)
+    (bits-append (take n (bitsOf s)) (replicate (sduBits - n) 0) (bits-take n (bitsOf s) (bits-bitsOf s)) (zero-bits (sduBits - n)))

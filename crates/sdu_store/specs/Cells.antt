@@ -4,6 +4,7 @@ use mathlib.Core.List.{List, [], _∷_, _++_}
 use Prim.Native.Nat.{ℕ, zero, suc, _-_, _*_, _/_, _^_}
 use lib.Dec.{eqb}
 use lib.ListN.{drop, take, replicate}
+use Rattle.sizes.specs.Sizes.{cellOctets, sduBits}
 use Rattle.bitbuffer.specs.Bits.{bitsOf, packed}
 
 unfoldable pub allZero : List ℕ → Bool
@@ -16,7 +17,7 @@ cleanPast n cell = allZero (drop n (bitsOf cell))
 
 -- the cell of an SDU of n bits: its bits, then zeros
 unfoldable pub cellOf : ℕ → List ℕ → List ℕ
-cellOf n sdu = packed 256 (take n (bitsOf sdu) ++ replicate (2048 - n) 0)
+cellOf n sdu = packed cellOctets (take n (bitsOf sdu) ++ replicate (sduBits - n) 0)
 
 -- the first r bits of an octet, then zeros
 unfoldable pub kept : ℕ → ℕ → ℕ

@@ -1,9 +1,11 @@
 // Cells of the SDU store: 256 octets each, most significant bit first.
+use sizes::CELL_OCTETS;
 ghost use mathlib.Core.Path.{_≡_};
 ghost use Prim.Native.Nat.{_+_, _*_, _<_, _≤_};
 ghost use lib.ListN.{length, getD, drop, replicate};
 ghost use lib.Dec.{eqb};
 ghost use lib.Seq.{paste};
+ghost use Rattle.sizes.specs.Sizes.{cellOctets, sduBits};
 ghost use Rattle.sdu_store.specs.Cells.{allZero, cleanPast, cellOf, kept};
 
 // The octets, one or-ed to another: 0 exactly if each is 0. No branch for an octet.
@@ -88,14 +90,14 @@ pub fn zero_octets(dst: &mut [u8], at: usize, n: usize)
 
 // Writes a cell: the first `bits` bits of an SDU, then zeros.
 pub fn write_cell(store: &mut [u8], base: usize, sdu: &[u8], bits: usize)
-    requires { ⌜ (base + 256 ≤ length (now store)) × (bits ≤ 2048) × (bits ≤ 8 * length (now sdu)) ⌝ }
-    ensures { λ _. ⌜ now (store .exit) ≡ paste (now (store .entry)) base (cellOf bits (now (sdu .entry))) 256 ⌝ }
+    requires { ⌜ (base + cellOctets ≤ length (now store)) × (bits ≤ sduBits) × (bits ≤ 8 * length (now sdu)) ⌝ }
+    ensures { λ _. ⌜ now (store .exit) ≡ paste (now (store .entry)) base (cellOf bits (now (sdu .entry))) cellOctets ⌝ }
 {
     let whole = bits / 8;
     copy_octets(store, base, sdu, 0, whole);
-    if whole == 256 {
+    if whole == CELL_OCTETS {
         return;
     }
     store[base + whole] = edge(sdu, whole, bits % 8);
-    zero_octets(store, base + (whole + 1), 255 - whole);
+    zero_octets(store, base + (whole + 1), CELL_OCTETS - 1 - whole);
 }

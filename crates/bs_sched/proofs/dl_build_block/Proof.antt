@@ -1,22 +1,30 @@
 -- `bs_sched::dl_build_block` meets its contract, by its derivation (`Proof/Lts.antt`): the questions, then nothing to build, or the build on the queue's records.
 mod Lts
 mod Tie
-use mathlib.Core.Path.{_≡_, ap, _∙_}
+use mathlib.Core.Path.{_≡_, sym, ap, _∙_}
+use mathlib.Core.Bool.{true}
 use mathlib.Core.List.{List}
+use Prim.Native.Nat.{ℕ, _*_}
+use native.Mathlib.Omega.{arith}
+use lib.ListN.{length, take, drop}
+use lib.Seq.{paste}
 use borrow.Author.Needs.{needs}
 use borrow.Author.Tests.{eqb-true}
+use Rattle.sizes.specs.Sizes.{timeslots, perTimeslot}
 use Rattle.dl_record.specs.declared.Record.{Record}
-use Rattle.dl_queue.specs.Questions.{soundQueue}
 use Rattle.sched_core.specs.Questions.{asksBlock}
-use Rattle.questions.proofs.AskLaws.{said-no}
+use Rattle.sched_core.specs.Calls.{current, buildsNow}
+use Rattle.questions.proofs.AskLaws.{said-no, said-yes}
 use Rattle.enqueue_core.proofs.PlanLaws.{Told}
-use Rattle.bs_sched.proofs.EntryLaws.{told, build-refused, build-nothing, build-saved}
-use Rattle.bs_sched.proofs.QueueLaws.{first64-whole}
+use Rattle.bs_sched.proofs.EntryLaws.{told, build-refused, build-nothing, records-sound, plan-built}
 use Rattle.bs_sched.proofs.dl_build_block.Statement.{statement}
 use Rattle.bs_sched.proofs.dl_build_block.Proof.Tie as tie
 
 abbrev start : tie.After-ask-memory → tie.Start
 start q = q .before .before .before .before .before
+
+four : (s : tie.Start) → length (s .args .s .queued) ≡ timeslots
+four s = search needs
 
 returns : tie.Need-returns
 returns c =
@@ -46,28 +54,75 @@ returns-2 c =
     rw (c .not-built2 .ensures)
     (build-nothing (a .s) (a .queue .now) (a .store .now) (a .block .now) (q .ask-memory .ensures) (e .enum-told .given .1) (said-no (n .builds-now .ensures) (c .before .if1 .taken)))
 
+-- and there is a block to build
+builds : (c : tie.Else1) → buildsNow (start (c .before .before .before .before) .args .s) ≡ true
+builds c = said-yes (c .before .builds-now .ensures) (c .if1 .left)
+
+first-place-requires : tie.Need-first-place-requires
+first-place-requires c κs = passed (c .before .before) .station
+
+load-timeslot-requires : tie.Need-load-timeslot-requires
+load-timeslot-requires c κs =
+    let f = c .before in
+    let p = passed (f .before .before .before) in
+    omega (arith, f .first-place .ensures .1, p .queue .places)
+
 build-sound-requires : tie.Need-build-sound-requires
 build-sound-requires c κs =
     let l = c .before .before in
-    let e = l .before .before .before .before in
+    let f = l .before .before in
+    let e = f .before .before .before in
     let a = start (e .before .before) .args in
-    let p = passed e in (
+    let p = passed e in
+    let own : l .load-timeslot .result ≡ take perTimeslot (drop (perTimeslot * current (a .s)) (a .queue .now)) =
+    l .load-timeslot .ensures ∙ ap (λ (i : ℕ). take perTimeslot (drop i (a .queue .now))) (f .first-place .ensures .0) in (
       (p .station, p .queue .cells, eqb-true _ _ (p .lengths)),
-      ap (λ (x : List Record). soundQueue (a .s .queued) x (a .store .now)) (l .load-64 .ensures ∙ first64-whole (a .queue .now) (p .queue .places)) ∙ p .queue .sound,
+      rw own (records-sound (a .s) (a .queue .now) (a .store .now) (a .block .now) (e .before .before .ask-memory .ensures) p (builds (f .before)) (four (start (e .before .before)))),
     )
+
+save-timeslot-requires : tie.Need-save-timeslot-requires
+save-timeslot-requires c κs =
+    let d = c .before .before .before .before .before .before in
+    let f = d .before .before .before .before .before in
+    let p = passed (f .before .before .before) in
+    omega (arith, f .first-place .ensures .1, p .queue .places)
+
+-- the build
+abbrev made : tie.After-queue → tie.After-build-sound
+made c = c .before .before .before .before .before .before .before .before
+
+-- the records that it got are those of the caller's queue
+own : (d : tie.After-build-sound)
+    → let l = d .before .before .before in
+    let a = start (l .before .before .before .before .before .before .before) .args in
+    take perTimeslot (drop (perTimeslot * current (a .s)) (a .queue .now)) ≡ l .load-timeslot .result
+own d =
+    let l = d .before .before .before in
+    let f = l .before .before in
+    let a = start (f .before .before .before .before .before) .args in
+    sym (l .load-timeslot .ensures ∙ ap (λ (i : ℕ). take perTimeslot (drop i (a .queue .now))) (f .first-place .ensures .0))
+
+built-requires : tie.Need-built-requires
+built-requires c κs =
+    let d = made c in
+    let f = d .before .before .before .before .before in
+    let p = passed (f .before .before .before) in
+    let h = d .build-sound .ensures (start (f .before .before .before .before .before) .args .queue .now) (own d) in
+    (p .station, h .few, h .few-tags)
 
 returns-3 : tie.Need-returns-3
 returns-3 c =
-    let v = c .before .before .before in
-    let d = v .before .before .before .before .before .before .before in
-    let l = d .before .before .before in
-    let e = l .before .before .before .before in
+    let q = c .before in
+    let d = made q in
+    let f = d .before .before .before .before .before in
+    let e = f .before .before .before in
     let a = start (e .before .before) .args in
-    build-saved _ _ _ (d .build-sound .result) (passed e .queue .places) (l .load-64 .ensures) (v .save-64 .ensures) (a .s) (a .store .now) _ _ _ (d .build-sound .ensures)
+    plan-built (a .s) (a .queue .now) (a .store .now) (a .block .now) (e .before .before .ask-memory .ensures) (passed e) (builds (f .before)) (d .build-sound .result) _ _ _ _
+    (d .build-sound .ensures (a .queue .now) (own d)) (c .built .ensures) (q .before .save-timeslot .ensures ∙ ap (λ (i : ℕ). paste (a .queue .now) i (d .build-sound .result .records) perTimeslot) (f .first-place .ensures .0))
 
 pub dl-build-block-spec : {M : Type 1} → statement M
 dl-build-block-spec =
     tie.close
     (tie.spec (λ c κs. search needs) (λ c. search needs) (λ c κs. search needs) (λ c. search needs) (λ c. search needs) returns (λ c. search needs)
-    builds-now-requires (λ c κs. search needs) (λ c. search needs) (λ c. search needs) returns-2 (λ c κs. search needs) build-sound-requires
-    (λ c κs. search needs) (λ c. search needs) (λ c. search needs) (λ c. search needs) returns-3)
+    builds-now-requires (λ c κs. search needs) (λ c. search needs) (λ c. search needs) returns-2 first-place-requires load-timeslot-requires build-sound-requires
+    save-timeslot-requires built-requires (λ c. search needs) (λ c. search needs) (λ c. search needs) returns-3)

@@ -1,54 +1,53 @@
--- Nothing, or the block. Assumes nothing.
-use mathlib.Core.Path.{_≡_, sym, ap}
-use Prim.Native.Nat.{ℕ, _-_}
+-- The plan of the current timeslot. Assumes nothing.
+use mathlib.Core.Path.{_≡_}
+use Prim.Native.Nat.{_-_, _<_, _≤_}
 use native.Mathlib.Omega.{arith}
-use lib.ListN.{length}
+use lib.ListN.{length, getD}
+use Rattle.sizes.specs.Sizes.{timeslots, perTimeslot}
 use Rattle.tdma_time.specs.Time.{Valid}
-use Rattle.tdma_time.proofs.TimeLaws.{slotOf-timeslot}
-use Rattle.sched_core.specs.Questions.{Memory, memory}
-use Rattle.questions.proofs.AskLaws.{said-no, said-yes}
 use Rattle.sched_core.proofs.StationLaws.{sound-time}
-use Rattle.build_core.proofs.BuildCallLaws.{none-answered, built-answered}
+use Rattle.build_core.proofs.BuildCallLaws.{current-is, count-few, can-build, plan-now}
 use borrow.Author.Needs.{needs}
 use Rattle.build_core.proofs.build_sound.Statement.{statement}
 use Rattle.build_core.proofs.build_sound.Tie as tie
 
-abbrev all : tie.Start → Memory
-all s = memory (s .args .station) (s .args .records) (s .args .store .now)
-
-places : (s : tie.Start) → length (s .args .records) ≡ 64
-places s = search needs
-
 time : (s : tie.Start) → Valid (s .args .station .uplink .time)
 time s = sound-time (s .args .station) (s .pre .0 .0)
 
-returns : tie.Need-returns
-returns c =
-    let k = c .before .before in
-    let s = k .before .before .before in
-    let p = s .pre .0 in
-    none-answered (all s) (s .args .block .now) (p .0) (places s) (p .1) (p .2) (s .pre .1) _ (said-no (k .builds-now .ensures) (c .before .if1 .taken)) (c .no-block .ensures)
+abbrev start : tie.After-struct-known → tie.Start
+start c = c .before .before .before .before .before
+
+-- the timeslot is one of the four, and its count is no more than its places
+low : (s : tie.Start) → s .args .station .uplink .time .t - 1 < timeslots
+low s = let v = time s in omega (arith, v .t-low, v .t-high)
+
+few : (s : tie.Start) → getD (s .args .station .queued) (s .args .station .uplink .time .t - 1) 0 ≤ perTimeslot
+few s = let four : length (s .args .station .queued) ≡ timeslots = search needs in count-few (s .args .station) (s .pre .0 .0) (s .args .station .uplink .time .t - 1) (omega (arith, low s))
 
 sub-t : tie.Need-sub-t
-sub-t c = time (c .before .before .before .before .before .before .before) .t-low
+sub-t c = time (start c) .t-low
+
+array-read-n : tie.Need-array-read-n
+array-read-n c = let v = time (start c) in omega (arith, v .t-low, v .t-high)
+
+mul-first : tie.Need-mul-dl-build-block-from-signalling-schedule
+mul-first c = let v = time (start (c .before)) in omega (arith, v .t-high)
 
 dl-requires : tie.Need-dl-build-block-from-signalling-schedule-requires
 dl-requires c κs =
-    let s = c .before .before .before .before .before .before .before .before .before in
-    let v = time s in
-    (omega (arith, v .t-low, v .t-high), s .pre .0 .1, s .pre .0 .2, s .pre .1)
+    let s = start (c .before .before) in
+    let a = s .args in
+    can-build (a .station) (a .records) (a .store .now) (a .station .uplink .time .t - 1) (current-is (a .station) (time s)) (low s) (s .pre .0 .1) (s .pre .1) (few s) _ (s .pre .0 .2)
 
-returns-2 : tie.Need-returns-2
-returns-2 c =
-    let d = c .before .before .before .before .before .before .before .before in
-    let e = d .before .before .before .before .before .before in
-    let s = e .before .before .before .before in
-    let p = s .pre .0 in
-    rw (c .with-queued .ensures)
-    (built-answered (all s) (s .args .block .now) (p .0) (places s) (p .1) (p .2) (s .pre .1) (d .dl-build-block-from-signalling-schedule .result) (s .args .station .uplink .time .t - 1) _ _ (said-yes (e .before .builds-now .ensures) (e .if1 .left))
-    (ap (λ (n : ℕ). n - 1) (sym (slotOf-timeslot (s .args .station .uplink .time) (time s)))) (d .dl-build-block-from-signalling-schedule .ensures))
+returns : tie.Need-returns
+returns c =
+    let b = c .before .before .before .before in
+    let s = start (b .before .before .before) in
+    let a = s .args in
+    plan-now (a .station) (a .records) (a .store .now) (a .station .uplink .time .t - 1) (current-is (a .station) (time s)) (low s) (s .pre .0 .1) (s .pre .1) (few s) _ _ _ _ (s .pre .0 .2)
+    (b .dl-build-block-from-signalling-schedule .ensures)
 
 pub build-sound-spec : {M : Type 1} → statement M
 build-sound-spec =
     tie.close
-    (tie.spec (λ c κs. search needs) (λ c κs. search needs) returns sub-t (λ c. search needs) dl-requires (λ c κs. search needs) (λ c. search needs) (λ c. search needs) returns-2)
+    (tie.spec sub-t (λ c. search needs) array-read-n (λ c. search needs) mul-first dl-requires (λ c. search needs) (λ c. search needs) returns)

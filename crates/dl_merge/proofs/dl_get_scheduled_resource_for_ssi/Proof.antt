@@ -5,6 +5,7 @@ use Prim.Native.Nat.{ℕ, _≤_, _<_, _-_}
 use native.Mathlib.Omega.{arith}
 use borrow.Author.Count.{below-more}
 use lib.ListN.{length, getD}
+use Rattle.sizes.specs.Sizes.{perTimeslot}
 use Rattle.dl_record.specs.Record.{emptyRecord}
 use Rattle.dl_queue.proofs.PlaceLaws.{getD-any}
 use Rattle.dl_merge.specs.Merge.{takes}
@@ -13,7 +14,7 @@ use Rattle.dl_merge.proofs.dl_get_scheduled_resource_for_ssi.Statement.
 use Rattle.dl_merge.proofs.dl_get_scheduled_resource_for_ssi.Tie as tie
 
 abbrev Inv-loop : tie.InvT-loop
-Inv-loop count number records i₀ i = (i ≤ count) × (length records ≡ 16) × ((j : ℕ) → j < i → takes number (getD records j emptyRecord) ≡ false)
+Inv-loop count number records i₀ i = (i ≤ count) × (length records ≡ perTimeslot) × ((j : ℕ) → j < i → takes number (getD records j emptyRecord) ≡ false)
 
 abbrev μ-loop : tie.MeasureT-loop
 μ-loop count number records i₀ i = count - i

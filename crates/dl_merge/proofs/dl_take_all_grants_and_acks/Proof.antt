@@ -3,6 +3,7 @@ use mathlib.Core.Path.{_≡_, sym, _∙_, subst}
 use Prim.Native.Nat.{ℕ, _≤_, _-_}
 use native.Mathlib.Omega.{arith}
 use lib.ListN.{length}
+use Rattle.sizes.specs.Sizes.{perTimeslot}
 use Rattle.dl_record.specs.Record.{emptyRecord}
 use Rattle.dl_queue.proofs.PlaceLaws.{getD-any}
 use Rattle.dl_merge.proofs.TurnLaws.{Holds, kept, kept-start, kept-turn, kept-skip, list-held}
@@ -11,7 +12,7 @@ use Rattle.dl_merge.proofs.dl_take_all_grants_and_acks.Statement.{state
 use Rattle.dl_merge.proofs.dl_take_all_grants_and_acks.Tie as tie
 
 abbrev Inv-loop : tie.InvT-loop
-Inv-loop n records out₀ from₀ k₀ i₀ out from k i = (i ≤ n) × (length records ≡ 16) × (k ≤ i) × Holds (kept i records) out from k
+Inv-loop n records out₀ from₀ k₀ i₀ out from k i = (i ≤ n) × (length records ≡ perTimeslot) × (k ≤ i) × Holds (kept i records) out from k
 
 abbrev μ-loop : tie.MeasureT-loop
 μ-loop n records out₀ from₀ k₀ i₀ out from k i = n - i

@@ -20,28 +20,24 @@ abbrev μ-loop : tie.MeasureT-loop
 loop-holds : tie.Need-loop-holds Inv-loop μ-loop
 loop-holds c = running-start _ _ _ _ _ _ _ _ _ _ refl refl refl
 
-add-get-next-chunk : tie.Need-add-get-next-chunk Inv-loop μ-loop
-add-get-next-chunk c =
-    let l = c .before .before .before in
-    let s = l .before .before .before in
-    let a = s .args in
-    let h = sendable-at (length (a .store .now)) (a .first) (a .n) (a .t5) (a .t6) (l .loop .i) (s .pre .all) (c .before .before .loop-test .taken) in
-    record { fits = omega (arith, h .1, s .pre .stored) }
+add-cell : tie.Need-add-cell Inv-loop μ-loop
+add-cell c =
+    let s = c .before .before .before .before .before in
+    record { fits = omega (arith, s .pre .cells, s .pre .stored) }
 
 get-next-chunk-requires : tie.Need-get-next-chunk-requires Inv-loop μ-loop
 get-next-chunk-requires c κs =
     let l = c .before .before .before in
     let s = l .before .before .before in
     let a = s .args in
-    let h = sendable-at (length (a .store .now)) (a .first) (a .n) (a .t5) (a .t6) (l .loop .i) (s .pre .all) (c .before .before .loop-test .taken) in
     record {
       place = l .loop .inv .room;
       width = s .pre .width;
       room = omega (arith, l .loop .inv .size, s .pre .inside);
       small = omega (arith, l .loop .inv .size, s .pre .bounded);
-      inside = h .1;
+      inside = omega (arith, s .pre .cells);
       bounded = s .pre .stored;
-      sendable = h .0;
+      sendable = sendable-at (a .n) (a .t5) (a .t6) (l .loop .i) (s .pre .all) (c .before .before .loop-test .taken);
     }
 
 loop-again : tie.Need-loop-again Inv-loop μ-loop
@@ -66,4 +62,4 @@ returns c =
 pub send-all-spec : {M : Type 1} → statement M
 send-all-spec =
     tie.close
-    (tie.spec Inv-loop μ-loop loop-holds (λ c. search needs) (λ c. search needs) (λ c. search needs) (λ c. search needs) add-get-next-chunk get-next-chunk-requires (λ c κs. search needs) (λ c. search needs) (λ c. search needs) (λ c κs. search needs) (λ c. search needs) (λ c κs. search needs) (λ c. search needs) (λ c. search needs) (λ c κs. search needs) (λ c. search needs) (λ c κs. search needs) (λ c. search needs) (λ c. search needs) (λ c. search needs) loop-again (λ c κs. search needs) (λ c. search needs) returns)
+    (tie.spec Inv-loop μ-loop loop-holds (λ c. search needs) (λ c. search needs) (λ c. search needs) (λ c. search needs) add-cell get-next-chunk-requires (λ c κs. search needs) (λ c. search needs) (λ c. search needs) (λ c κs. search needs) (λ c. search needs) (λ c κs. search needs) (λ c. search needs) (λ c. search needs) (λ c κs. search needs) (λ c. search needs) (λ c κs. search needs) (λ c. search needs) (λ c. search needs) (λ c. search needs) loop-again (λ c κs. search needs) (λ c. search needs) returns)

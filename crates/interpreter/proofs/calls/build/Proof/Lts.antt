@@ -5,10 +5,10 @@ use Rattle.bs_sched.proofs.BuildAnswer
 use Rattle.bs_sched.proofs.BuildAnswer.Laws
 use Rattle.bs_sched.proofs.Rows_Record as in-Record
 use Rattle.interpreter.proofs.Mirs as mirs
-use Rattle.sched_core.proofs.BuildCoreAnswer
-use Rattle.sched_core.proofs.BuildCoreAnswer.Laws as Laws'
+use Rattle.interpreter.proofs.calls.BuildDone
+use Rattle.interpreter.proofs.calls.BuildDone.Laws as Laws''
 use Rattle.sched_core.proofs.Station
-use Rattle.sched_core.proofs.Station.Laws as Laws''
+use Rattle.sched_core.proofs.Station.Laws as Laws'
 use borrow.Author.Called
 use borrow.Fn.Any
 use borrow.Fn.Call
@@ -149,22 +149,22 @@ abbrev ε14 : Row.Entry
 ε14 = (5, Rows.arr-owed in-Record.row 64 2)
 
 abbrev ε15 : Row.Entry
-ε15 = (1, Rows'.any-gone mirs.sched_core-Station)
+ε15 = (0, Rows'.any-gone mirs.calls-BuildDone)
 
 abbrev ε16 : Row.Entry
-ε16 = (6, Rows'.any-gone mirs.bs_sched-BuildAnswer)
+ε16 = (1, Rows'.any-gone mirs.sched_core-Station)
 
 abbrev ε17 : Row.Entry
-ε17 = (1, Rows'.whole (Declared.row Station.the-type))
+ε17 = (6, Rows'.any-gone mirs.bs_sched-BuildAnswer)
 
 abbrev ε18 : Row.Entry
-ε18 = (0, Rows'.any-gone mirs.sched_core-BuildCoreAnswer)
+ε18 = (1, Rows'.whole (Declared.row Station.the-type))
 
 abbrev ε19 : Row.Entry
-ε19 = (6, Rows'.whole (Declared.row BuildAnswer.the-type))
+ε19 = (0, Rows'.whole (Declared.row BuildDone.the-type))
 
 abbrev ε20 : Row.Entry
-ε20 = (0, Rows'.whole (Declared.row BuildCoreAnswer.the-type))
+ε20 = (6, Rows'.whole (Declared.row BuildAnswer.the-type))
 
 abbrev ε21 : Row.Entry
 ε21 = (10, Mut.msleft (Referent.rtF (Referent.fInt Syntax.w8)) τ5)
@@ -200,21 +200,20 @@ abbrev pub ps : List.List (Kinds.PK 2)
 ps = (Value.pVal record {
   ty = Declared.row Station.the-type;
   one = Path'.refl;
-  val = Laws'3.val Station.the-type Laws''.the-laws;
-  tells =
-      Laws'3.tells Station.the-type Laws''.the-laws;
-  still = Laws'3.still Station.the-type Laws''.the-copy Exit.yes;
-  row = Rows'.whole (Declared.row
-      Station.the-type);
+  val = Laws'3.val Station.the-type Laws'.the-laws;
+  tells = Laws'3.tells
+      Station.the-type Laws'.the-laws;
+  still = Laws'3.still Station.the-type Laws'.the-copy Exit.yes;
+  row = Rows'.whole (Declared.row Station.the-type);
   rd = λ x. x;
   mk = λ x. x;
 } λ M 𝓤 H A W. record {
-  copies = Laws'3.copy Station.the-type Laws''.the-copy 𝓤 H A W;
-  lawful =
-      Laws'3.lawful Station.the-type Laws''.the-laws 𝓤 H A W;
-  makes = Laws'3.makes Station.the-type Laws''.the-plain 𝓤 H A;
-  in-mem = Local.mem-whole 𝓤 H
-      A W (Declared.row Station.the-type);
+  copies = Laws'3.copy Station.the-type Laws'.the-copy 𝓤 H A W;
+  lawful = Laws'3.lawful
+      Station.the-type Laws'.the-laws 𝓤 H A W;
+  makes = Laws'3.makes Station.the-type Laws'.the-plain 𝓤 H A;
+  in-mem = Local.mem-whole 𝓤 H A W
+      (Declared.row Station.the-type);
   of-mem = Local.whole-mem 𝓤 H A W (Declared.row Station.the-type);
 }) ∷ (Array.pArr in-Record.element
     in-Record.element-laws 64) ∷ (MutSlice.pMutS (Referent.rtF (Referent.fInt Syntax.w8)) 0 tt) ∷ (MutSlice.pMutS (Referent.rtF (Referent.fInt
@@ -222,25 +221,24 @@ ps = (Value.pVal record {
 
 abbrev pub r : Kinds.RK 2
 r = Value.rVal record {
-  ty = Declared.row BuildCoreAnswer.the-type;
+  ty = Declared.row BuildDone.the-type;
   one = Path'.refl;
-  val = Laws'3.val BuildCoreAnswer.the-type Laws'.the-laws;
-  tells
-      = Laws'3.tells BuildCoreAnswer.the-type Laws'.the-laws;
-  still = Laws'3.still BuildCoreAnswer.the-type Laws'.the-copy Exit.yes;
-  row = Rows'.whole
-      (Declared.row BuildCoreAnswer.the-type);
+  val = Laws'3.val BuildDone.the-type Laws''.the-laws;
+  tells =
+      Laws'3.tells BuildDone.the-type Laws''.the-laws;
+  still = Laws'3.still BuildDone.the-type Laws''.the-copy Exit.yes;
+  row = Rows'.whole (Declared.row
+      BuildDone.the-type);
   rd = λ x. x;
   mk = λ x. x;
 } λ M 𝓤 H A W. record {
-  copies = Laws'3.copy BuildCoreAnswer.the-type
-      Laws'.the-copy 𝓤 H A W;
-  lawful = Laws'3.lawful BuildCoreAnswer.the-type Laws'.the-laws 𝓤 H A W;
-  makes = Laws'3.makes BuildCoreAnswer.the-type
-      Laws'.the-plain 𝓤 H A;
-  in-mem = Local.mem-whole 𝓤 H A W (Declared.row BuildCoreAnswer.the-type);
-  of-mem = Local.whole-mem 𝓤 H A W (Declared.row
-      BuildCoreAnswer.the-type);
+  copies = Laws'3.copy BuildDone.the-type Laws''.the-copy 𝓤 H A W;
+  lawful =
+      Laws'3.lawful BuildDone.the-type Laws''.the-laws 𝓤 H A W;
+  makes = Laws'3.makes BuildDone.the-type Laws''.the-plain 𝓤 H A;
+  in-mem = Local.mem-whole
+      𝓤 H A W (Declared.row BuildDone.the-type);
+  of-mem = Local.whole-mem 𝓤 H A W (Declared.row BuildDone.the-type);
 }
 
 abbrev pub xs : List.List Syntax.Ty
@@ -253,21 +251,21 @@ abbrev pub ps·0 : List.List (Kinds.PK 3)
 ps·0 = (Value.pVal record {
   ty = Declared.row Station.the-type;
   one = Path'.refl;
-  val = Laws'3.val Station.the-type Laws''.the-laws;
+  val = Laws'3.val Station.the-type Laws'.the-laws;
   tells =
-      Laws'3.tells Station.the-type Laws''.the-laws;
-  still = Laws'3.still Station.the-type Laws''.the-copy Exit.yes;
+      Laws'3.tells Station.the-type Laws'.the-laws;
+  still = Laws'3.still Station.the-type Laws'.the-copy Exit.yes;
   row = Rows'.whole (Declared.row
       Station.the-type);
   rd = λ x. x;
   mk = λ x. x;
 } λ M 𝓤 H A W. record {
-  copies = Laws'3.copy Station.the-type Laws''.the-copy 𝓤 H A W;
+  copies = Laws'3.copy Station.the-type Laws'.the-copy 𝓤 H A W;
   lawful =
-      Laws'3.lawful Station.the-type Laws''.the-laws 𝓤 H A W;
-  makes = Laws'3.makes Station.the-type Laws''.the-plain 𝓤 H A;
-  in-mem = Local.mem-whole 𝓤 H
-      A W (Declared.row Station.the-type);
+      Laws'3.lawful Station.the-type Laws'.the-laws 𝓤 H A W;
+  makes = Laws'3.makes Station.the-type Laws'.the-plain 𝓤 H A;
+  in-mem = Local.mem-whole 𝓤 H A
+      W (Declared.row Station.the-type);
   of-mem = Local.whole-mem 𝓤 H A W (Declared.row Station.the-type);
 }) ∷ (MutSlice.pMutS in-Record.row 0 tt) ∷
     (MutSlice.pMutS (Referent.rtF (Referent.fInt Syntax.w8)) 1 tt) ∷ (MutSlice.pMutS (Referent.rtF (Referent.fInt Syntax.w8)) 2 tt) ∷ []
@@ -319,24 +317,24 @@ ps·1 = (Value.pVal record {
 
 abbrev pub r·1 : Kinds.RK 0
 r·1 = Value.rVal record {
-  ty = Declared.row BuildCoreAnswer.the-type;
+  ty = Declared.row BuildDone.the-type;
   one = Path'.refl;
-  val = Laws'3.val BuildCoreAnswer.the-type Laws'.the-laws;
-  tells = Laws'3.tells BuildCoreAnswer.the-type Laws'.the-laws;
-  still = Laws'3.still BuildCoreAnswer.the-type Laws'.the-copy Exit.yes;
-  row =
-      Rows'.whole (Declared.row BuildCoreAnswer.the-type);
+  val = Laws'3.val BuildDone.the-type Laws''.the-laws;
+  tells =
+      Laws'3.tells BuildDone.the-type Laws''.the-laws;
+  still = Laws'3.still BuildDone.the-type Laws''.the-copy Exit.yes;
+  row = Rows'.whole (Declared.row
+      BuildDone.the-type);
   rd = λ x. x;
   mk = λ x. x;
 } λ M 𝓤 H A W. record {
-  copies = Laws'3.copy
-      BuildCoreAnswer.the-type Laws'.the-copy 𝓤 H A W;
-  lawful = Laws'3.lawful BuildCoreAnswer.the-type Laws'.the-laws 𝓤 H A W;
-  makes = Laws'3.makes
-      BuildCoreAnswer.the-type Laws'.the-plain 𝓤 H A;
-  in-mem = Local.mem-whole 𝓤 H A W (Declared.row BuildCoreAnswer.the-type);
-  of-mem = Local.whole-mem
-      𝓤 H A W (Declared.row BuildCoreAnswer.the-type);
+  copies = Laws'3.copy BuildDone.the-type Laws''.the-copy 𝓤 H A W;
+  lawful =
+      Laws'3.lawful BuildDone.the-type Laws''.the-laws 𝓤 H A W;
+  makes = Laws'3.makes BuildDone.the-type Laws''.the-plain 𝓤 H A;
+  in-mem = Local.mem-whole
+      𝓤 H A W (Declared.row BuildDone.the-type);
+  of-mem = Local.whole-mem 𝓤 H A W (Declared.row BuildDone.the-type);
 }
 
 abbrev pub hs : List.List Syntax.Home
@@ -416,61 +414,61 @@ abbrev pub Claims : Type 1
 Claims = Kinds.In 3 ps·0 × Kinds.Out 3 ps·0 r·0 × Kinds.In 0 ps·1 × Kinds.Out 0 ps·1 r·1
 
 abbrev pub t0 : List.List Row.Entry
-t0 = ε18 ∷ ε17 ∷ ε10 ∷ ε23 ∷ ε24 ∷ ε0 ∷ ε16 ∷ ε1 ∷ ε2 ∷ ε3 ∷ ε7 ∷ ε5 ∷ ε8 ∷ ε6 ∷ []
+t0 = ε15 ∷ ε18 ∷ ε10 ∷ ε23 ∷ ε24 ∷ ε0 ∷ ε17 ∷ ε1 ∷ ε2 ∷ ε3 ∷ ε7 ∷ ε5 ∷ ε8 ∷ ε6 ∷ []
 
 abbrev pub t1 : List.List Row.Entry
-t1 = ε20 ∷ ε15 ∷ ε4 ∷ ε23 ∷ ε24 ∷ ε0 ∷ ε16 ∷ ε1 ∷ ε2 ∷ ε3 ∷ ε7 ∷ ε5 ∷ ε8 ∷ ε6 ∷ []
+t1 = ε19 ∷ ε16 ∷ ε4 ∷ ε23 ∷ ε24 ∷ ε0 ∷ ε17 ∷ ε1 ∷ ε2 ∷ ε3 ∷ ε7 ∷ ε5 ∷ ε8 ∷ ε6 ∷ []
 
 abbrev pub t2 : List.List Row.Entry
-t2 = ε18 ∷ ε17 ∷ ε10 ∷ ε23 ∷ ε24 ∷ ε11 ∷ ε16 ∷ ε1 ∷ ε2 ∷ ε3 ∷ ε7 ∷ ε5 ∷ ε8 ∷ ε6 ∷ []
+t2 = ε15 ∷ ε18 ∷ ε10 ∷ ε23 ∷ ε24 ∷ ε11 ∷ ε17 ∷ ε1 ∷ ε2 ∷ ε3 ∷ ε7 ∷ ε5 ∷ ε8 ∷ ε6 ∷ []
 
 abbrev pub t3 : List.List Row.Entry
-t3 = ε18 ∷ ε17 ∷ ε4 ∷ ε23 ∷ ε24 ∷ ε11 ∷ ε16 ∷ ε1 ∷ ε2 ∷ ε3 ∷ ε7 ∷ ε5 ∷ ε8 ∷ ε6 ∷ []
+t3 = ε15 ∷ ε18 ∷ ε4 ∷ ε23 ∷ ε24 ∷ ε11 ∷ ε17 ∷ ε1 ∷ ε2 ∷ ε3 ∷ ε7 ∷ ε5 ∷ ε8 ∷ ε6 ∷ []
 
 abbrev pub t4 : List.List Row.Entry
-t4 = ε18 ∷ ε17 ∷ ε4 ∷ ε23 ∷ ε24 ∷ ε14 ∷ ε16 ∷ (7, Relend.msptr in-Record.row τ9 2) ∷ ε2 ∷ ε3 ∷ ε7 ∷ ε5 ∷ ε8 ∷ ε6 ∷ []
+t4 = ε15 ∷ ε18 ∷ ε4 ∷ ε23 ∷ ε24 ∷ ε14 ∷ ε17 ∷ (7, Relend.msptr in-Record.row τ9 2) ∷ ε2 ∷ ε3 ∷ ε7 ∷ ε5 ∷ ε8 ∷ ε6 ∷ []
 
 abbrev pub t5 : List.List Row.Entry
-t5 = ε18 ∷ ε17 ∷ ε4 ∷ ε23 ∷ ε24 ∷ ε14 ∷ ε16 ∷ ε1 ∷ ε12 ∷ ε3 ∷ ε7 ∷ ε5 ∷ ε8 ∷ ε6 ∷ []
+t5 = ε15 ∷ ε18 ∷ ε4 ∷ ε23 ∷ ε24 ∷ ε14 ∷ ε17 ∷ ε1 ∷ ε12 ∷ ε3 ∷ ε7 ∷ ε5 ∷ ε8 ∷ ε6 ∷ []
 
 abbrev pub t6 : List.List Row.Entry
-t6 = ε18 ∷ ε17 ∷ ε4 ∷ ε29 ∷ ε24 ∷ ε14 ∷ ε16 ∷ ε1 ∷ ε12 ∷ ε27 ∷ ε7 ∷ ε5 ∷ ε8 ∷ ε6 ∷ []
+t6 = ε15 ∷ ε18 ∷ ε4 ∷ ε29 ∷ ε24 ∷ ε14 ∷ ε17 ∷ ε1 ∷ ε12 ∷ ε27 ∷ ε7 ∷ ε5 ∷ ε8 ∷ ε6 ∷ []
 
 abbrev pub t7 : List.List Row.Entry
-t7 = ε18 ∷ ε17 ∷ ε4 ∷ ε29 ∷ ε24 ∷ ε14 ∷ ε16 ∷ ε1 ∷ ε12 ∷ ε3 ∷ ε25 ∷ ε5 ∷ ε8 ∷ ε6 ∷ []
+t7 = ε15 ∷ ε18 ∷ ε4 ∷ ε29 ∷ ε24 ∷ ε14 ∷ ε17 ∷ ε1 ∷ ε12 ∷ ε3 ∷ ε25 ∷ ε5 ∷ ε8 ∷ ε6 ∷ []
 
 abbrev pub t8 : List.List Row.Entry
-t8 = ε18 ∷ ε17 ∷ ε4 ∷ ε29 ∷ ε30 ∷ ε14 ∷ ε16 ∷ ε1 ∷ ε12 ∷ ε3 ∷ ε25 ∷ ε28 ∷ ε8 ∷ ε6 ∷ []
+t8 = ε15 ∷ ε18 ∷ ε4 ∷ ε29 ∷ ε30 ∷ ε14 ∷ ε17 ∷ ε1 ∷ ε12 ∷ ε3 ∷ ε25 ∷ ε28 ∷ ε8 ∷ ε6 ∷ []
 
 abbrev pub t9 : List.List Row.Entry
-t9 = ε18 ∷ ε17 ∷ ε4 ∷ ε29 ∷ ε30 ∷ ε14 ∷ ε16 ∷ ε1 ∷ ε12 ∷ ε3 ∷ ε25 ∷ ε5 ∷ ε26 ∷ ε6 ∷ []
+t9 = ε15 ∷ ε18 ∷ ε4 ∷ ε29 ∷ ε30 ∷ ε14 ∷ ε17 ∷ ε1 ∷ ε12 ∷ ε3 ∷ ε25 ∷ ε5 ∷ ε26 ∷ ε6 ∷ []
 
 abbrev pub t10 : List.List Row.Entry
-t10 = ε18 ∷ ε17 ∷ ε4 ∷ ε29 ∷ ε30 ∷ ε14 ∷ ε19 ∷ ε1 ∷ ε9 ∷ ε3 ∷ ε21 ∷ ε5 ∷ ε22 ∷ ε6 ∷ []
+t10 = ε15 ∷ ε18 ∷ ε4 ∷ ε29 ∷ ε30 ∷ ε14 ∷ ε20 ∷ ε1 ∷ ε9 ∷ ε3 ∷ ε21 ∷ ε5 ∷ ε22 ∷ ε6 ∷ []
 
 abbrev pub t11 : List.List Row.Entry
-t11 = ε18 ∷ ε15 ∷ ε4 ∷ ε29 ∷ ε30 ∷ ε14 ∷ ε19 ∷ ε1 ∷ ε9 ∷ ε3 ∷ ε21 ∷ ε5 ∷ ε22 ∷ ε6 ∷ []
+t11 = ε15 ∷ ε16 ∷ ε4 ∷ ε29 ∷ ε30 ∷ ε14 ∷ ε20 ∷ ε1 ∷ ε9 ∷ ε3 ∷ ε21 ∷ ε5 ∷ ε22 ∷ ε6 ∷ []
 
 abbrev pub t12 : List.List Row.Entry
-t12 = ε18 ∷ ε15 ∷ ε4 ∷ ε29 ∷ ε30 ∷ ε11 ∷ ε19 ∷ ε1 ∷ ε2 ∷ ε3 ∷ ε21 ∷ ε5 ∷ ε22 ∷ ε6 ∷ []
+t12 = ε15 ∷ ε16 ∷ ε4 ∷ ε29 ∷ ε30 ∷ ε11 ∷ ε20 ∷ ε1 ∷ ε2 ∷ ε3 ∷ ε21 ∷ ε5 ∷ ε22 ∷ ε6 ∷ []
 
 abbrev pub t13 : List.List Row.Entry
-t13 = ε18 ∷ ε15 ∷ ε4 ∷ ε23 ∷ ε30 ∷ ε11 ∷ ε19 ∷ ε1 ∷ ε2 ∷ ε3 ∷ ε7 ∷ ε5 ∷ ε22 ∷ ε6 ∷ []
+t13 = ε15 ∷ ε16 ∷ ε4 ∷ ε23 ∷ ε30 ∷ ε11 ∷ ε20 ∷ ε1 ∷ ε2 ∷ ε3 ∷ ε7 ∷ ε5 ∷ ε22 ∷ ε6 ∷ []
 
 abbrev pub t14 : List.List Row.Entry
-t14 = ε18 ∷ ε15 ∷ ε4 ∷ ε23 ∷ ε24 ∷ ε11 ∷ ε19 ∷ ε1 ∷ ε2 ∷ ε3 ∷ ε7 ∷ ε5 ∷ ε8 ∷ ε6 ∷ []
+t14 = ε15 ∷ ε16 ∷ ε4 ∷ ε23 ∷ ε24 ∷ ε11 ∷ ε20 ∷ ε1 ∷ ε2 ∷ ε3 ∷ ε7 ∷ ε5 ∷ ε8 ∷ ε6 ∷ []
 
 abbrev pub t15 : List.List Row.Entry
-t15 = ε18 ∷ ε15 ∷ ε4 ∷ ε23 ∷ ε24 ∷ ε11 ∷ ε19 ∷ ε1 ∷ ε2 ∷ ε3 ∷ ε7 ∷ ε5 ∷ ε8 ∷ ε13 ∷ []
+t15 = ε15 ∷ ε16 ∷ ε4 ∷ ε23 ∷ ε24 ∷ ε11 ∷ ε20 ∷ ε1 ∷ ε2 ∷ ε3 ∷ ε7 ∷ ε5 ∷ ε8 ∷ ε13 ∷ []
 
 abbrev pub t16 : List.List Row.Entry
-t16 = ε18 ∷ ε15 ∷ ε4 ∷ ε23 ∷ ε24 ∷ ε0 ∷ ε19 ∷ ε1 ∷ ε2 ∷ ε3 ∷ ε7 ∷ ε5 ∷ ε8 ∷ ε13 ∷ []
+t16 = ε15 ∷ ε16 ∷ ε4 ∷ ε23 ∷ ε24 ∷ ε0 ∷ ε20 ∷ ε1 ∷ ε2 ∷ ε3 ∷ ε7 ∷ ε5 ∷ ε8 ∷ ε13 ∷ []
 
 abbrev pub t17 : List.List Row.Entry
-t17 = ε20 ∷ ε15 ∷ ε4 ∷ ε23 ∷ ε24 ∷ ε0 ∷ ε19 ∷ ε1 ∷ ε2 ∷ ε3 ∷ ε7 ∷ ε5 ∷ ε8 ∷ ε13 ∷ []
+t17 = ε19 ∷ ε16 ∷ ε4 ∷ ε23 ∷ ε24 ∷ ε0 ∷ ε20 ∷ ε1 ∷ ε2 ∷ ε3 ∷ ε7 ∷ ε5 ∷ ε8 ∷ ε13 ∷ []
 
 abbrev pub t18 : List.List Row.Entry
-t18 = ε20 ∷ ε15 ∷ ε4 ∷ ε23 ∷ ε24 ∷ ε0 ∷ ε16 ∷ ε1 ∷ ε2 ∷ ε3 ∷ ε7 ∷ ε5 ∷ ε8 ∷ ε13 ∷ []
+t18 = ε19 ∷ ε16 ∷ ε4 ∷ ε23 ∷ ε24 ∷ ε0 ∷ ε17 ∷ ε1 ∷ ε2 ∷ ε3 ∷ ε7 ∷ ε5 ∷ ε8 ∷ ε13 ∷ []
 
 abbrev pub T0 : Row.Cx
 T0 = record { locals = t0; slots = [] }
@@ -633,7 +631,7 @@ module _ (claims· : Claims) where
       },
       tt,
     ),
-  ) 0 [] mirs.sched_core-BuildCoreAnswer
+  ) 0 [] mirs.calls-BuildDone
 
   abbrev s29 : (bs : List.List Nat.ℕ) → Typed.Mo T30 → Typed.Mo T31
   s29 = λ bs. Scalar.n-room T30 6 mirs.bs_sched-BuildAnswer
@@ -757,51 +755,51 @@ module _ (claims· : Claims) where
 
       module _ (κs : Lifetimes.Lfts 2) (qs : Lifetimes.Shares 2) where
         abbrev g6 : List.List Row.Entry
-        g6 = ε18 ∷ ε17 ∷ ε4 ∷ (3, Relend.mslice-owed (Referent.rtF (Referent.fInt Syntax.w8)) τ7 0 3 (Row.lease (κs .0) (qs .0))) ∷ ε24 ∷ ε14 ∷ ε16 ∷
+        g6 = ε15 ∷ ε18 ∷ ε4 ∷ (3, Relend.mslice-owed (Referent.rtF (Referent.fInt Syntax.w8)) τ7 0 3 (Row.lease (κs .0) (qs .0))) ∷ ε24 ∷ ε14 ∷ ε17 ∷
             ε1 ∷ ε12 ∷ ε27 ∷ ε7 ∷ ε5 ∷ ε8 ∷ ε6 ∷ []
 
         abbrev g7 : List.List Row.Entry
-        g7 = ε18 ∷ ε17 ∷ ε4 ∷ (3, Relend.mslice-owed (Referent.rtF (Referent.fInt Syntax.w8)) τ7 0 3 (Row.lease (κs .0) (qs .0))) ∷ ε24 ∷ ε14 ∷ ε16 ∷
+        g7 = ε15 ∷ ε18 ∷ ε4 ∷ (3, Relend.mslice-owed (Referent.rtF (Referent.fInt Syntax.w8)) τ7 0 3 (Row.lease (κs .0) (qs .0))) ∷ ε24 ∷ ε14 ∷ ε17 ∷
             ε1 ∷ ε12 ∷ ε3 ∷ ε25 ∷ ε5 ∷ ε8 ∷ ε6 ∷ []
 
         abbrev g8 : List.List Row.Entry
-        g8 = ε18 ∷ ε17 ∷ ε4 ∷ (3, Relend.mslice-owed (Referent.rtF (Referent.fInt Syntax.w8)) τ7 0 3 (Row.lease (κs .0) (qs .0))) ∷ (
+        g8 = ε15 ∷ ε18 ∷ ε4 ∷ (3, Relend.mslice-owed (Referent.rtF (Referent.fInt Syntax.w8)) τ7 0 3 (Row.lease (κs .0) (qs .0))) ∷ (
           4,
           Relend.mslice-owed (Referent.rtF (Referent.fInt Syntax.w8)) τ8 1 4 (Row.lease (κs .1 .0) (qs .1 .0)),
-        ) ∷ ε14 ∷ ε16 ∷ ε1 ∷ ε12 ∷ ε3 ∷ ε25 ∷
+        ) ∷ ε14 ∷ ε17 ∷ ε1 ∷ ε12 ∷ ε3 ∷ ε25 ∷
             ε28 ∷ ε8 ∷ ε6 ∷ []
 
         abbrev g9 : List.List Row.Entry
-        g9 = ε18 ∷ ε17 ∷ ε4 ∷ (3, Relend.mslice-owed (Referent.rtF (Referent.fInt Syntax.w8)) τ7 0 3 (Row.lease (κs .0) (qs .0))) ∷ (
+        g9 = ε15 ∷ ε18 ∷ ε4 ∷ (3, Relend.mslice-owed (Referent.rtF (Referent.fInt Syntax.w8)) τ7 0 3 (Row.lease (κs .0) (qs .0))) ∷ (
           4,
           Relend.mslice-owed (Referent.rtF (Referent.fInt Syntax.w8)) τ8 1 4 (Row.lease (κs .1 .0) (qs .1 .0)),
-        ) ∷ ε14 ∷ ε16 ∷ ε1 ∷ ε12 ∷ ε3 ∷ ε25 ∷
+        ) ∷ ε14 ∷ ε17 ∷ ε1 ∷ ε12 ∷ ε3 ∷ ε25 ∷
             ε5 ∷ ε26 ∷ ε6 ∷ []
 
         abbrev g10 : List.List Row.Entry
-        g10 = ε18 ∷ ε17 ∷ ε4 ∷ (3, Relend.mslice-owed (Referent.rtF (Referent.fInt Syntax.w8)) τ7 0 3 (Row.lease (κs .0) (qs .0))) ∷ (
+        g10 = ε15 ∷ ε18 ∷ ε4 ∷ (3, Relend.mslice-owed (Referent.rtF (Referent.fInt Syntax.w8)) τ7 0 3 (Row.lease (κs .0) (qs .0))) ∷ (
           4,
           Relend.mslice-owed (Referent.rtF (Referent.fInt Syntax.w8)) τ8 1 4 (Row.lease (κs .1 .0) (qs .1 .0)),
-        ) ∷ ε14 ∷ ε19 ∷ ε1 ∷ ε9 ∷ ε3 ∷ ε21 ∷
+        ) ∷ ε14 ∷ ε20 ∷ ε1 ∷ ε9 ∷ ε3 ∷ ε21 ∷
             ε5 ∷ ε22 ∷ ε6 ∷ []
 
         abbrev g11 : List.List Row.Entry
-        g11 = ε18 ∷ ε15 ∷ ε4 ∷ (3, Relend.mslice-owed (Referent.rtF (Referent.fInt Syntax.w8)) τ7 0 3 (Row.lease (κs .0) (qs .0))) ∷ (
+        g11 = ε15 ∷ ε16 ∷ ε4 ∷ (3, Relend.mslice-owed (Referent.rtF (Referent.fInt Syntax.w8)) τ7 0 3 (Row.lease (κs .0) (qs .0))) ∷ (
           4,
           Relend.mslice-owed (Referent.rtF (Referent.fInt Syntax.w8)) τ8 1 4 (Row.lease (κs .1 .0) (qs .1 .0)),
-        ) ∷ ε14 ∷ ε19 ∷ ε1 ∷ ε9 ∷ ε3 ∷ ε21 ∷
+        ) ∷ ε14 ∷ ε20 ∷ ε1 ∷ ε9 ∷ ε3 ∷ ε21 ∷
             ε5 ∷ ε22 ∷ ε6 ∷ []
 
         abbrev g12 : List.List Row.Entry
-        g12 = ε18 ∷ ε15 ∷ ε4 ∷ (3, Relend.mslice-owed (Referent.rtF (Referent.fInt Syntax.w8)) τ7 0 3 (Row.lease (κs .0) (qs .0))) ∷ (
+        g12 = ε15 ∷ ε16 ∷ ε4 ∷ (3, Relend.mslice-owed (Referent.rtF (Referent.fInt Syntax.w8)) τ7 0 3 (Row.lease (κs .0) (qs .0))) ∷ (
           4,
           Relend.mslice-owed (Referent.rtF (Referent.fInt Syntax.w8)) τ8 1 4 (Row.lease (κs .1 .0) (qs .1 .0)),
-        ) ∷ ε11 ∷ ε19 ∷ ε1 ∷ ε2 ∷ ε3 ∷ ε21 ∷
+        ) ∷ ε11 ∷ ε20 ∷ ε1 ∷ ε2 ∷ ε3 ∷ ε21 ∷
             ε5 ∷ ε22 ∷ ε6 ∷ []
 
         abbrev g13 : List.List Row.Entry
-        g13 = ε18 ∷ ε15 ∷ ε4 ∷ ε23 ∷ (4, Relend.mslice-owed (Referent.rtF (Referent.fInt Syntax.w8)) τ8 1 4 (Row.lease (κs .1 .0) (qs .1 .0))) ∷ ε11 ∷
-            ε19 ∷ ε1 ∷ ε2 ∷ ε3 ∷ ε7 ∷ ε5 ∷ ε22 ∷ ε6 ∷ []
+        g13 = ε15 ∷ ε16 ∷ ε4 ∷ ε23 ∷ (4, Relend.mslice-owed (Referent.rtF (Referent.fInt Syntax.w8)) τ8 1 4 (Row.lease (κs .1 .0) (qs .1 .0))) ∷ ε11 ∷
+            ε20 ∷ ε1 ∷ ε2 ∷ ε3 ∷ ε7 ∷ ε5 ∷ ε22 ∷ ε6 ∷ []
 
         abbrev G0 : Row.Cx
         G0 = record { locals = t0; slots = (Row.lease (κs .0) (qs .0)) ∷ (Row.lease (κs .1 .0) (qs .1 .0)) ∷ Row.off ∷ Row.off ∷ Row.off ∷ [] }
@@ -950,7 +948,7 @@ module _ (claims· : Claims) where
                   ),
                   tt,
                 ),
-              ) (Reads.room-gone 𝓤 H A mirs.sched_core-BuildCoreAnswer) tt Path'.refl) d2
+              ) (Reads.room-gone 𝓤 H A mirs.calls-BuildDone) tt Path'.refl) d2
 
           d4 : Typed.Typed 𝓤 H A 𝓣 E G28 b11 Δ0 (at4 bs)
           d4 = Typed.g-pre 𝓤 H A W 𝓣 E G28 G29 b11 Δ0 (Typed.pass T28 T29 (s27 bs)) (at3 bs) (Scalar.g-room 𝓤 H A W E G28 5 τ3 (Init.room-arr 𝓤 H A W
@@ -1033,8 +1031,8 @@ module _ (claims· : Claims) where
               []) (Call.sub-id 𝓤 H A W (G14 .slots)) (
                 (
                   Yields.yields-copy 𝓤 H A W (λ ρ. Unit) (Declared.row Station.the-type) Path'.refl
-                      (Copies.cStruct Station.the-type Laws''.the-laws Laws''.the-copy .copy 𝓤 H A W) (Rows'.whole (Declared.row Station.the-type)) (λ x. x)
-                      (λ x. x) (λ ρ told. Local.mem-whole 𝓤 H A W (Declared.row Station.the-type) ρ) λ ρ told. Local.whole-mem 𝓤 H A W (Declared.row
+                      (Copies.cStruct Station.the-type Laws'.the-laws Laws'.the-copy .copy 𝓤 H A W) (Rows'.whole (Declared.row Station.the-type)) (λ x. x) (λ
+                      x. x) (λ ρ told. Local.mem-whole 𝓤 H A W (Declared.row Station.the-type) ρ) λ ρ told. Local.whole-mem 𝓤 H A W (Declared.row
                       Station.the-type) ρ,
                   Path'.refl,
                 ),
@@ -1208,21 +1206,22 @@ module _ (claims· : Claims) where
             ty = Declared.row Station.the-type;
             one = Path'.refl;
             val = Laws'3.val Station.the-type
-                Laws''.the-laws;
-            tells = Laws'3.tells Station.the-type Laws''.the-laws;
-            still = Laws'3.still Station.the-type Laws''.the-copy Exit.yes;
-            row = Rows'.whole (Declared.row Station.the-type);
+                Laws'.the-laws;
+            tells = Laws'3.tells Station.the-type Laws'.the-laws;
+            still = Laws'3.still Station.the-type Laws'.the-copy Exit.yes;
+            row
+                = Rows'.whole (Declared.row Station.the-type);
             rd = λ x. x;
             mk = λ x. x;
           } λ M 𝓤 H A W. record {
-            copies = Laws'3.copy
-                Station.the-type Laws''.the-copy 𝓤 H A W;
-            lawful = Laws'3.lawful Station.the-type Laws''.the-laws 𝓤 H A W;
-            makes = Laws'3.makes
-                Station.the-type Laws''.the-plain 𝓤 H A;
+            copies = Laws'3.copy Station.the-type
+                Laws'.the-copy 𝓤 H A W;
+            lawful = Laws'3.lawful Station.the-type Laws'.the-laws 𝓤 H A W;
+            makes = Laws'3.makes Station.the-type
+                Laws'.the-plain 𝓤 H A;
             in-mem = Local.mem-whole 𝓤 H A W (Declared.row Station.the-type);
-            of-mem = Local.whole-mem 𝓤 H
-                A W (Declared.row Station.the-type);
+            of-mem = Local.whole-mem 𝓤 H A W (Declared.row
+                Station.the-type);
           })
           pub records : Kinds.Den {n = 2} κs (Array.pArr in-Record.element in-Record.element-laws 64)
           pub store : Kinds.Den {n = 2} κs (MutSlice.pMutS (Referent.rtF (Referent.fInt Syntax.w8)) 0 tt)

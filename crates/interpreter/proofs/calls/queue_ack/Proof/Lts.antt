@@ -3,12 +3,12 @@
 use Prim.Native.Nat
 use Rattle.bs_sched.proofs.Rows_Record as in-Record
 use Rattle.interpreter.proofs.Mirs as mirs
+use Rattle.interpreter.proofs.calls.QueueLeft
+use Rattle.interpreter.proofs.calls.QueueLeft.Laws as Laws''
 use Rattle.sched_core.proofs.Answer
 use Rattle.sched_core.proofs.Answer.Laws
-use Rattle.sched_core.proofs.CoreAnswer
-use Rattle.sched_core.proofs.CoreAnswer.Laws as Laws'
 use Rattle.sched_core.proofs.Station
-use Rattle.sched_core.proofs.Station.Laws as Laws''
+use Rattle.sched_core.proofs.Station.Laws as Laws'
 use borrow.Author.Called
 use borrow.Fn.Any
 use borrow.Fn.Call
@@ -131,16 +131,16 @@ abbrev ε13 : Row.Entry
 ε13 = (5, Rows'.sc-here (Row.sInt Syntax.w8))
 
 abbrev ε14 : Row.Entry
-ε14 = (6, Rows'.sc-here (Row.sInt Syntax.w32))
+ε14 = (0, Rows'.any-gone mirs.calls-QueueLeft)
 
 abbrev ε15 : Row.Entry
-ε15 = (8, Rows'.any-gone mirs.sched_core-Answer)
+ε15 = (6, Rows'.sc-here (Row.sInt Syntax.w32))
 
 abbrev ε16 : Row.Entry
-ε16 = (1, Rows'.any-gone mirs.sched_core-Station)
+ε16 = (8, Rows'.any-gone mirs.sched_core-Answer)
 
 abbrev ε17 : Row.Entry
-ε17 = (0, Rows'.any-gone mirs.sched_core-CoreAnswer)
+ε17 = (1, Rows'.any-gone mirs.sched_core-Station)
 
 abbrev ε18 : Row.Entry
 ε18 = (8, Rows'.whole (Declared.row Answer.the-type))
@@ -149,7 +149,7 @@ abbrev ε19 : Row.Entry
 ε19 = (1, Rows'.whole (Declared.row Station.the-type))
 
 abbrev ε20 : Row.Entry
-ε20 = (0, Rows'.whole (Declared.row CoreAnswer.the-type))
+ε20 = (0, Rows'.whole (Declared.row QueueLeft.the-type))
 
 abbrev ε21 : Row.Entry
 ε21 = (3, Rows'.sslice (Referent.rtF (Referent.fInt Syntax.w8)) τ6 0)
@@ -158,21 +158,20 @@ abbrev pub ps : List.List (Kinds.PK 1)
 ps = (Value.pVal record {
   ty = Declared.row Station.the-type;
   one = Path'.refl;
-  val = Laws'3.val Station.the-type Laws''.the-laws;
-  tells =
-      Laws'3.tells Station.the-type Laws''.the-laws;
-  still = Laws'3.still Station.the-type Laws''.the-copy Exit.yes;
-  row = Rows'.whole (Declared.row
-      Station.the-type);
+  val = Laws'3.val Station.the-type Laws'.the-laws;
+  tells = Laws'3.tells
+      Station.the-type Laws'.the-laws;
+  still = Laws'3.still Station.the-type Laws'.the-copy Exit.yes;
+  row = Rows'.whole (Declared.row Station.the-type);
   rd = λ x. x;
   mk = λ x. x;
 } λ M 𝓤 H A W. record {
-  copies = Laws'3.copy Station.the-type Laws''.the-copy 𝓤 H A W;
-  lawful =
-      Laws'3.lawful Station.the-type Laws''.the-laws 𝓤 H A W;
-  makes = Laws'3.makes Station.the-type Laws''.the-plain 𝓤 H A;
-  in-mem = Local.mem-whole 𝓤 H
-      A W (Declared.row Station.the-type);
+  copies = Laws'3.copy Station.the-type Laws'.the-copy 𝓤 H A W;
+  lawful = Laws'3.lawful
+      Station.the-type Laws'.the-laws 𝓤 H A W;
+  makes = Laws'3.makes Station.the-type Laws'.the-plain 𝓤 H A;
+  in-mem = Local.mem-whole 𝓤 H A W
+      (Declared.row Station.the-type);
   of-mem = Local.whole-mem 𝓤 H A W (Declared.row Station.the-type);
 }) ∷ (Array.pArr in-Record.element
     in-Record.element-laws 64) ∷ (ShrSlice.pShrS (Referent.rtF (Referent.fInt Syntax.w8)) 0 tt) ∷ (Num.pNum Syntax.w8) ∷ (Num.pNum Syntax.w8) ∷
@@ -180,24 +179,24 @@ ps = (Value.pVal record {
 
 abbrev pub r : Kinds.RK 1
 r = Value.rVal record {
-  ty = Declared.row CoreAnswer.the-type;
+  ty = Declared.row QueueLeft.the-type;
   one = Path'.refl;
-  val = Laws'3.val CoreAnswer.the-type Laws'.the-laws;
+  val = Laws'3.val QueueLeft.the-type Laws''.the-laws;
   tells =
-      Laws'3.tells CoreAnswer.the-type Laws'.the-laws;
-  still = Laws'3.still CoreAnswer.the-type Laws'.the-copy Exit.yes;
+      Laws'3.tells QueueLeft.the-type Laws''.the-laws;
+  still = Laws'3.still QueueLeft.the-type Laws''.the-copy Exit.yes;
   row = Rows'.whole (Declared.row
-      CoreAnswer.the-type);
+      QueueLeft.the-type);
   rd = λ x. x;
   mk = λ x. x;
 } λ M 𝓤 H A W. record {
-  copies = Laws'3.copy CoreAnswer.the-type Laws'.the-copy 𝓤 H A W;
+  copies = Laws'3.copy QueueLeft.the-type Laws''.the-copy 𝓤 H A W;
   lawful =
-      Laws'3.lawful CoreAnswer.the-type Laws'.the-laws 𝓤 H A W;
-  makes = Laws'3.makes CoreAnswer.the-type Laws'.the-plain 𝓤 H A;
+      Laws'3.lawful QueueLeft.the-type Laws''.the-laws 𝓤 H A W;
+  makes = Laws'3.makes QueueLeft.the-type Laws''.the-plain 𝓤 H A;
   in-mem = Local.mem-whole
-      𝓤 H A W (Declared.row CoreAnswer.the-type);
-  of-mem = Local.whole-mem 𝓤 H A W (Declared.row CoreAnswer.the-type);
+      𝓤 H A W (Declared.row QueueLeft.the-type);
+  of-mem = Local.whole-mem 𝓤 H A W (Declared.row QueueLeft.the-type);
 }
 
 abbrev pub xs : List.List Syntax.Ty
@@ -210,21 +209,21 @@ abbrev pub ps·0 : List.List (Kinds.PK 2)
 ps·0 = (Value.pVal record {
   ty = Declared.row Station.the-type;
   one = Path'.refl;
-  val = Laws'3.val Station.the-type Laws''.the-laws;
+  val = Laws'3.val Station.the-type Laws'.the-laws;
   tells =
-      Laws'3.tells Station.the-type Laws''.the-laws;
-  still = Laws'3.still Station.the-type Laws''.the-copy Exit.yes;
+      Laws'3.tells Station.the-type Laws'.the-laws;
+  still = Laws'3.still Station.the-type Laws'.the-copy Exit.yes;
   row = Rows'.whole (Declared.row
       Station.the-type);
   rd = λ x. x;
   mk = λ x. x;
 } λ M 𝓤 H A W. record {
-  copies = Laws'3.copy Station.the-type Laws''.the-copy 𝓤 H A W;
+  copies = Laws'3.copy Station.the-type Laws'.the-copy 𝓤 H A W;
   lawful =
-      Laws'3.lawful Station.the-type Laws''.the-laws 𝓤 H A W;
-  makes = Laws'3.makes Station.the-type Laws''.the-plain 𝓤 H A;
-  in-mem = Local.mem-whole 𝓤 H
-      A W (Declared.row Station.the-type);
+      Laws'3.lawful Station.the-type Laws'.the-laws 𝓤 H A W;
+  makes = Laws'3.makes Station.the-type Laws'.the-plain 𝓤 H A;
+  in-mem = Local.mem-whole 𝓤 H A
+      W (Declared.row Station.the-type);
   of-mem = Local.whole-mem 𝓤 H A W (Declared.row Station.the-type);
 }) ∷ (MutSlice.pMutS in-Record.row 0 tt) ∷
     (ShrSlice.pShrS (Referent.rtF (Referent.fInt Syntax.w8)) 1 tt) ∷ (Num.pNum Syntax.w8) ∷ (Num.pNum Syntax.w8) ∷ (Num.pNum Syntax.w32) ∷ []
@@ -273,24 +272,24 @@ ps·1 = (Value.pVal record {
 
 abbrev pub r·1 : Kinds.RK 0
 r·1 = Value.rVal record {
-  ty = Declared.row CoreAnswer.the-type;
+  ty = Declared.row QueueLeft.the-type;
   one = Path'.refl;
-  val = Laws'3.val CoreAnswer.the-type Laws'.the-laws;
+  val = Laws'3.val QueueLeft.the-type Laws''.the-laws;
   tells =
-      Laws'3.tells CoreAnswer.the-type Laws'.the-laws;
-  still = Laws'3.still CoreAnswer.the-type Laws'.the-copy Exit.yes;
+      Laws'3.tells QueueLeft.the-type Laws''.the-laws;
+  still = Laws'3.still QueueLeft.the-type Laws''.the-copy Exit.yes;
   row = Rows'.whole (Declared.row
-      CoreAnswer.the-type);
+      QueueLeft.the-type);
   rd = λ x. x;
   mk = λ x. x;
 } λ M 𝓤 H A W. record {
-  copies = Laws'3.copy CoreAnswer.the-type Laws'.the-copy 𝓤 H A W;
+  copies = Laws'3.copy QueueLeft.the-type Laws''.the-copy 𝓤 H A W;
   lawful =
-      Laws'3.lawful CoreAnswer.the-type Laws'.the-laws 𝓤 H A W;
-  makes = Laws'3.makes CoreAnswer.the-type Laws'.the-plain 𝓤 H A;
+      Laws'3.lawful QueueLeft.the-type Laws''.the-laws 𝓤 H A W;
+  makes = Laws'3.makes QueueLeft.the-type Laws''.the-plain 𝓤 H A;
   in-mem = Local.mem-whole
-      𝓤 H A W (Declared.row CoreAnswer.the-type);
-  of-mem = Local.whole-mem 𝓤 H A W (Declared.row CoreAnswer.the-type);
+      𝓤 H A W (Declared.row QueueLeft.the-type);
+  of-mem = Local.whole-mem 𝓤 H A W (Declared.row QueueLeft.the-type);
 }
 
 abbrev pub hs : List.List Syntax.Home
@@ -345,52 +344,52 @@ abbrev pub Claims : Type 1
 Claims = Kinds.In 2 ps·0 × Kinds.Out 2 ps·0 r·0 × Kinds.In 0 ps·1 × Kinds.Out 0 ps·1 r·1
 
 abbrev pub t0 : List.List Row.Entry
-t0 = ε17 ∷ ε19 ∷ ε7 ∷ ε21 ∷ ε12 ∷ ε13 ∷ ε14 ∷ ε0 ∷ ε15 ∷ ε1 ∷ ε5 ∷ ε6 ∷ []
+t0 = ε14 ∷ ε19 ∷ ε7 ∷ ε21 ∷ ε12 ∷ ε13 ∷ ε15 ∷ ε0 ∷ ε16 ∷ ε1 ∷ ε5 ∷ ε6 ∷ []
 
 abbrev pub t1 : List.List Row.Entry
-t1 = ε20 ∷ ε16 ∷ ε2 ∷ ε21 ∷ ε3 ∷ ε4 ∷ (6, Rows'.any-gone τ1) ∷ ε0 ∷ ε15 ∷ ε1 ∷ ε5 ∷ ε6 ∷ []
+t1 = ε20 ∷ ε17 ∷ ε2 ∷ ε21 ∷ ε3 ∷ ε4 ∷ (6, Rows'.any-gone τ1) ∷ ε0 ∷ ε16 ∷ ε1 ∷ ε5 ∷ ε6 ∷ []
 
 abbrev pub t2 : List.List Row.Entry
-t2 = ε17 ∷ ε19 ∷ ε7 ∷ ε21 ∷ ε12 ∷ ε13 ∷ ε14 ∷ ε8 ∷ ε15 ∷ ε1 ∷ ε5 ∷ ε6 ∷ []
+t2 = ε14 ∷ ε19 ∷ ε7 ∷ ε21 ∷ ε12 ∷ ε13 ∷ ε15 ∷ ε8 ∷ ε16 ∷ ε1 ∷ ε5 ∷ ε6 ∷ []
 
 abbrev pub t3 : List.List Row.Entry
-t3 = ε17 ∷ ε19 ∷ ε2 ∷ ε21 ∷ ε12 ∷ ε13 ∷ ε14 ∷ ε8 ∷ ε15 ∷ ε1 ∷ ε5 ∷ ε6 ∷ []
+t3 = ε14 ∷ ε19 ∷ ε2 ∷ ε21 ∷ ε12 ∷ ε13 ∷ ε15 ∷ ε8 ∷ ε16 ∷ ε1 ∷ ε5 ∷ ε6 ∷ []
 
 abbrev pub t4 : List.List Row.Entry
-t4 = ε17 ∷ ε19 ∷ ε2 ∷ ε21 ∷ ε12 ∷ ε13 ∷ ε14 ∷ ε11 ∷ ε15 ∷ (9, Relend.msptr in-Record.row τ7 1) ∷ ε5 ∷ ε6 ∷ []
+t4 = ε14 ∷ ε19 ∷ ε2 ∷ ε21 ∷ ε12 ∷ ε13 ∷ ε15 ∷ ε11 ∷ ε16 ∷ (9, Relend.msptr in-Record.row τ7 1) ∷ ε5 ∷ ε6 ∷ []
 
 abbrev pub t5 : List.List Row.Entry
-t5 = ε17 ∷ ε19 ∷ ε2 ∷ ε21 ∷ ε12 ∷ ε13 ∷ ε14 ∷ ε11 ∷ ε15 ∷ ε1 ∷ (10, Mut.mslice in-Record.row τ4 1) ∷ ε6 ∷ []
+t5 = ε14 ∷ ε19 ∷ ε2 ∷ ε21 ∷ ε12 ∷ ε13 ∷ ε15 ∷ ε11 ∷ ε16 ∷ ε1 ∷ (10, Mut.mslice in-Record.row τ4 1) ∷ ε6 ∷ []
 
 abbrev pub t6 : List.List Row.Entry
-t6 = ε17 ∷ ε19 ∷ ε2 ∷ ε21 ∷ ε12 ∷ ε13 ∷ ε14 ∷ ε11 ∷ ε18 ∷ ε1 ∷ ε9 ∷ ε6 ∷ []
+t6 = ε14 ∷ ε19 ∷ ε2 ∷ ε21 ∷ ε12 ∷ ε13 ∷ ε15 ∷ ε11 ∷ ε18 ∷ ε1 ∷ ε9 ∷ ε6 ∷ []
 
 abbrev pub t7 : List.List Row.Entry
-t7 = ε17 ∷ ε16 ∷ ε2 ∷ ε21 ∷ ε12 ∷ ε13 ∷ ε14 ∷ ε11 ∷ ε18 ∷ ε1 ∷ ε9 ∷ ε6 ∷ []
+t7 = ε14 ∷ ε17 ∷ ε2 ∷ ε21 ∷ ε12 ∷ ε13 ∷ ε15 ∷ ε11 ∷ ε18 ∷ ε1 ∷ ε9 ∷ ε6 ∷ []
 
 abbrev pub t8 : List.List Row.Entry
-t8 = ε17 ∷ ε16 ∷ ε2 ∷ ε21 ∷ ε12 ∷ ε13 ∷ ε14 ∷ ε8 ∷ ε18 ∷ ε1 ∷ ε5 ∷ ε6 ∷ []
+t8 = ε14 ∷ ε17 ∷ ε2 ∷ ε21 ∷ ε12 ∷ ε13 ∷ ε15 ∷ ε8 ∷ ε18 ∷ ε1 ∷ ε5 ∷ ε6 ∷ []
 
 abbrev pub t9 : List.List Row.Entry
-t9 = ε17 ∷ ε16 ∷ ε2 ∷ ε21 ∷ ε12 ∷ ε13 ∷ ε14 ∷ ε8 ∷ ε18 ∷ ε1 ∷ ε5 ∷ ε10 ∷ []
+t9 = ε14 ∷ ε17 ∷ ε2 ∷ ε21 ∷ ε12 ∷ ε13 ∷ ε15 ∷ ε8 ∷ ε18 ∷ ε1 ∷ ε5 ∷ ε10 ∷ []
 
 abbrev pub t10 : List.List Row.Entry
-t10 = ε17 ∷ ε16 ∷ ε2 ∷ ε21 ∷ ε12 ∷ ε13 ∷ ε14 ∷ ε0 ∷ ε18 ∷ ε1 ∷ ε5 ∷ ε10 ∷ []
+t10 = ε14 ∷ ε17 ∷ ε2 ∷ ε21 ∷ ε12 ∷ ε13 ∷ ε15 ∷ ε0 ∷ ε18 ∷ ε1 ∷ ε5 ∷ ε10 ∷ []
 
 abbrev pub t11 : List.List Row.Entry
-t11 = ε20 ∷ ε16 ∷ ε2 ∷ ε21 ∷ ε12 ∷ ε13 ∷ ε14 ∷ ε0 ∷ ε18 ∷ ε1 ∷ ε5 ∷ ε10 ∷ []
+t11 = ε20 ∷ ε17 ∷ ε2 ∷ ε21 ∷ ε12 ∷ ε13 ∷ ε15 ∷ ε0 ∷ ε18 ∷ ε1 ∷ ε5 ∷ ε10 ∷ []
 
 abbrev pub t12 : List.List Row.Entry
-t12 = ε20 ∷ ε16 ∷ ε2 ∷ ε21 ∷ ε12 ∷ ε13 ∷ ε14 ∷ ε0 ∷ ε15 ∷ ε1 ∷ ε5 ∷ ε10 ∷ []
+t12 = ε20 ∷ ε17 ∷ ε2 ∷ ε21 ∷ ε12 ∷ ε13 ∷ ε15 ∷ ε0 ∷ ε16 ∷ ε1 ∷ ε5 ∷ ε10 ∷ []
 
 abbrev pub t13 : List.List Row.Entry
-t13 = ε20 ∷ ε16 ∷ ε2 ∷ ε21 ∷ ε12 ∷ ε13 ∷ ε14 ∷ ε0 ∷ ε15 ∷ ε1 ∷ ε5 ∷ ε6 ∷ []
+t13 = ε20 ∷ ε17 ∷ ε2 ∷ ε21 ∷ ε12 ∷ ε13 ∷ ε15 ∷ ε0 ∷ ε16 ∷ ε1 ∷ ε5 ∷ ε6 ∷ []
 
 abbrev pub t14 : List.List Row.Entry
-t14 = ε20 ∷ ε16 ∷ ε2 ∷ ε21 ∷ ε3 ∷ ε13 ∷ ε14 ∷ ε0 ∷ ε15 ∷ ε1 ∷ ε5 ∷ ε6 ∷ []
+t14 = ε20 ∷ ε17 ∷ ε2 ∷ ε21 ∷ ε3 ∷ ε13 ∷ ε15 ∷ ε0 ∷ ε16 ∷ ε1 ∷ ε5 ∷ ε6 ∷ []
 
 abbrev pub t15 : List.List Row.Entry
-t15 = ε20 ∷ ε16 ∷ ε2 ∷ ε21 ∷ ε3 ∷ ε4 ∷ ε14 ∷ ε0 ∷ ε15 ∷ ε1 ∷ ε5 ∷ ε6 ∷ []
+t15 = ε20 ∷ ε17 ∷ ε2 ∷ ε21 ∷ ε3 ∷ ε4 ∷ ε15 ∷ ε0 ∷ ε16 ∷ ε1 ∷ ε5 ∷ ε6 ∷ []
 
 abbrev pub T0 : Row.Cx
 T0 = record { locals = t0; slots = [] }
@@ -506,7 +505,7 @@ module _ (claims· : Claims) where
       },
       tt,
     ),
-  ) 0 [] mirs.sched_core-CoreAnswer
+  ) 0 [] mirs.calls-QueueLeft
 
   abbrev s14 : (bs : List.List Nat.ℕ) → Typed.Mo T15 → Typed.Mo T16
   s14 = λ bs. Scalar.n-room T15 8 mirs.sched_core-Answer
@@ -721,7 +720,7 @@ module _ (claims· : Claims) where
                   (Array.arr-yields 𝓤 H A W in-Record.element in-Record.element-laws 64, Path'.refl),
                   tt,
                 ),
-              ) (Reads.room-gone 𝓤 H A mirs.sched_core-CoreAnswer) tt Path'.refl) d5
+              ) (Reads.room-gone 𝓤 H A mirs.calls-QueueLeft) tt Path'.refl) d5
 
           d7 : Typed.Typed 𝓤 H A 𝓣 E G13 b7 Δ0 (at7 bs)
           d7 = Typed.g-pre 𝓤 H A W 𝓣 E G13 G14 b7 Δ0 (Typed.pass T13 T14 (s12 bs)) (at6 bs) (Scalar.g-room 𝓤 H A W E G13 7 τ3 (Init.room-arr 𝓤 H A W
@@ -773,8 +772,8 @@ module _ (claims· : Claims) where
               .slots)) (
                 (
                   Yields.yields-copy 𝓤 H A W (λ ρ. Unit) (Declared.row Station.the-type) Path'.refl (Copies.cStruct Station.the-type
-                      Laws''.the-laws Laws''.the-copy .copy 𝓤 H A W) (Rows'.whole (Declared.row Station.the-type)) (λ x. x) (λ x. x) (λ ρ told.
-                      Local.mem-whole 𝓤 H A W (Declared.row Station.the-type) ρ) λ ρ told. Local.whole-mem 𝓤 H A W (Declared.row Station.the-type) ρ,
+                      Laws'.the-laws Laws'.the-copy .copy 𝓤 H A W) (Rows'.whole (Declared.row Station.the-type)) (λ x. x) (λ x. x) (λ ρ told. Local.mem-whole
+                      𝓤 H A W (Declared.row Station.the-type) ρ) λ ρ told. Local.whole-mem 𝓤 H A W (Declared.row Station.the-type) ρ,
                   Path'.refl,
                 ),
                 (
@@ -782,25 +781,21 @@ module _ (claims· : Claims) where
                   Mut.reads-mslice 𝓤 H A W in-Record.row τ4 1,
                   Path'.refl,
                   (
-                    ShrSlice.spares-sslice 𝓤 H A W (Referent.rtF (Referent.fInt Syntax.w8)) τ6 0,
-                    Shared.reads-sslice 𝓤 H A W (Referent.rtF (Referent.fInt
-                        Syntax.w8)) τ6 0,
+                    ShrSlice.spares-sslice 𝓤 H
+                        A W (Referent.rtF (Referent.fInt Syntax.w8)) τ6 0,
+                    Shared.reads-sslice 𝓤 H A W (Referent.rtF (Referent.fInt Syntax.w8)) τ6 0,
                     Path'.refl,
                     (
                       (Scalar.reads-sc 𝓤 H A W (Row.sInt Syntax.w8), Path'.refl),
                       (
-                        (
-                          Scalar.reads-sc 𝓤 H A W (Row.sInt
-                              Syntax.w8),
-                          Path'.refl,
-                        ),
+                        (Scalar.reads-sc 𝓤 H A W (Row.sInt Syntax.w8), Path'.refl),
                         ((Scalar.reads-sc 𝓤 H A W (Row.sInt Syntax.w32), Path'.refl), tt),
                       ),
                     ),
                   ),
                 ),
-              ) (Reads.room-gone 𝓤 H A
-              mirs.sched_core-Answer) (tt, (tt, tt)) Path'.refl) d12
+              ) (Reads.room-gone 𝓤 H A mirs.sched_core-Answer) (tt, (tt, tt))
+              Path'.refl) d12
 
           d14 : Typed.Typed 𝓤 H A 𝓣 E G6 b10 Δ0 (at14 bs)
           d14 = Typed.s-seq 𝓤 H A W 𝓣 E G6 G7 b2 b9 Δ0 (Typed.ask (s5 bs)) (at13 bs) (Relend.t-sl-aggregate 𝓤 H A W E in-Record.row 𝓣 (Relend.asMut
@@ -867,21 +862,22 @@ module _ (claims· : Claims) where
             ty = Declared.row Station.the-type;
             one = Path'.refl;
             val = Laws'3.val Station.the-type
-                Laws''.the-laws;
-            tells = Laws'3.tells Station.the-type Laws''.the-laws;
-            still = Laws'3.still Station.the-type Laws''.the-copy Exit.yes;
-            row = Rows'.whole (Declared.row Station.the-type);
+                Laws'.the-laws;
+            tells = Laws'3.tells Station.the-type Laws'.the-laws;
+            still = Laws'3.still Station.the-type Laws'.the-copy Exit.yes;
+            row
+                = Rows'.whole (Declared.row Station.the-type);
             rd = λ x. x;
             mk = λ x. x;
           } λ M 𝓤 H A W. record {
-            copies = Laws'3.copy
-                Station.the-type Laws''.the-copy 𝓤 H A W;
-            lawful = Laws'3.lawful Station.the-type Laws''.the-laws 𝓤 H A W;
-            makes = Laws'3.makes
-                Station.the-type Laws''.the-plain 𝓤 H A;
+            copies = Laws'3.copy Station.the-type
+                Laws'.the-copy 𝓤 H A W;
+            lawful = Laws'3.lawful Station.the-type Laws'.the-laws 𝓤 H A W;
+            makes = Laws'3.makes Station.the-type
+                Laws'.the-plain 𝓤 H A;
             in-mem = Local.mem-whole 𝓤 H A W (Declared.row Station.the-type);
-            of-mem = Local.whole-mem 𝓤 H
-                A W (Declared.row Station.the-type);
+            of-mem = Local.whole-mem 𝓤 H A W (Declared.row
+                Station.the-type);
           })
           pub records : Kinds.Den {n = 1} κs (Array.pArr in-Record.element in-Record.element-laws 64)
           pub store : Kinds.Den {n = 1} κs (ShrSlice.pShrS (Referent.rtF (Referent.fInt Syntax.w8)) 0 tt)
