@@ -4,7 +4,6 @@ use mathlib.Core.Bool.{true}
 use Prim.Native.Nat.{ℕ, _+_, _≤_, _<_}
 use native.Mathlib.Omega.{arith}
 use lib.ListN.{length}
-use Rattle.sizes.specs.Sizes.{queuePlaces}
 use Rattle.mac_pdus.specs.declared.Address.{Address}
 use Rattle.mac_pdus.specs.Headers.{ifZero, addressType, addressLength, resourceBits, optLength, optChanAllocLength, headerLength}
 use Rattle.mac_pdus.specs.Within.{ResourceWithin}
@@ -33,17 +32,17 @@ header-bounds r h = queued-header-length (resourceOf r 0 0) h
 
 -- ---- legal
 
-header-lone : (r : Record) (f l : ℕ) → legalQueued (resourceOf r 0 0) ≡ true → f < 2 → 0 < l → l < queuePlaces → legalLone (resourceOf r f l) ≡ true
+header-lone : (r : Record) (f l : ℕ) → legalQueued (resourceOf r 0 0) ≡ true → f < 2 → 0 < l → l < 64 → legalLone (resourceOf r f l) ≡ true
 unfolding withLength
 header-lone r f l h hf h0 hl = queued-lone (resourceOf r 0 0) f l h hf h0 hl
 
 -- it can be written
-pub header-within : (r : Record) (f l : ℕ) → legalQueued (resourceOf r 0 0) ≡ true → f < 2 → 0 < l → l < queuePlaces → ResourceWithin (headerOf r f l)
+pub header-within : (r : Record) (f l : ℕ) → legalQueued (resourceOf r 0 0) ≡ true → f < 2 → 0 < l → l < 64 → ResourceWithin (headerOf r f l)
 unfolding headerOf
 header-within r f l h hf h0 hl = legal-within (resourceOf r f l) (lone (resourceOf r f l) (header-lone r f l h hf h0 hl) .fields)
 
 -- the reader takes it
-pub header-taken : (r : Record) (f l : ℕ) → legalQueued (resourceOf r 0 0) ≡ true → f < 2 → 0 < l → l < queuePlaces → loneTakes (headerOf r f l) ≡ true
+pub header-taken : (r : Record) (f l : ℕ) → legalQueued (resourceOf r 0 0) ≡ true → f < 2 → 0 < l → l < 64 → loneTakes (headerOf r f l) ≡ true
 unfolding headerOf
 header-taken r f l h hf h0 hl = taken-on-air (resourceOf r f l) (header-lone r f l h hf h0 hl)
 

@@ -8,7 +8,7 @@ use lib.Dec.{leb}
 use lib.ListN.{length, getD, take, drop, replicate, length-set, length-replicate, getD-replicate, replicate-append-replicate}
 use lib.Seq.{take-at, drop-at, length-paste}
 use borrow.Author.Tests.{leb-true, le-leb, lt-ltb, le-ltb}
-use Rattle.sizes.specs.Sizes.{timeslots, perTimeslot, queuePlaces, storeOctets}
+use Rattle.sizes.specs.Sizes.{cellOctets, perTimeslot, queuePlaces, storeOctets, timeslotOctets, timeslots}
 use Rattle.optional.specs.declared.OptU8.{OptU8}
 use Rattle.optional.specs.declared.OptU16.{OptU16}
 use Rattle.optional.proofs.Tests.{and-right, and-intro}
@@ -129,35 +129,35 @@ abbrev zeros : ℕ → List ℕ
 zeros n = replicate {A = ℕ} n 0
 
 -- 256 octets of a run of zeros are a zero cell
-zeros-cell : (n d : ℕ) → d + 256 ≤ n → take 256 (drop d (zeros n)) ≡ zeroCell
+zeros-cell : (n d : ℕ) → d + cellOctets ≤ n → take cellOctets (drop d (zeros n)) ≡ zeroCell
 unfolding zeroCell
 zeros-cell n d h =
-    let e : n ≡ d + (256 + (n - d - 256)) = omega arith in
-    let split : zeros n ≡ zeros d ++ (zeros 256 ++ zeros (n - d - 256)) =
-    ap (λ (k : ℕ). zeros k) e ∙ sym (replicate-append-replicate {A = ℕ} d (256 + (n - d - 256)) 0)
-    ∙ ap (λ (l : List ℕ). zeros d ++ l) (sym (replicate-append-replicate {A = ℕ} 256 (n - d - 256) 0)) in
-    ap (λ (l : List ℕ). take 256 (drop d l)) split
-    ∙ ap (take 256) (drop-at (zeros d) (zeros 256 ++ zeros (n - d - 256)) d (length-replicate {A = ℕ} d 0))
-    ∙ take-at (zeros 256) (zeros (n - d - 256)) 256 (length-replicate {A = ℕ} 256 0)
+    let e : n ≡ d + (cellOctets + (n - d - cellOctets)) = omega arith in
+    let split : zeros n ≡ zeros d ++ (zeros cellOctets ++ zeros (n - d - cellOctets)) =
+    ap (λ (k : ℕ). zeros k) e ∙ sym (replicate-append-replicate {A = ℕ} d (cellOctets + (n - d - cellOctets)) 0)
+    ∙ ap (λ (l : List ℕ). zeros d ++ l) (sym (replicate-append-replicate {A = ℕ} cellOctets (n - d - cellOctets) 0)) in
+    ap (λ (l : List ℕ). take cellOctets (drop d l)) split
+    ∙ ap (take cellOctets) (drop-at (zeros d) (zeros cellOctets ++ zeros (n - d - cellOctets)) d (length-replicate {A = ℕ} d 0))
+    ∙ take-at (zeros cellOctets) (zeros (n - d - cellOctets)) cellOctets (length-replicate {A = ℕ} cellOctets 0)
 
 empty-place : soundPlace false emptyRecord zeroCell ≡ true
 unfolding soundPlace
 empty-place = and-intro _ (cleanPast 0 zeroCell) is-empty zero-clean
 
 -- "every place and cell empty"
-pub empty-queue-sound : (k a b : ℕ) → a ≡ 16 * k → b ≡ 4096 * k → soundQueue (zeros k) (replicate a emptyRecord) (zeros b) ≡ true
+pub empty-queue-sound : (k a b : ℕ) → a ≡ perTimeslot * k → b ≡ timeslotOctets * k → soundQueue (zeros k) (replicate a emptyRecord) (zeros b) ≡ true
 empty-queue-sound k a b ea eb = queue-all (zeros k) (replicate a emptyRecord) (zeros b) (λ u h. timeslot u (omega (arith, h, length-replicate {A = ℕ} k 0)))
   where
-    timeslot : (u : ℕ) → u < k → (getD (zeros k) u 0 ≤ 16) × (soundPlaces 16 (getD (zeros k) u 0) (drop (16 * u) (replicate a emptyRecord)) (drop (256 * (16 * u)) (zeros b)) ≡ true)
+    timeslot : (u : ℕ) → u < k → (getD (zeros k) u 0 ≤ perTimeslot) × (soundPlaces perTimeslot (getD (zeros k) u 0) (drop (perTimeslot * u) (replicate a emptyRecord)) (drop (cellOctets * (perTimeslot * u)) (zeros b)) ≡ true)
     timeslot u h =
         rw (getD-replicate {A = ℕ} k u 0 0 h) (
           omega arith,
-          places-all 16 0 (drop (16 * u) (replicate a emptyRecord)) (drop (256 * (16 * u)) (zeros b))
+          places-all perTimeslot 0 (drop (perTimeslot * u) (replicate a emptyRecord)) (drop (cellOctets * (perTimeslot * u)) (zeros b))
               (λ i l.
               rw (
                 le-ltb i 0 (omega arith),
-                rec-shift (16 * u) (replicate a emptyRecord) i ∙ getD-replicate a (16 * u + i) emptyRecord emptyRecord (omega arith),
-                cell-shift (16 * u) (zeros b) i ∙ zeros-cell b (256 * (16 * u + i)) (omega arith),
+                rec-shift (perTimeslot * u) (replicate a emptyRecord) i ∙ getD-replicate a (perTimeslot * u + i) emptyRecord emptyRecord (omega arith),
+                cell-shift (perTimeslot * u) (zeros b) i ∙ zeros-cell b (cellOctets * (perTimeslot * u + i)) (omega arith),
               ) empty-place),
         )
 
@@ -202,10 +202,10 @@ module _ (m : Memory) (t : ℕ) (h : SoundMemory m) (low : 1 ≤ t) (high : t �
         queue = queue;
       })
 
-  abbrev places : length (m .records) ≡ 16 * length ns
+  abbrev places : length (m .records) ≡ perTimeslot * length ns
   places = omega (arith, h .counts, h .places)
 
-  abbrev cells : length (m .store) ≡ 4096 * length ns
+  abbrev cells : length (m .store) ≡ timeslotOctets * length ns
   cells = omega (arith, h .counts, h .cells)
 
   abbrev p : Parts (m .station .uplink) ns (m .records) (m .store)
@@ -309,8 +309,8 @@ left-sound m h =
     let t = current (m .station) in
     let left : List (Item (List ℕ)) = builtOf ns (m .records) (m .store) t .left in
     let inside : t < length ns = omega (arith, p .four-counts) in
-    let many : length (m .records) ≡ 16 * length ns = omega (arith, p .places, p .four-counts) in
-    let size : length (m .store) ≡ 4096 * length ns = omega (arith, p .cells, p .four-counts) in
+    let many : length (m .records) ≡ perTimeslot * length ns = omega (arith, p .places, p .four-counts) in
+    let size : length (m .store) ≡ timeslotOctets * length ns = omega (arith, p .cells, p .four-counts) in
     let whole : Cells left = each-cells left (all-weaken Staying OneCell (λ x q. q .stored .cell) left (build-stays ns (m .records) (m .store) t inside many size (h .queue))) in
     let q = build-holds ns (m .records) (m .store) t inside many size (h .queue) (h .octets) in
     parts-memory _ _ _ _
@@ -319,8 +319,8 @@ left-sound m h =
       four-counters = p .four-counters;
       uplink = p .uplink;
       four-counts = length-set ns _ _ ∙ p .four-counts;
-      places = length-paste (m .records) (16 * t) (recordsOf 16 left) 16 (omega (arith, p .places)) (omega (arith, length-records 16 left)) ∙ p .places;
-      cells = length-paste (m .store) (256 * (16 * t)) (cellsOf 16 left) 4096 (omega (arith, p .cells)) (omega (arith, length-cells 16 left whole)) ∙ p .cells;
+      places = length-paste (m .records) (perTimeslot * t) (recordsOf perTimeslot left) perTimeslot (omega (arith, p .places)) (omega (arith, length-records perTimeslot left)) ∙ p .places;
+      cells = length-paste (m .store) (cellOctets * (perTimeslot * t)) (cellsOf perTimeslot left) timeslotOctets (omega (arith, p .cells)) (omega (arith, length-cells perTimeslot left whole)) ∙ p .cells;
       octets = q .octets;
       queue = q .sound;
     })
