@@ -34,7 +34,7 @@ STUBS = {
     'put_record': '',
     'load_timeslot': '[Record::EMPTY; sizes::PER_TIMESLOT]',
     'save_timeslot': '',
-    'ask_memory': 'Verdict::Passed',
+    'ask_memory': 'Passage::Passed',
     'ul_process_cap_req': 'RequestAnswer { reply: RequestReply::Refused(Refusal::Unsound), station: s }',
     'dl_enqueue_random_access_ack': 'Answer { reply: Reply::Done, station: s }',
     'dl_enqueue_tma': 'Answer { reply: Reply::Done, station: s }',

@@ -13,7 +13,7 @@ STANDS = runpy.run_path(BELOW)['STANDS']
 LEAVES = ['calls::request', 'calls::queue_ack', 'calls::queue_record', 'calls::build']
 
 # What they call, of this crate: its body in their twin, any value of its type.
-QUEUE = '[dl_record::Record::EMPTY; 64]'
+QUEUE = '[dl_record::Record::EMPTY; sizes::QUEUE_PLACES]'
 LEAF_CALLS = {
     'calls::request_left': 'let reply = a.reply; let station = a.station; RequestLeft { reply: reply, station: station, records: %s }' % QUEUE,
     'calls::queue_left': 'let reply = a.reply; let station = a.station; QueueLeft { reply: reply, station: station, records: %s }' % QUEUE,

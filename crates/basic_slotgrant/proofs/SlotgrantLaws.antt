@@ -6,28 +6,11 @@ use native.Mathlib.Omega.{arith}
 use lib.Dec.{lit<, eqb·suc-zero}
 use lib.ListN.{take}
 use borrow.Author.Tests.{le-leb, lt-leb, ne-eqb}
+use Rattle.sizes.specs.Sizes.{latestDelay}
 use Rattle.slot_codes.specs.Codes.{grantOctet}
 use Rattle.slot_codes.proofs.TableLaws.{past-the-last, agree-below}
 use Rattle.slot_codes.proofs.CodesLaws.{numbers-read, capacity-in-octet, delay-in-octet, octet-of-its-halves}
 use Rattle.basic_slotgrant.specs.declared.basic_slotgrant_cap_alloc.BasicSlotgrantCapAlloc.{BasicSlotgrantCapAlloc}
-use Rattle.basic_slotgrant.specs.declared.basic_slotgrant_cap_alloc.BasicSlotgrantCapAlloc.the-variants.{
-  FirstSubslotGranted,
-  Grant1Slot,
-  Grant2Slots,
-  Grant3Slots,
-  Grant4Slots,
-  Grant5Slots,
-  Grant6Slots,
-  Grant8Slots,
-  Grant10Slots,
-  Grant13Slots,
-  Grant17Slots,
-  Grant24Slots,
-  Grant34Slots,
-  Grant51Slots,
-  Grant68Slots,
-  SecondSubslotGranted,
-}
 use Rattle.basic_slotgrant.specs.declared.basic_slotgrant_cap_alloc.CapAllocRead as capacity
 use Rattle.basic_slotgrant.specs.declared.basic_slotgrant_granting_delay.BasicSlotgrantGrantingDelay.{BasicSlotgrantGrantingDelay}
 use Rattle.basic_slotgrant.specs.declared.basic_slotgrant_granting_delay.BasicSlotgrantGrantingDelay.the-variants.{
@@ -40,53 +23,53 @@ use Rattle.basic_slotgrant.specs.declared.basic_slotgrant_granting_delay
 use Rattle.basic_slotgrant.specs.declared.BasicSlotgrant.{BasicSlotgrant}
 use Rattle.basic_slotgrant.specs.Slotgrant.{capacities, capacityAt, delayAt, capacityCode, delayCode, capacityRead, delayRead, octetOf, grantOf, grantAt}
 
-pub capacity-past-the-last : (code : ℕ) → 15 ≤ code → capacityAt code ≡ SecondSubslotGranted
-capacity-past-the-last = past-the-last (take 15 capacities) SecondSubslotGranted
+pub capacity-past-the-last : (code : ℕ) → 15 ≤ code → capacityAt code ≡ BasicSlotgrantCapAlloc.SecondSubslotGranted
+capacity-past-the-last = past-the-last (take 15 capacities) BasicSlotgrantCapAlloc.SecondSubslotGranted
 
 -- a delay that the code tells apart: N is 1 to 13
 pub data Plain : BasicSlotgrantGrantingDelay → Type 0 where
   next : Plain CapAllocAtNextOpportunity
-  after : {n : ℕ} → 1 ≤ n → n ≤ 13 → Plain (DelayNOpportunities n)
+  after : {n : ℕ} → 1 ≤ n → n ≤ latestDelay → Plain (DelayNOpportunities n)
   frame18 : Plain AllocStartsAtOpportunityInFr18
   wait : Plain WaitForAnotherSlotgrantMessage
 
 -- codes 1 to 13 are delays of N, 14 is frame 18, from 15 on it is to be waited
-pub delay-of-n : (code : ℕ) → 1 ≤ code → code ≤ 13 → delayAt code ≡ DelayNOpportunities code
+pub delay-of-n : (code : ℕ) → 1 ≤ code → code ≤ latestDelay → delayAt code ≡ DelayNOpportunities code
 delay-of-n zero p h = absurd (not-suc-le-zero p)
-delay-of-n (suc c) p h = rw (eqb·suc-zero c, le-leb (suc c) 13 h)
+delay-of-n (suc c) p h = rw (eqb·suc-zero c, le-leb (suc c) latestDelay h)
 
 pub delay-to-wait-for : (code : ℕ) → 15 ≤ code → delayAt code ≡ WaitForAnotherSlotgrantMessage
 delay-to-wait-for code h =
-    simp (ne-eqb code 0 (λ e. omega arith), lt-leb code 13 (omega arith), ne-eqb code 14 (λ e. omega arith))
+    simp (ne-eqb code 0 (λ e. omega arith), lt-leb code latestDelay (omega arith), ne-eqb code 14 (λ e. omega arith))
 
 -- N is coded as the nearest of 1 to 13
-pub nearest-from-below : (n : ℕ) → n ≤ 1 → max 1 (min n 13) ≡ 1
+pub nearest-from-below : (n : ℕ) → n ≤ 1 → max 1 (min n latestDelay) ≡ 1
 nearest-from-below n h = omega arith
 
-pub nearest-from-above : (n : ℕ) → 13 ≤ n → max 1 (min n 13) ≡ 13
+pub nearest-from-above : (n : ℕ) → latestDelay ≤ n → max 1 (min n latestDelay) ≡ latestDelay
 nearest-from-above n h = omega arith
 
-pub nearest-within : (n : ℕ) → 1 ≤ n → n ≤ 13 → max 1 (min n 13) ≡ n
+pub nearest-within : (n : ℕ) → 1 ≤ n → n ≤ latestDelay → max 1 (min n latestDelay) ≡ n
 nearest-within n p h = omega arith
 
 -- each capacity is the case of its code, which has four bits
 capacity-coded : (c : BasicSlotgrantCapAlloc) → (capacityAt (capacityCode c) ≡ c) × (capacityCode c < 16)
-capacity-coded FirstSubslotGranted = (refl, lit< tt)
-capacity-coded Grant1Slot = (refl, lit< tt)
-capacity-coded Grant2Slots = (refl, lit< tt)
-capacity-coded Grant3Slots = (refl, lit< tt)
-capacity-coded Grant4Slots = (refl, lit< tt)
-capacity-coded Grant5Slots = (refl, lit< tt)
-capacity-coded Grant6Slots = (refl, lit< tt)
-capacity-coded Grant8Slots = (refl, lit< tt)
-capacity-coded Grant10Slots = (refl, lit< tt)
-capacity-coded Grant13Slots = (refl, lit< tt)
-capacity-coded Grant17Slots = (refl, lit< tt)
-capacity-coded Grant24Slots = (refl, lit< tt)
-capacity-coded Grant34Slots = (refl, lit< tt)
-capacity-coded Grant51Slots = (refl, lit< tt)
-capacity-coded Grant68Slots = (refl, lit< tt)
-capacity-coded SecondSubslotGranted = (refl, lit< tt)
+capacity-coded BasicSlotgrantCapAlloc.FirstSubslotGranted = (refl, lit< tt)
+capacity-coded BasicSlotgrantCapAlloc.Grant1Slot = (refl, lit< tt)
+capacity-coded BasicSlotgrantCapAlloc.Grant2Slots = (refl, lit< tt)
+capacity-coded BasicSlotgrantCapAlloc.Grant3Slots = (refl, lit< tt)
+capacity-coded BasicSlotgrantCapAlloc.Grant4Slots = (refl, lit< tt)
+capacity-coded BasicSlotgrantCapAlloc.Grant5Slots = (refl, lit< tt)
+capacity-coded BasicSlotgrantCapAlloc.Grant6Slots = (refl, lit< tt)
+capacity-coded BasicSlotgrantCapAlloc.Grant8Slots = (refl, lit< tt)
+capacity-coded BasicSlotgrantCapAlloc.Grant10Slots = (refl, lit< tt)
+capacity-coded BasicSlotgrantCapAlloc.Grant13Slots = (refl, lit< tt)
+capacity-coded BasicSlotgrantCapAlloc.Grant17Slots = (refl, lit< tt)
+capacity-coded BasicSlotgrantCapAlloc.Grant24Slots = (refl, lit< tt)
+capacity-coded BasicSlotgrantCapAlloc.Grant34Slots = (refl, lit< tt)
+capacity-coded BasicSlotgrantCapAlloc.Grant51Slots = (refl, lit< tt)
+capacity-coded BasicSlotgrantCapAlloc.Grant68Slots = (refl, lit< tt)
+capacity-coded BasicSlotgrantCapAlloc.SecondSubslotGranted = (refl, lit< tt)
 
 -- each plain delay is the case of its code; a code has four bits
 pub delay-of-its-code : {d : BasicSlotgrantGrantingDelay} → Plain d → delayAt (delayCode d) ≡ d

@@ -14,7 +14,8 @@ use lib.Dec.{leb}
 use lib.ListN.{length, take, drop, getD, set, replicate, length-append, length-drop, length-set}
 use lib.Seq.{set-append-left, drop-at, take-at, drop-cons, drop-drop, drop-append-le, take-append-le}
 use Rattle.bitbuffer.specs.Bits.{valueBits, bitsValue, bitsOf, written, part}
-use Rattle.bitbuffer.proofs.Laws.{length-valueBits, valueBits-append, valueBits-mod, one-shl, written-append, written-eq, length-part, length-bitsOf, past, value-field}
+use Rattle.bitbuffer.proofs.Laws.{length-valueBits, valueBits-append, valueBits-mod, one-shl, written-append, written-eq, length-part, length-bitsOf}
+use Rattle.bitbuffer.proofs.Laws.{past, value-field}
 use Rattle.bitbuffer.proofs.Octets.{part-split, valueBits-join, drop-bitsOf, written-add}
 
 -- ---- bits of an octet replaced

@@ -2,14 +2,15 @@
 --   a value to bits and back     value-field, value-valueBits, valueBits-value
 --   bits to octets and back      Octets: packed-bitsOf, bitsOf-packed, bitsOf-same
 --   bits at their octets         getD-place; Chunks: written-place, pair-part, octet-part
---   reading what was written     part-written, read-written, field-back; Writes: written-inside
+--   reading what was written     part-written, read-written, field-back
 --   what a write leaves alone    part-before, part-after, length-written; Writes: written-elsewhere
 --   two writes in a row          written-append and `then` (adjacent); Writes: written-disjoint (apart)
 --   fields side by side          valueBits-append; Octets: valueBits-join, part-split; Pieces: cons
 use mathlib.Core.Path.{_≡_, refl, sym, ap, ap₂, _∙_, subst}
 use mathlib.Core.List.{List, [], _∷_, _++_, append-assoc}
 use Prim.Native.Nat.{ℕ, zero, suc, _+_, _-_, _*_, _/_, _%_, _^_, _≤_, _<_}
-use native.Mathlib.Nat.{add-zero, zero-add, suc-add, add-comm, mod-one, mod-lt, mod-eq-of-lt, pow-suc, one-mul, mul-one, mul-comm, mul-le-mul-left, lt-of-lt-of-le}
+use native.Mathlib.Nat.{add-zero, zero-add, suc-add, add-comm, mod-one, mod-lt, mod-eq-of-lt, pow-suc, one-mul, mul-one, mul-comm, mul-le-mul-left}
+use native.Mathlib.Nat.{lt-of-lt-of-le}
 use native.Mathlib.Numerals.{one-add}
 use native.Mathlib.Omega.{arith}
 use lib.Arith.{digits-lt}

@@ -5,10 +5,11 @@ use Prim.Native.Nat.{ℕ, zero, suc, _+_, _*_, _^_, _<_}
 use native.Mathlib.Nat.{add-suc}
 use native.Mathlib.Omega.{arith}
 use lib.Pow.{high, low}
-use lib.ListN.{length, take, drop, getD, set, length-drop, length-take, take-append-drop}
+use lib.ListN.{length, take, drop, getD, set, length-drop, length-take, take-append-drop, replicate}
 use lib.Seq.{drop-nil, drop-append-add, drop-at, take-at, drop-drop, take-add}
 use Rattle.bitbuffer.specs.Bits.{valueBits, bitsValue, bitsOf, packed, written, part, AreBits}
-use Rattle.bitbuffer.proofs.Laws.{length-valueBits, valueBits-append, valueBits-mod, set-append-add, length-bitsOf, value-field, valueBits-value, bits-take, bits-drop}
+use Rattle.bitbuffer.proofs.Laws.{length-valueBits, valueBits-append, valueBits-mod, set-append-add, length-bitsOf, value-field, valueBits-value}
+use Rattle.bitbuffer.proofs.Laws.{bits-take, bits-drop}
 
 -- the bits of a part, the first `a` and the rest
 pub part-split : (l : List ℕ) (at a b : ℕ) → part l at (a + b) ≡ part l at a ++ part l (at + a) b
@@ -60,6 +61,16 @@ bitsOf-packed (suc n) l b h =
     (ap (λ (k : ℕ). valueBits k (bitsValue (take 8 l))) (sym eight) ∙ valueBits-value (take 8 l) (bits-take 8 l b))
     (bitsOf-packed n (drop 8 l) (bits-drop 8 l b) (rw length-drop (omega arith)))
     ∙ take-append-drop 8 l
+
+pub length-packed : (n : ℕ) (l : List ℕ) → length (packed n l) ≡ n
+unfolding packed
+length-packed zero l = refl
+length-packed (suc n) l = ap suc (length-packed n (drop 8 l))
+
+pub zeros-are-bits : (n : ℕ) → AreBits (replicate n 0)
+unfolding AreBits
+zeros-are-bits zero = tt
+zeros-are-bits (suc n) = (omega arith, zeros-are-bits n)
 
 -- octets with the same bits are the same octets
 pub bitsOf-same : (s t : List ℕ) → ((i : ℕ) → getD s i 0 < 2 ^ 8) → ((i : ℕ) → getD t i 0 < 2 ^ 8) → bitsOf s ≡ bitsOf t → s ≡ t

@@ -2,11 +2,10 @@
 use mathlib.Core.Path.{_≡_, refl, ap, _∙_}
 use mathlib.Core.Logic.{_⊎_, inl, inr}
 use mathlib.Core.List.{List, [], _∷_}
-use Prim.Native.Nat.{ℕ, zero, suc, _+_, _≤_, _<_}
-use native.Mathlib.Nat.{add-zero}
+use Prim.Native.Nat.{ℕ, suc, _+_, _≤_, _<_}
 use native.Mathlib.Omega.{arith}
-use lib.ListN.{length, getD, set, length-set}
-use lib.Seq.{getD-set-same, getD-set-other, set-comm}
+use lib.ListN.{length, getD, set}
+use lib.Seq.{getD-set-other, set-comm}
 use Rattle.bitbuffer.specs.Bits.{written}
 
 -- a bit before the field, or behind it, is left alone
@@ -17,17 +16,6 @@ written-elsewhere l at (b ∷ f) i (inl h) =
     written-elsewhere (set l at b) (suc at) f i (inl (omega arith)) ∙ getD-set-other l at i b 0 (λ e. omega arith)
 written-elsewhere l at (b ∷ f) i (inr h) =
     written-elsewhere (set l at b) (suc at) f i (inr (omega arith)) ∙ getD-set-other l at i b 0 (λ e. omega arith)
-
--- a bit of the field is the field's
-pub written-inside : (l : List ℕ) (at : ℕ) (f : List ℕ) (i : ℕ) → at + length f ≤ length l → i < length f → getD (written l at f) (at + i) 0 ≡ getD f i 0
-unfolding written
-written-inside l at [] i h k = absurd (omega arith)
-written-inside l at (b ∷ f) zero h k =
-    ap (λ (n : ℕ). getD (written (set l at b) (suc at) f) n 0) (add-zero at) ∙ written-elsewhere (set l at b) (suc at) f at (inl (omega arith))
-    ∙ getD-set-same l at b 0 (omega arith)
-written-inside l at (b ∷ f) (suc i) h k =
-    ap (λ (n : ℕ). getD (written (set l at b) (suc at) f) n 0) (omega arith)
-    ∙ written-inside (set l at b) (suc at) f i (rw length-set (omega arith)) (omega arith)
 
 -- a bit set before a field, or after the field was written
 pub set-before : (l : List ℕ) (i b at : ℕ) (f : List ℕ) → i < at → written (set l i b) at f ≡ set (written l at f) i b

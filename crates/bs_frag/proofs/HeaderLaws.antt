@@ -7,10 +7,10 @@ use lib.ListN.{length}
 use Rattle.mac_pdus.specs.declared.Address.{Address}
 use Rattle.mac_pdus.specs.Headers.{ifZero, addressType, addressLength, resourceBits, optLength, optChanAllocLength, headerLength}
 use Rattle.mac_pdus.specs.Within.{ResourceWithin}
-use Rattle.mac_pdus.specs.Legal.{legalLone, legalQueued, withLength, onAir, loneTakes}
+use Rattle.mac_pdus.specs.Legal.{legalToWrite, legalQueued, withLength, onAir, writerTakes}
 use Rattle.mac_pdus.proofs.LengthLaws.{header-size}
-use Rattle.mac_pdus.proofs.LegalLaws.{legal-within, lone, taken-on-air}
-use Rattle.mac_pdus.proofs.QueuedLaws.{queued-lone, queued-header-length}
+use Rattle.mac_pdus.proofs.LegalLaws.{legal-within, to-write, taken-on-air}
+use Rattle.mac_pdus.proofs.QueuedLaws.{queued-to-write, queued-header-length}
 use Rattle.dl_record.specs.declared.Record.{Record}
 use Rattle.dl_record.specs.Record.{resourceOf}
 use Rattle.bs_frag.specs.NextPdu.{headerOf, headerSize}
@@ -32,19 +32,19 @@ header-bounds r h = queued-header-length (resourceOf r 0 0) h
 
 -- ---- legal
 
-header-lone : (r : Record) (f l : ℕ) → legalQueued (resourceOf r 0 0) ≡ true → f < 2 → 0 < l → l < 64 → legalLone (resourceOf r f l) ≡ true
+header-to-write : (r : Record) (f l : ℕ) → legalQueued (resourceOf r 0 0) ≡ true → f < 2 → 0 < l → l < 64 → legalToWrite (resourceOf r f l) ≡ true
 unfolding withLength
-header-lone r f l h hf h0 hl = queued-lone (resourceOf r 0 0) f l h hf h0 hl
+header-to-write r f l h hf h0 hl = queued-to-write (resourceOf r 0 0) f l h hf h0 hl
 
 -- it can be written
 pub header-within : (r : Record) (f l : ℕ) → legalQueued (resourceOf r 0 0) ≡ true → f < 2 → 0 < l → l < 64 → ResourceWithin (headerOf r f l)
 unfolding headerOf
-header-within r f l h hf h0 hl = legal-within (resourceOf r f l) (lone (resourceOf r f l) (header-lone r f l h hf h0 hl) .fields)
+header-within r f l h hf h0 hl = legal-within (resourceOf r f l) (to-write (resourceOf r f l) (header-to-write r f l h hf h0 hl) .fields)
 
 -- the reader takes it
-pub header-taken : (r : Record) (f l : ℕ) → legalQueued (resourceOf r 0 0) ≡ true → f < 2 → 0 < l → l < 64 → loneTakes (headerOf r f l) ≡ true
+pub header-taken : (r : Record) (f l : ℕ) → legalQueued (resourceOf r 0 0) ≡ true → f < 2 → 0 < l → l < 64 → writerTakes (headerOf r f l) ≡ true
 unfolding headerOf
-header-taken r f l h hf h0 hl = taken-on-air (resourceOf r f l) (header-lone r f l h hf h0 hl)
+header-taken r f l h hf h0 hl = taken-on-air (resourceOf r f l) (header-to-write r f l h hf h0 hl)
 
 -- a header that is longer than a null's has an address
 longer-typed : (a : Address) (n : ℕ) → 43 ≤ 13 + addressLength a + ifZero (addressType a) 0 n → 0 < addressType a
@@ -62,5 +62,6 @@ pub header-address : (r : Record) (f l : ℕ) → legalQueued (resourceOf r 0 0)
 unfolding headerLength
 header-address r f l h =
     let x = headerOf r f l in
-    longer-typed (x .address) (optLength 4 (x .«power_control_element») + optLength 8 (x .«slot_granting_element») + optChanAllocLength (x .«chan_alloc_element»))
+    longer-typed (x .address) (optLength 4 (x .«power_control_element») + optLength 8 (x .«slot_granting_element») + optChanAllocLength
+    (x .«chan_alloc_element»))
     (omega (arith, header-bounds r h, header-same r f l))

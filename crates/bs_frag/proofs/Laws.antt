@@ -1,6 +1,6 @@
 -- A record's turn: what it comes to in each case, and the bits written for it. Assumes nothing.
 use mathlib.Core.Path.{_≡_, refl, sym, ap, _∙_, subst}
-use mathlib.Core.Bool.{Bool, true, false, _||_}
+use mathlib.Core.Bool.{true, false, or-true}
 use mathlib.Core.Logic.{_⊎_, inl, inr}
 use mathlib.Core.List.{List, [], _∷_, _++_, append-nil}
 use Prim.Native.Nat.{ℕ, zero, suc, _+_, _-_, _*_, _/_, _≤_, _<_, min}
@@ -19,9 +19,10 @@ use Rattle.mac_pdus.specs.Headers.{resourceBits, fragBits, endBits, headerBits}
 use Rattle.mac_reader.specs.PduList.{Pdu, header, body, pduBits, blockBits}
 use Rattle.dl_record.specs.declared.Record.{Record}
 use Rattle.dl_record.specs.Kind.{isStarted}
-use Rattle.bs_frag.specs.NextPdu.{fillFlag, headerOf, headerSize, wholePdu, firstPdu, fragPdu, endPdu, endOctets, Next, beginWith, begin, continue, next, sduAt, Chunked}
-use Rattle.bs_frag.specs.declared.Outcome.{Outcome}
-use Rattle.bs_frag.specs.declared.Outcome.the-variants.{Finished, Waiting, Started}
+use Rattle.bs_frag.specs.NextPdu.{fillFlag, headerOf, headerSize, wholePdu, firstPdu, fragPdu, endPdu, endOctets, Next, beginWith, begin, continue, next}
+use Rattle.bs_frag.specs.NextPdu.{sduAt, Chunked}
+use Rattle.bs_frag.specs.declared.ChunkOutcome.{ChunkOutcome}
+use Rattle.bs_frag.specs.declared.ChunkOutcome.the-variants.{Finished, Waiting, Started}
 
 -- ---- the fill bit
 
@@ -41,7 +42,8 @@ flag-lt (suc n) = omega arith
 
 -- ---- the SDU in its cell
 
-part-inner : (l : List ℕ) (at from k : ℕ) (tail : List ℕ) → at + from + k ≤ length l → part (part l at from ++ (part l (at + from) k ++ tail)) from k ≡ part l (at + from) k
+part-inner : (l : List ℕ) (at from k : ℕ) (tail : List ℕ) → at + from + k ≤ length l
+    → part (part l at from ++ (part l (at + from) k ++ tail)) from k ≡ part l (at + from) k
 unfolding part
 part-inner l at from k tail h =
     ap (take k) (drop-at (part l at from) _ from (length-part l at from (omega arith)))
@@ -71,22 +73,26 @@ whole-sdu store cell n = refl
 
 -- ---- bits written
 
-pub wrote-part : {l m : List ℕ} (at : ℕ) (src : List ℕ) (from n : ℕ) → from + n ≤ length src → m ≡ written l at (part src from n) → Wrote l at m (at + n) (part src from n)
+pub wrote-part : {l m : List ℕ} (at : ℕ) (src : List ℕ) (from n : ℕ) → from + n ≤ length src → m ≡ written l at (part src from n)
+    → Wrote l at m (at + n) (part src from n)
 wrote-part at src from n h e = record { ends = ap (λ (k : ℕ). at + k) (sym (length-part src from n h)); bits = e }
 
 pub wrote-as : {l m : List ℕ} {at e : ℕ} {f g : List ℕ} → f ≡ g → Wrote l at m e f → Wrote l at m e g
 wrote-as {l} {m} {at} {e} h w = subst (λ (x : List ℕ). Wrote l at m e x) h w
 
-pub whole-bits : (r : Record) (h : ResourceHeader) (f : ℕ) (s s′ : List ℕ) (fill : ℕ) → h ≡ headerOf r f ((headerSize r + r .bits + fill) / 8) → f ≡ fillFlag fill → s ≡ s′
+pub whole-bits : (r : Record) (h : ResourceHeader) (f : ℕ) (s s′ : List ℕ) (fill : ℕ) → h ≡ headerOf r f ((headerSize r + r .bits + fill) / 8)
+    → f ≡ fillFlag fill → s ≡ s′
     → resourceBits h ++ (s ++ fillBits fill) ≡ pduBits (wholePdu r s′ fill)
 unfolding pduBits header body headerBits
 whole-bits r h f s s′ fill e i j = rw (e, i, j)
 
-pub first-bits : (r : Record) (h : ResourceHeader) (s s′ : List ℕ) → h ≡ headerOf r 0 63 → s ≡ s′ → resourceBits h ++ (s ++ fillBits 0) ≡ pduBits (firstPdu r s′)
+pub first-bits : (r : Record) (h : ResourceHeader) (s s′ : List ℕ) → h ≡ headerOf r 0 63 → s ≡ s′
+    → resourceBits h ++ (s ++ fillBits 0) ≡ pduBits (firstPdu r s′)
 unfolding pduBits header body headerBits fillBits
 first-bits r h s s′ e j = ap (_++_ (resourceBits h)) (append-nil s) ∙ rw (e, j)
 
-pub frag-bits : (s s′ : List ℕ) (fill fill′ : ℕ) → s ≡ s′ → fill ≡ fill′ → fragBits (record { «fill_bits» = fillFlag fill }) ++ (s ++ fillBits fill) ≡ pduBits (fragPdu s′ fill′)
+pub frag-bits : (s s′ : List ℕ) (fill fill′ : ℕ) → s ≡ s′ → fill ≡ fill′
+    → fragBits (record { «fill_bits» = fillFlag fill }) ++ (s ++ fillBits fill) ≡ pduBits (fragPdu s′ fill′)
 unfolding pduBits header body headerBits
 frag-bits s s′ fill fill′ i j = rw (i, j)
 
@@ -95,7 +101,7 @@ pub end-bits : (octets : ℕ) (s s′ : List ℕ) (fill : ℕ) → s ≡ s′
 unfolding pduBits header body headerBits
 end-bits octets s s′ fill i = rw i
 
-pub chunk-one : {l m : List ℕ} {at w e room : ℕ} {o : Outcome} {p : Pdu} {x : Next} {f : List ℕ}
+pub chunk-one : {l m : List ℕ} {at w e room : ℕ} {o : ChunkOutcome} {p : Pdu} {x : Next} {f : List ℕ}
     → x ≡ record { pdus = p ∷ []; room = room; outcome = o } → f ≡ pduBits p → Wrote l at m e f → e + room ≡ w
     → Chunked l at w m (record { next = e; outcome = o }) x
 unfolding blockBits
@@ -103,7 +109,7 @@ chunk-one {l} {m} {at} {w} {e} {room} {o} {p} {x} d g h k =
     subst (λ (y : Next). Chunked l at w m (record { next = e; outcome = o }) y) (sym d)
     (record { wrote = wrote-as (g ∙ sym (append-nil (pduBits p))) h; left = k; outcome = refl })
 
-pub chunk-none : {l : List ℕ} {at w room : ℕ} {o : Outcome} {x : Next}
+pub chunk-none : {l : List ℕ} {at w room : ℕ} {o : ChunkOutcome} {x : Next}
     → x ≡ record { pdus = []; room = room; outcome = o } → at + room ≡ w → Chunked l at w l (record { next = at; outcome = o }) x
 unfolding blockBits written
 chunk-none {l} {at} {w} {room} {o} {x} d k =
@@ -111,10 +117,6 @@ chunk-none {l} {at} {w} {room} {o} {x} d k =
     (record { wrote = record { ends = sym (add-zero at); bits = refl }; left = k; outcome = refl })
 
 -- ---- what a turn comes to
-
-or-true : (b : Bool) → (b || true) ≡ true
-or-true true = refl
-or-true false = refl
 
 module _ (room : ℕ) (r : Record) (sdu : List ℕ) (h : ℕ) (e : h ≡ headerSize r) where
   pub begin-whole : (fill : ℕ) → fill ≡ fillWanted room (h + r .bits) → h + r .bits ≤ room
@@ -135,7 +137,12 @@ module _ (room : ℕ) (r : Record) (sdu : List ℕ) (h : ℕ) (e : h ≡ headerS
 module _ (room : ℕ) (r : Record) (sdu : List ℕ) (rest : ℕ) (e : rest ≡ r .bits - r .sent) where
   pub continue-ends : endOctets rest * 8 ≤ room
       → continue room r sdu
-      ≡ record { pdus = endPdu (endOctets rest) (part sdu (r .sent) rest) (endOctets rest * 8 - (13 + rest)) ∷ []; room = room - endOctets rest * 8; outcome = Finished }
+      ≡ record {
+        pdus = endPdu (endOctets rest) (part sdu (r .sent) rest)
+            (endOctets rest * 8 - (13 + rest)) ∷ [];
+        room = room - endOctets rest * 8;
+        outcome = Finished;
+      }
   unfolding continue
   continue-ends k = rw (← e, le-leb (endOctets rest * 8) room k)
 

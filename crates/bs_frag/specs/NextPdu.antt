@@ -15,8 +15,8 @@ use Rattle.mac_reader.specs.PduList.{Pdu, whole, first, frag, final, blockBits}
 use Rattle.dl_record.specs.declared.Record.{Record}
 use Rattle.dl_record.specs.Kind.{isStarted}
 use Rattle.dl_record.specs.Record.{resourceOf}
-use Rattle.bs_frag.specs.declared.Outcome.{Outcome}
-use Rattle.bs_frag.specs.declared.Outcome.the-variants.{Finished, Waiting, Started}
+use Rattle.bs_frag.specs.declared.ChunkOutcome.{ChunkOutcome}
+use Rattle.bs_frag.specs.declared.ChunkOutcome.the-variants.{Finished, Waiting, Started}
 use Rattle.bs_frag.specs.declared.Chunk.{Chunk}
 
 -- ---- the four PDUs
@@ -60,7 +60,7 @@ endOctets n = (13 + n + 7) / 8
 pub record Next : Type 0 where
   pub pdus : List Pdu
   pub room : ℕ
-  pub outcome : Outcome
+  pub outcome : ChunkOutcome
 
 -- The first PDU: whole, "filled .. to the octet, or to the block's end if that is nearer"; nothing, "a record that does not fit, with fewer than 32 bits
 -- left or fewer than its header"; or the first fragment, which fills the block.

@@ -14,7 +14,7 @@ use mac_pdus::MacFragDl;
 use mac_pdus::ResourceHeader;
 
 // What becomes of a record after its turn: finished, waiting, or started with so many SDU bits sent.
-pub enum Outcome {
+pub enum ChunkOutcome {
     Finished,
     Waiting,
     Started(u16),
@@ -23,7 +23,7 @@ pub enum Outcome {
 // Where the bits written end, and what becomes of the record.
 pub struct Chunk {
     pub next: usize,
-    pub outcome: Outcome,
+    pub outcome: ChunkOutcome,
 }
 
 // The fill bit of a PDU with `n` fill bits.
@@ -53,7 +53,8 @@ pub fn header_size(r: Record) -> usize
 fn put_body(block: &mut [u8], at: usize, store: &[u8], from: usize, n: usize, fill: usize) -> usize
     requires { ⌜ (at + n + fill ≤ 8 * length (now block)) × (8 * length (now block) < 2 ^ 64) ⌝ }
     requires { ⌜ (from + n ≤ 8 * length (now store)) × (8 * length (now store) < 2 ^ 64) ⌝ }
-    ensures { λ r. ⌜ (r ≡ at + n + fill) × Wrote (bitsOf (now (block .entry))) at (bitsOf (now (block .exit))) r (part (bitsOf (now (store .entry))) from n ++ fillBits fill) ⌝ }
+    ensures { λ r. ⌜ (r ≡ at + n + fill)
+        × Wrote (bitsOf (now (block .entry))) at (bitsOf (now (block .exit))) r (part (bitsOf (now (store .entry))) from n ++ fillBits fill) ⌝ }
 {
     bitbuffer::copy_bits(block, at, store, from, n);
     fillbits::write(block, at + n, fill)
@@ -71,9 +72,11 @@ pub fn put_resource(
 ) -> usize
     requires { ⌜ (at + length (resourceBits h) + n + fill ≤ 8 * length (now block)) × (8 * length (now block) < 2 ^ 64) ⌝ }
     requires { ⌜ (from + n ≤ 8 * length (now store)) × (8 * length (now store) < 2 ^ 64) × ResourceWithin h ⌝ }
-    ensures { λ r. ⌜ (r ≡ at + length (resourceBits h) + n + fill) × Wrote (bitsOf (now (block .entry))) at (bitsOf (now (block .exit))) r (resourceBits h ++ (part (bitsOf (now (store .entry))) from n ++ fillBits fill)) ⌝ }
+    ensures { λ r. ⌜ (r ≡ at + length (resourceBits h) + n + fill)
+        × Wrote (bitsOf (now (block .entry))) at (bitsOf (now (block .exit))) r
+        (resourceBits h ++ (part (bitsOf (now (store .entry))) from n ++ fillBits fill)) ⌝ }
 {
-    let a = resource_writer::put_resource(block, at, h);
+    let a = mac_resource_writer::put_resource(block, at, h);
     put_body(block, a, store, from, n, fill)
 }
 
@@ -88,7 +91,9 @@ pub fn put_frag(
 ) -> usize
     requires { ⌜ (at + 4 + n + fill ≤ 8 * length (now block)) × (8 * length (now block) < 2 ^ 64) ⌝ }
     requires { ⌜ (from + n ≤ 8 * length (now store)) × (8 * length (now store) < 2 ^ 64) ⌝ }
-    ensures { λ r. ⌜ (r ≡ at + 4 + n + fill) × Wrote (bitsOf (now (block .entry))) at (bitsOf (now (block .exit))) r (fragBits (record { «fill_bits» = fillFlag fill }) ++ (part (bitsOf (now (store .entry))) from n ++ fillBits fill)) ⌝ }
+    ensures { λ r. ⌜ (r ≡ at + 4 + n + fill)
+        × Wrote (bitsOf (now (block .entry))) at (bitsOf (now (block .exit))) r
+        (fragBits (record { «fill_bits» = fillFlag fill }) ++ (part (bitsOf (now (store .entry))) from n ++ fillBits fill)) ⌝ }
 {
     let f = MacFragDl {
         fill_bits: fill_flag(fill),
@@ -109,7 +114,10 @@ pub fn put_end(
 ) -> usize
     requires { ⌜ (at + 13 + n + fill ≤ 8 * length (now block)) × (8 * length (now block) < 2 ^ 64) × (octets < 2 ^ 6) ⌝ }
     requires { ⌜ (from + n ≤ 8 * length (now store)) × (8 * length (now store) < 2 ^ 64) ⌝ }
-    ensures { λ r. ⌜ (r ≡ at + 13 + n + fill) × Wrote (bitsOf (now (block .entry))) at (bitsOf (now (block .exit))) r (endBits (record { «fill_bits» = fillFlag fill; «pos_of_grant» = 0; «length_ind» = octets }) ++ (part (bitsOf (now (store .entry))) from n ++ fillBits fill)) ⌝ }
+    ensures { λ r. ⌜ (r ≡ at + 13 + n + fill)
+        × Wrote (bitsOf (now (block .entry))) at (bitsOf (now (block .exit))) r
+        (endBits (record { «fill_bits» = fillFlag fill; «pos_of_grant» = 0; «length_ind» = octets })
+        ++ (part (bitsOf (now (store .entry))) from n ++ fillBits fill)) ⌝ }
 {
     let e = MacEndDl {
         fill_bits: fill_flag(fill),

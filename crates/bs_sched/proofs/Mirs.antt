@@ -3,7 +3,7 @@
 use mir.Syntax.{Ty}
 use denote.Slice.{sliceTy}
 use Rattle.bs_sched.proofs.BuildAnswer.Laws as BuildAnswer-laws
-use Rattle.bs_sched.proofs.Verdict.Laws as Verdict-laws
+use Rattle.bs_sched.proofs.Passage.Laws as Passage-laws
 use Rattle.questions.proofs.Refusal.Laws as questions-Refusal-laws
 use Rattle.optional.proofs.OptU8.Laws as optional-OptU8-laws
 use Rattle.optional.proofs.OptU16.Laws as optional-OptU16-laws
@@ -42,7 +42,7 @@ use Rattle.dl_record.proofs.Kind.Laws as dl_record-Kind-laws
 use Rattle.dl_record.proofs.QueuedHeader.Laws as dl_record-QueuedHeader-laws
 use Rattle.dl_record.proofs.Record.Laws as dl_record-Record-laws
 use Rattle.dl_merge.proofs.Merged.Laws as dl_merge-Merged-laws
-use Rattle.bs_frag.proofs.Outcome.Laws as bs_frag-Outcome-laws
+use Rattle.bs_frag.proofs.ChunkOutcome.Laws as bs_frag-ChunkOutcome-laws
 use Rattle.bs_frag.proofs.Chunk.Laws as bs_frag-Chunk-laws
 use Rattle.dl_send.proofs.Progress.Laws as dl_send-Progress-laws
 use Rattle.sched_core.proofs.Station.Laws as sched_core-Station-laws
@@ -53,8 +53,8 @@ use Rattle.sched_core.proofs.OwnerReply.Laws as sched_core-OwnerReply-laws
 use Rattle.sched_core.proofs.UsageReply.Laws as sched_core-UsageReply-laws
 use Rattle.sched_core.proofs.Answer.Laws as sched_core-Answer-laws
 use Rattle.sched_core.proofs.RequestAnswer.Laws as sched_core-RequestAnswer-laws
-use Rattle.request_core.proofs.RequestPlan.Laws as request_core-RequestPlan-laws
-use Rattle.enqueue_core.proofs.QueuePlan.Laws as enqueue_core-QueuePlan-laws
+use Rattle.sched_request.proofs.RequestPlan.Laws as sched_request-RequestPlan-laws
+use Rattle.sched_enqueue.proofs.QueuePlan.Laws as sched_enqueue-QueuePlan-laws
 
 abbrev pub slice : Ty → Ty
 slice = sliceTy
@@ -62,8 +62,8 @@ slice = sliceTy
 abbrev pub BuildAnswer : Ty
 BuildAnswer = BuildAnswer-laws.mir
 
-abbrev pub Verdict : Ty
-Verdict = Verdict-laws.mir
+abbrev pub Passage : Ty
+Passage = Passage-laws.mir
 
 abbrev pub questions-Refusal : Ty
 questions-Refusal = questions-Refusal-laws.mir
@@ -179,8 +179,8 @@ dl_record-Record = dl_record-Record-laws.mir
 abbrev pub dl_merge-Merged : Ty
 dl_merge-Merged = dl_merge-Merged-laws.mir
 
-abbrev pub bs_frag-Outcome : Ty
-bs_frag-Outcome = bs_frag-Outcome-laws.mir
+abbrev pub bs_frag-ChunkOutcome : Ty
+bs_frag-ChunkOutcome = bs_frag-ChunkOutcome-laws.mir
 
 abbrev pub bs_frag-Chunk : Ty
 bs_frag-Chunk = bs_frag-Chunk-laws.mir
@@ -212,8 +212,8 @@ sched_core-Answer = sched_core-Answer-laws.mir
 abbrev pub sched_core-RequestAnswer : Ty
 sched_core-RequestAnswer = sched_core-RequestAnswer-laws.mir
 
-abbrev pub request_core-RequestPlan : Ty
-request_core-RequestPlan = request_core-RequestPlan-laws.mir
+abbrev pub sched_request-RequestPlan : Ty
+sched_request-RequestPlan = sched_request-RequestPlan-laws.mir
 
-abbrev pub enqueue_core-QueuePlan : Ty
-enqueue_core-QueuePlan = enqueue_core-QueuePlan-laws.mir
+abbrev pub sched_enqueue-QueuePlan : Ty
+sched_enqueue-QueuePlan = sched_enqueue-QueuePlan-laws.mir

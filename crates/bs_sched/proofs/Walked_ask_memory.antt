@@ -1,8 +1,8 @@
 -- Derived by `python3 tools/derive.py`: run it again, do not edit.
 -- `bs_sched::ask_memory`: the kinds of its parameters, and its contract as its callers read it.
+use Rattle.bs_sched.proofs.Passage
+use Rattle.bs_sched.proofs.Passage.Laws as Laws'
 use Rattle.bs_sched.proofs.Rows_Record as in-Record
-use Rattle.bs_sched.proofs.Verdict
-use Rattle.bs_sched.proofs.Verdict.Laws as Laws'
 use Rattle.bs_sched.proofs.ask_memory
 use Rattle.sched_core.proofs.Station
 use Rattle.sched_core.proofs.Station.Laws
@@ -56,24 +56,24 @@ kinds = (Value.pVal record {
 
 abbrev pub result : Kinds.RK 2
 result = Value.rVal record {
-  ty = Declared.row Verdict.the-type;
+  ty = Declared.row Passage.the-type;
   one = Path'.refl;
-  val = Laws''.val Verdict.the-type Laws'.the-laws;
+  val = Laws''.val Passage.the-type Laws'.the-laws;
   tells =
-      Laws''.tells Verdict.the-type Laws'.the-laws;
-  still = Laws''.still Verdict.the-type Laws'.the-copy Exit.yes;
+      Laws''.tells Passage.the-type Laws'.the-laws;
+  still = Laws''.still Passage.the-type Laws'.the-copy Exit.yes;
   row = Rows.whole (Declared.row
-      Verdict.the-type);
+      Passage.the-type);
   rd = λ x. x;
   mk = λ x. x;
 } λ M 𝓤 H A W. record {
-  copies = Laws''.copy Verdict.the-type Laws'.the-copy 𝓤 H A W;
+  copies = Laws''.copy Passage.the-type Laws'.the-copy 𝓤 H A W;
   lawful =
-      Laws''.lawful Verdict.the-type Laws'.the-laws 𝓤 H A W tt;
-  makes = Laws''.makes Verdict.the-type Laws'.the-plain 𝓤 H A;
+      Laws''.lawful Passage.the-type Laws'.the-laws 𝓤 H A W tt;
+  makes = Laws''.makes Passage.the-type Laws'.the-plain 𝓤 H A;
   in-mem = Local.mem-whole 𝓤
-      H A W (Declared.row Verdict.the-type);
-  of-mem = Local.whole-mem 𝓤 H A W (Declared.row Verdict.the-type);
+      H A W (Declared.row Passage.the-type);
+  of-mem = Local.whole-mem 𝓤 H A W (Declared.row Passage.the-type);
 }
 
 abbrev pub Ghost : Type 0

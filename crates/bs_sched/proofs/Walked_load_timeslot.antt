@@ -20,7 +20,7 @@ use mathlib.Core.Path as Path'
 use mir.Syntax
 
 abbrev pub kinds : List.List (Kinds.PK 1)
-kinds = (ShrSlice.pShrS in-Record.row 0 tt) ∷ (Kinds.pNum Syntax.w64) ∷ []
+kinds = (ShrSlice.pShrS in-Record.row 0 tt) ∷ (Kinds.pNum Syntax.w64) ∷ (Kinds.pNum Syntax.w64) ∷ []
 
 abbrev pub result : Kinds.RK 1
 result = Array.rArr in-Record.element in-Record.element-laws 16
@@ -52,20 +52,31 @@ module _ (κs : Lifetimes.Lfts 1) where
   ensures = λ a g r s w. load_timeslot.clauses (w .𝓤) (w .H) (w .𝓖 .A) (w .𝓜 .mem) (w .𝓡 .run) κs a .ensures g r s
 
   abbrev pub requires-1·read : (a : World.ArgsD load_timeslot.signature κs) → (g : Ghost) → Read.Read (World.In load_timeslot.signature κs a)
-      Read.no-know λ w. load_timeslot.requires-1 (w .𝓤) (w .H) κs (w .𝓖 .A) (w .𝓜 .mem) (w .𝓡 .run) (a .0) (a .1 .0)
-  requires-1·read = λ a g. Read.all-models (λ w. load_timeslot.requires-1 (w .𝓤) (w .H) κs (w .𝓖 .A) (w .𝓜 .mem) (w .𝓡 .run) (a .0) (a .1 .0)) (λ w.
-      Read.r-last _) (λ w. Path'.refl) (λ w. Path'.refl) λ w. Path'.refl
+      Read.no-know λ w. load_timeslot.requires-1 (w .𝓤) (w .H) κs (w .𝓖 .A) (w .𝓜 .mem) (w .𝓡 .run) (a .0) (a .1 .0) (a .1 .1 .0)
+  requires-1·read = λ a g. Read.all-models (λ w. load_timeslot.requires-1 (w .𝓤) (w .H) κs (w .𝓖 .A) (w .𝓜 .mem) (w .𝓡 .run) (a .0) (a .1 .0) (a .1 .1
+      .0)) (λ w. Read.r-last _) (λ w. Path'.refl) (λ w. Path'.refl) λ w. Path'.refl
+
+  abbrev pub requires-2·read : (a : World.ArgsD load_timeslot.signature κs) → (g : Ghost) → Read.Read (World.In load_timeslot.signature κs a)
+      Read.no-know λ w. load_timeslot.requires-2 (w .𝓤) (w .H) κs (w .𝓖 .A) (w .𝓜 .mem) (w .𝓡 .run) (a .0) (a .1 .0) (a .1 .1 .0)
+  requires-2·read = λ a g. Read.all-models (λ w. load_timeslot.requires-2 (w .𝓤) (w .H) κs (w .𝓖 .A) (w .𝓜 .mem) (w .𝓡 .run) (a .0) (a .1 .0) (a .1 .1
+      .0)) (λ w. Read.r-last _) (λ w. Path'.refl) (λ w. Path'.refl) λ w. Path'.refl
 
   abbrev pub pre-read : (a : World.ArgsD load_timeslot.signature κs) → (g : Ghost) → Read.Read (World.In load_timeslot.signature κs a) Read.no-know
       (requires a g)
-  pre-read = λ a g. requires-1·read a g
+  pre-read = λ a g. Read.read-join (λ w. load_timeslot.requires-1 (w .𝓤) (w .H) κs (w .𝓖 .A) (w .𝓜 .mem) (w .𝓡 .run) (a .0) (a .1 .0) (a .1 .1 .0)) (λ
+      w. load_timeslot.requires-2 (w .𝓤) (w .H) κs (w .𝓖 .A) (w .𝓜 .mem) (w .𝓡 .run) (a .0) (a .1 .0) (a .1 .1 .0)) (requires-1·read a g)
+      (requires-2·read a g)
 
   abbrev pub ensures-1·read : (a : World.ArgsD load_timeslot.signature κs) → (g : Ghost) → (r : World.ResD load_timeslot.signature κs) → (s :
       Clauses.AtExit (Kinds.endedOf 1 kinds result) κs) → Read.Read (Base a) (Owned r s) λ w. load_timeslot.ensures-1 (w .𝓤) (w .H) κs (w .𝓖 .A) (w .𝓜
-      .mem) (w .𝓡 .run) (a .0) (a .1 .0) record { entry = a .0; exit = s .0 } record { entry = a .1 .0; exit = s .1 .0 } r
-  ensures-1·read = λ a g r s. Read.all-models (λ w. load_timeslot.ensures-1 (w .𝓤) (w .H) κs (w .𝓖 .A) (w .𝓜 .mem) (w .𝓡 .run) (a .0) (a .1 .0) record
-      { entry = a .0; exit = s .0 } record { entry = a .1 .0; exit = s .1 .0 } r) (λ w. Read.r-last _) (λ w. Path'.refl) (λ w. Path'.refl) λ w.
-      Path'.refl
+      .mem) (w .𝓡 .run) (a .0) (a .1 .0) (a .1 .1 .0) record { entry = a .0; exit = s .0 } record { entry = a .1 .0; exit = s .1 .0 } record {
+        entry =
+            a .1 .1 .0;
+        exit = s .1 .1 .0;
+      } r
+  ensures-1·read = λ a g r s. Read.all-models (λ w. load_timeslot.ensures-1 (w .𝓤) (w .H) κs (w .𝓖 .A) (w .𝓜 .mem) (w .𝓡 .run) (a .0) (a .1 .0) (a .1
+      .1 .0) record { entry = a .0; exit = s .0 } record { entry = a .1 .0; exit = s .1 .0 } record { entry = a .1 .1 .0; exit = s .1 .1 .0 } r) (λ w.
+      Read.r-last _) (λ w. Path'.refl) (λ w. Path'.refl) λ w. Path'.refl
 
   abbrev pub post-read : (a : World.ArgsD load_timeslot.signature κs) → (g : Ghost) → (r : World.ResD load_timeslot.signature κs) → (s :
       Clauses.AtExit (Kinds.endedOf 1 kinds result) κs) → Read.Read (Base a) (Owned r s) (ensures a g r s)

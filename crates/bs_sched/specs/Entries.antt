@@ -4,7 +4,7 @@ use Prim.Native.Nat.{ℕ}
 use lib.ListN.{length}
 use Rattle.sizes.specs.Sizes.{perTimeslot}
 use Rattle.dl_record.specs.declared.Record.{Record}
-use Rattle.dl_send.specs.Progress.{tagRow}
+use Rattle.dl_send.specs.Arrays.{tagRow}
 use Rattle.sched_core.specs.declared.Station.{Station}
 use Rattle.sched_core.specs.declared.BuildReply.{BuildReply}
 use Rattle.sched_core.specs.Calls.{BuildOutcome}

@@ -17,8 +17,8 @@ use uplink::PhyBlockNum;
 ghost use mathlib.Core.Path.{_≡_};
 ghost use mathlib.Core.Bool.{true, false};
 ghost use mathlib.Core.List.{[], _∷_};
-ghost use Prim.Native.Nat.{_+_, _≤_};
-ghost use lib.ListN.{length, set, take, drop};
+ghost use Prim.Native.Nat.{ℕ, _+_, _<_, _≤_};
+ghost use lib.ListN.{length, getD, set, take, drop};
 ghost use lib.Seq.{paste};
 ghost use Rattle.sizes.specs.Sizes.{perTimeslot};
 ghost use Rattle.dl_record.specs.Record.{emptyRecord};
@@ -29,7 +29,7 @@ ghost use Rattle.sched_core.specs.declared.BuildReply.{BuildReply};
 ghost use Rattle.sched_core.specs.Station.{withQueued};
 ghost use Rattle.sched_core.specs.Questions.{memory, soundStation, memoryQuestions};
 ghost use Rattle.sched_core.specs.Calls.{outcome, current, newCall, advanceCall, ownerCall, usageCall, requestCall, ackCall, tmaCall, buildCall};
-ghost use Rattle.bs_sched.specs.declared.Verdict.{Verdict};
+ghost use Rattle.bs_sched.specs.declared.Passage.{Passage};
 ghost use Rattle.bs_sched.specs.Entries.{buildAnswerOf, buildLeft, leftBy};
 
 // What a build answers: the reply, the tags of the records that are finished, and the station after the call.
@@ -41,7 +41,7 @@ pub struct BuildAnswer {
 }
 
 // What questions 1 and 2 were answered: yes, or a no with its refusal.
-pub enum Verdict {
+pub enum Passage {
     Passed,
     No(Refusal),
 }
@@ -76,27 +76,27 @@ fn unfilled_is_sound(r: Record, cell: &[u8]) -> bool
 
 // Questions 1 and 2 over the station and the caller's queue and store. `lent` says whether what else is lent has its length. A
 // timeslot's filled places come first, so each kind of place has a loop of its own.
-fn ask_memory(s: Station, queue: &[Record], store: &[u8], lent: bool) -> Verdict
+fn ask_memory(s: Station, queue: &[Record], store: &[u8], lent: bool) -> Passage
     ensures { λ r. ⌜ r ≡ ask (memoryQuestions (memory s (now (queue .entry)) (now (store .entry))) (question lent Refusal.Lengths ∷ []))
-        Verdict.Passed Verdict.No ⌝ }
+        Passage.Passed Passage.No ⌝ }
 {
     if !sched_core::station_is_sound(s) {
-        return Verdict::No(Refusal::Unsound);
+        return Passage::No(Refusal::Unsound);
     }
     if queue.len() != sizes::QUEUE_PLACES {
-        return Verdict::No(Refusal::Lengths);
+        return Passage::No(Refusal::Lengths);
     }
     if store.len() != sizes::STORE_OCTETS {
-        return Verdict::No(Refusal::Lengths);
+        return Passage::No(Refusal::Lengths);
     }
     if !lent {
-        return Verdict::No(Refusal::Lengths);
+        return Passage::No(Refusal::Lengths);
     }
     let counts = s.queued;
     for t in 0..sizes::TIMESLOTS {
         let n = counts[t] as usize;
         if sizes::PER_TIMESLOT < n {
-            return Verdict::No(Refusal::Unsound);
+            return Passage::No(Refusal::Unsound);
         }
         for i in 0..n {
             let p = sizes::PER_TIMESLOT * t + i;
@@ -104,7 +104,7 @@ fn ask_memory(s: Station, queue: &[Record], store: &[u8], lent: bool) -> Verdict
             let from = sizes::CELL_OCTETS * p;
             let to = from + sizes::CELL_OCTETS;
             if !filled_is_sound(r, &store[from..to]) {
-                return Verdict::No(Refusal::Unsound);
+                return Passage::No(Refusal::Unsound);
             }
         }
         for j in n..sizes::PER_TIMESLOT {
@@ -113,22 +113,23 @@ fn ask_memory(s: Station, queue: &[Record], store: &[u8], lent: bool) -> Verdict
             let from = sizes::CELL_OCTETS * p;
             let to = from + sizes::CELL_OCTETS;
             if !unfilled_is_sound(r, &store[from..to]) {
-                return Verdict::No(Refusal::Unsound);
+                return Passage::No(Refusal::Unsound);
             }
         }
     }
-    Verdict::Passed
+    Passage::Passed
 }
 
-// The records of a timeslot, from place `first` on.
-fn load_timeslot(queue: &[Record], first: usize) -> [Record; sizes::PER_TIMESLOT]
-    requires { ⌜ first + perTimeslot ≤ length (now queue) ⌝ }
+// The records of a timeslot, from place `first` on: `n` of them, and behind those empty places.
+fn load_timeslot(queue: &[Record], first: usize, n: usize) -> [Record; sizes::PER_TIMESLOT]
+    requires { ⌜ (first + perTimeslot ≤ length (now queue)) × (n ≤ perTimeslot) ⌝ }
+    requires { ⌜ ((i : ℕ) → n ≤ i → i < perTimeslot → getD (now queue) (first + i) emptyRecord ≡ emptyRecord) ⌝ }
     ensures { λ r. ⌜ r ≡ take perTimeslot (drop first (now (queue .entry))) ⌝ }
 {
     let empty = empty_record();
     let mut records = [empty; sizes::PER_TIMESLOT];
     let mut i = 0;
-    while i < sizes::PER_TIMESLOT {
+    while i < n {
         records[i] = queue[first + i];
         i += 1;
     }
@@ -170,7 +171,7 @@ fn built(plan: Progress, station: Station) -> BuildAnswer
     } ⌝ }
 {
     let tags = plan.tags;
-    let next = build_core::station_left(station, plan.left);
+    let next = sched_build::station_left(station, plan.left);
     BuildAnswer {
         reply: BuildReply::Built,
         tags: tags,
@@ -217,17 +218,17 @@ pub fn ul_process_cap_req(
     kind: u8,
     number: u32,
 ) -> RequestAnswer
-    ensures { λ r. ⌜ outcome (r .reply)
-        (memory (r .station) (now (queue .exit)) (now (store .entry))) ≡ requestCall (memory s (now (queue .entry)) (now (store .entry))) timeslot code kind number ⌝ }
+    ensures { λ r. ⌜ outcome (r .reply) (memory (r .station) (now (queue .exit)) (now (store .entry)))
+        ≡ requestCall (memory s (now (queue .entry)) (now (store .entry))) timeslot code kind number ⌝ }
 {
-    let verdict = ask_memory(s, queue, store, true);
-    if let Verdict::No(refusal) = verdict {
+    let passage = ask_memory(s, queue, store, true);
+    if let Passage::No(refusal) = passage {
         return RequestAnswer {
             reply: RequestReply::Refused(refusal),
             station: s,
         };
     }
-    let done = request_core::request_plan(s, timeslot, code, kind, number);
+    let done = sched_request::request_plan(s, timeslot, code, kind, number);
     let place = done.place;
     let r = done.record;
     put_record(queue, place, r);
@@ -251,14 +252,14 @@ pub fn dl_enqueue_random_access_ack(
     ensures { λ r. ⌜ outcome (r .reply)
         (memory (r .station) (now (queue .exit)) (now (store .entry))) ≡ ackCall (memory s (now (queue .entry)) (now (store .entry))) timeslot kind number ⌝ }
 {
-    let verdict = ask_memory(s, queue, store, true);
-    if let Verdict::No(refusal) = verdict {
+    let passage = ask_memory(s, queue, store, true);
+    if let Passage::No(refusal) = passage {
         return Answer {
             reply: Reply::Refused(refusal),
             station: s,
         };
     }
-    let done = enqueue_core::ack_plan(s, timeslot, kind, number);
+    let done = sched_enqueue::ack_plan(s, timeslot, kind, number);
     let place = done.place;
     let r = done.record;
     put_record(queue, place, r);
@@ -287,14 +288,14 @@ pub fn dl_enqueue_tma(
         (memory (r .station) (now (queue .exit)) (now (store .exit))) ≡ tmaCall (memory s (now (queue .entry)) (now (store .entry)))
         timeslot kind number tag header bits (now (sdu .entry)) ⌝ }
 {
-    let verdict = ask_memory(s, queue, store, true);
-    if let Verdict::No(refusal) = verdict {
+    let passage = ask_memory(s, queue, store, true);
+    if let Passage::No(refusal) = passage {
         return Answer {
             reply: Reply::Refused(refusal),
             station: s,
         };
     }
-    let done = enqueue_core::tma_plan(s, store, timeslot, kind, number, tag, header, bits, sdu);
+    let done = sched_enqueue::tma_plan(s, store, timeslot, kind, number, tag, header, bits, sdu);
     let place = done.place;
     let r = done.record;
     put_record(queue, place, r);
@@ -316,16 +317,17 @@ pub fn dl_build_block(
     ensures { λ r. ⌜ buildLeft r (now (queue .exit)) (now (store .exit)) (now (block .exit))
         ≡ leftBy (buildCall (memory s (now (queue .entry)) (now (store .entry))) (now (block .entry))) ⌝ }
 {
-    let verdict = ask_memory(s, queue, store, block.len() == sizes::BLOCK_OCTETS);
-    if let Verdict::No(refusal) = verdict {
+    let passage = ask_memory(s, queue, store, block.len() == sizes::BLOCK_OCTETS);
+    if let Passage::No(refusal) = passage {
         return not_built(BuildReply::Refused(refusal), s);
     }
-    if !build_core::builds_now(s) {
+    if !sched_build::builds_now(s) {
         return not_built(BuildReply::NoBlock, s);
     }
-    let first = build_core::first_place(s);
-    let records = load_timeslot(queue, first);
-    let plan = build_core::build_sound(s, records, store, block);
+    let first = sched_build::first_place(s);
+    let n = sched_build::queued_now(s);
+    let records = load_timeslot(queue, first, n);
+    let plan = sched_build::build_sound(s, records, store, block);
     let left = plan.records;
     save_timeslot(queue, first, left);
     built(plan, s)

@@ -5,7 +5,7 @@ use mathlib.Core.List.{List, [], _∷_}
 use Prim.Native.Nat.{ℕ, _*_, _≤_, _<_, _+_}
 use native.Mathlib.Omega.{arith}
 use lib.Dec.{eqb}
-use lib.ListN.{length, replicate, set}
+use lib.ListN.{length, replicate, set, take, drop}
 use lib.Seq.{sets, paste}
 use borrow.Author.Tests.{eq-eqb, ne-eqb, eqb-true}
 use Rattle.sizes.specs.Sizes.{timeslots, perTimeslot, queuePlaces}
@@ -17,46 +17,48 @@ use Rattle.questions.specs.declared.Refusal.{Refusal}
 use Rattle.questions.specs.Questions.{question, askedNumber}
 use Rattle.questions.proofs.NumberLaws.{number-yes}
 use Rattle.sched_core.specs.Questions.{memory, memoryQuestions}
-use Rattle.enqueue_core.specs.Plan.{SoundQueue}
-use Rattle.enqueue_core.proofs.PlanLaws.{Told, yes-told}
-use Rattle.sched_words.specs.Words.{sameWords, stationWords, stationRead, stationFrom, noStation, recordWords, queueWords, recordRead, recordsRead, noRecord, queueFrom, recordsFrom}
+use Rattle.sched_enqueue.specs.Plan.{SoundQueue}
+use Rattle.sched_enqueue.proofs.PlanLaws.{Told, yes-told}
+use Rattle.sched_words.specs.Words.{recordWordCount, queueWordCount, sameWords, stationWords, stationRead, stationFrom, noStation, recordWords, queueWords}
+use Rattle.sched_words.specs.Words.{recordRead, recordsRead, noRecord, queueFrom, recordsFrom}
 use Rattle.sched_words.proofs.WordLaws.{length-parts}
-use Rattle.sched_words.proofs.WordsQueue.{sound-read, sound-words, set-words, pasted-words}
+use Rattle.sched_words.proofs.WordsQueue.{sound-read, sound-words, set-words}
+use Rattle.sched_words.proofs.TimeslotWords.{pasted-words}
 
--- ---- a queue of 1,472 words, and of others
+-- ---- a queue of its number of words, and of others
 
-pub queue-whole : (qs : List ℕ) → length qs ≡ 1472 → queueFrom qs ≡ recordsFrom qs
+pub queue-whole : (qs : List ℕ) → length qs ≡ queueWordCount → queueFrom qs ≡ recordsFrom qs
 unfolding recordsFrom
 queue-whole qs h = rw (eq-eqb _ _ h)
 
-no-queue : (qs : List ℕ) → (length qs ≡ 1472 → ⊥) → recordsFrom qs ≡ []
+no-queue : (qs : List ℕ) → (length qs ≡ queueWordCount → ⊥) → recordsFrom qs ≡ []
 unfolding recordsFrom
 no-queue qs h = rw (ne-eqb _ _ h)
 
-pub no-records : (qs : List ℕ) → (length qs ≡ 1472 → ⊥) → length (recordsFrom qs) ≡ 64 → ⊥
+pub no-records : (qs : List ℕ) → (length qs ≡ queueWordCount → ⊥) → length (recordsFrom qs) ≡ queuePlaces → ⊥
 no-records qs h e = let k : length (recordsFrom qs) ≡ 0 = ap length (no-queue qs h) in omega (arith, e, k)
 
-pub sixty-four : (qs : List ℕ) → length qs ≡ 1472 → length (recordsFrom qs) ≡ 64
+pub all-places : (qs : List ℕ) → length qs ≡ queueWordCount → length (recordsFrom qs) ≡ queuePlaces
 unfolding queueFrom
-sixty-four qs h = ap length (sym (queue-whole qs h)) ∙ go (sameWords (queueWords (recordsRead qs)) qs)
+all-places qs h = ap length (sym (queue-whole qs h)) ∙ go (sameWords (queueWords (recordsRead qs)) qs)
   where
-    go : (b : Bool) → length (cond b (recordsRead qs) (replicate 64 noRecord)) ≡ 64
-    go true = length-parts recordRead 23 64 qs
+    go : (b : Bool) → length (cond b (recordsRead qs) (replicate queuePlaces noRecord)) ≡ queuePlaces
+    go true = length-parts recordRead recordWordCount queuePlaces qs
     go false = refl
 
-pub all-words : (qs : List ℕ) → length (recordsFrom qs) ≡ 64 → length qs ≡ 1472
-all-words qs e = go (eqb (length qs) 1472) refl
+pub all-words : (qs : List ℕ) → length (recordsFrom qs) ≡ queuePlaces → length qs ≡ queueWordCount
+all-words qs e = go (eqb (length qs) queueWordCount) refl
   where
-    go : (b : Bool) → eqb (length qs) 1472 ≡ b → length qs ≡ 1472
+    go : (b : Bool) → eqb (length qs) queueWordCount ≡ b → length qs ≡ queueWordCount
     go true h = eqb-true _ _ h
     go false h = absurd (no-records qs (λ k. not-both _ (eq-eqb _ _ k) h) e)
 
 -- the counts of a station
-four-counts : (ws : List ℕ) → length (stationFrom ws .queued) ≡ 4
+pub four-counts : (ws : List ℕ) → length (stationFrom ws .queued) ≡ timeslots
 unfolding stationFrom stationRead
 four-counts ws = go (sameWords (stationWords (stationRead ws)) ws)
   where
-    go : (b : Bool) → length (cond b (stationRead ws) noStation .queued) ≡ 4
+    go : (b : Bool) → length (cond b (stationRead ws) noStation .queued) ≡ timeslots
     go true = refl
     go false = refl
 
@@ -68,29 +70,32 @@ asked-yes s qs st lent n e z =
 
 -- ---- the words of a sound queue
 
-module _ (ws qs st : List ℕ) (s : Station) (es : s ≡ stationFrom ws) (queue : SoundQueue s (recordsFrom qs) st) where
+module _ (ws qs st : List ℕ) (queue : SoundQueue (stationFrom ws) (recordsFrom qs) st) where
+  abbrev ns : List ℕ
+  ns = stationFrom ws .queued
+
   whole : queueFrom qs ≡ recordsFrom qs
   whole = queue-whole qs (all-words qs (queue .places))
 
-  -- four counts
-  pub counts : length (s .queued) ≡ timeslots
-  counts = ap (λ (y : Station). length (y .queued)) es ∙ four-counts ws
-
-  sound : soundQueue (s .queued) (queueFrom qs) st ≡ true
+  sound : soundQueue ns (queueFrom qs) st ≡ true
   sound = rw whole (queue .sound)
 
   -- they are read as they stand
   pub as-read : recordsRead qs ≡ recordsFrom qs
-  as-read = sym (sound-read (s .queued) st qs counts sound) ∙ whole
+  as-read = sym (sound-read ns st qs (four-counts ws) sound) ∙ whole
 
   pub words-back : queueWords (recordsFrom qs) ≡ qs
-  words-back = ap queueWords (sym whole) ∙ sound-words (s .queued) st qs counts sound
+  words-back = ap queueWords (sym whole) ∙ sound-words ns st qs (four-counts ws) sound
 
-  pub record-stored : (place : ℕ) → place < 64 → (r : Record) → sets qs (23 * place) (recordWords r) ≡ queueWords (set (recordsFrom qs) place r)
-  record-stored place h r = set-words (s .queued) st qs counts sound place h r ∙ ap (λ (rs : List Record). queueWords (set rs place r)) whole
+  pub record-stored : (place : ℕ) → place < queuePlaces → (r : Record)
+      → sets qs (recordWordCount * place) (recordWords r) ≡ queueWords (set (recordsFrom qs) place r)
+  record-stored place h r = set-words ns st qs (four-counts ws) sound place h r ∙ ap (λ (rs : List Record). queueWords (set rs place r)) whole
 
-  -- those of a timeslot's places, where all others are as they were
-  pub sixteen-stored : (f : ℕ) → f + perTimeslot ≤ queuePlaces → (xs : List Record) → length xs ≡ perTimeslot
-      → sets qs (23 * f) (queueWords xs) ≡ queueWords (paste (recordsFrom qs) f xs perTimeslot)
-  sixteen-stored f room xs size =
-      subst (λ (rs : List Record). sets qs (23 * f) (queueWords xs) ≡ queueWords (paste rs f xs perTimeslot)) whole (pasted-words (s .queued) st qs counts sound f room xs size)
+  -- those of a timeslot's first n places, where all others are as they were
+  pub records-stored : (f : ℕ) → f + perTimeslot ≤ queuePlaces → (xs : List Record) → length xs ≡ perTimeslot → (n : ℕ) → n ≤ perTimeslot
+      → drop n xs ≡ drop n (take perTimeslot (drop f (recordsFrom qs)))
+      → sets qs (recordWordCount * f) (queueWords (take n xs)) ≡ queueWords (paste (recordsFrom qs) f xs perTimeslot)
+  records-stored f room xs size n low same =
+      subst (λ (rs : List Record). drop n xs ≡ drop n (take perTimeslot (drop f rs)) → sets qs (recordWordCount * f) (queueWords (take n xs))
+      ≡ queueWords (paste rs f xs perTimeslot)) whole
+      (pasted-words ns st qs (four-counts ws) sound f room xs size n low) same

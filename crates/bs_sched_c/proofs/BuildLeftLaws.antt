@@ -2,16 +2,19 @@
 use mathlib.Core.Path.{_≡_, refl, sym, ap, _∙_}
 use mathlib.Core.Bool.{true, false}
 use mathlib.Core.List.{List, []}
-use Prim.Native.Nat.{ℕ, _*_}
+use Prim.Native.Nat.{ℕ, _*_, _≤_}
 use native.Mathlib.Omega.{arith}
-use lib.ListN.{length, getD, set, take, drop}
+use lib.ListN.{length, getD, set, take, drop, replicate, length-drop}
 use lib.Seq.{sets}
 use borrow.Author.Tests.{ne-eqb}
 use Rattle.sizes.specs.Sizes.{perTimeslot, cellOctets, blockOctets}
+use Rattle.dl_record.specs.declared.Record.{Record}
+use Rattle.dl_record.specs.Record.{emptyRecord}
 use Rattle.dl_queue.specs.Questions.{soundPlaces}
+use Rattle.dl_queue.proofs.SoundLaws.{queue-at}
 use Rattle.dl_queue.proofs.SetLaws.{length-records}
 use Rattle.dl_send.specs.declared.Progress.{Progress}
-use Rattle.dl_send.specs.Progress.{tagRow}
+use Rattle.dl_send.specs.Arrays.{tagRow}
 use Rattle.dl_build.specs.Build.{BuiltIn}
 use Rattle.sched_core.specs.declared.Station.{Station}
 use Rattle.questions.specs.declared.Refusal.{Refusal}
@@ -23,74 +26,89 @@ use Rattle.sched_core.specs.Questions.{Memory, memory, soundStation, memoryQues
 use Rattle.sched_core.specs.Calls.{BuildOutcome, current, buildsNow, builtNow, buildCall}
 use Rattle.sched_core.specs.Calls.{notBuilt as nothing}
 use Rattle.sched_core.proofs.StationLaws.{sound-time}
-use Rattle.enqueue_core.specs.Plan.{SoundQueue}
-use Rattle.build_core.proofs.BuildCallLaws as plan
-use Rattle.sched_words.specs.Words.{stationWords, stationFrom, queueWords, recordsFrom}
+use Rattle.sched_enqueue.specs.Plan.{SoundQueue}
+use Rattle.sched_build.proofs.BuildCallLaws as plan
+use Rattle.sched_words.specs.Words.{stationWordCount, recordWordCount, stationWords, stationFrom, queueWords, recordsFrom}
 use Rattle.sched_words.proofs.RoundTrip.{station-words-back}
+use Rattle.sched_words.proofs.TimeslotWords.{sound-behind, list-behind}
 use Rattle.bs_sched_c.specs.declared.reply.BsSchedBuilt.{BsSchedBuilt}
-use Rattle.bs_sched_c.specs.Exports.{if228, memoryFrom, notBuilt, BuildLeft, buildLeft, buildLeftBy}
-use Rattle.bs_sched_c.proofs.AskedLaws.{counts, words-back, sixteen-stored}
-use Rattle.bs_sched_c.proofs.LeftLaws.{is-228}
+use Rattle.bs_sched_c.specs.Exports.{ifStation, memoryFrom, notBuiltStruct, BuildWordsLeft, buildWordsLeft, buildWordsLeftBy}
+use Rattle.bs_sched_c.proofs.AskedLaws.{four-counts, words-back, records-stored}
+use Rattle.bs_sched_c.proofs.LeftLaws.{is-station}
 
--- a station of 228 words, which is that of s
-module _ (ws qs st block : List ℕ) (w228 : length ws ≡ 228) (s : Station) (es : s ≡ stationFrom ws) where
-  abbrev other : BuildLeft
-  other = buildLeft (notBuilt 2) ws qs st block
+-- a station of its number of words
+module _ (ws qs st block : List ℕ) (size : length ws ≡ stationWordCount) where
+  abbrev other : BuildWordsLeft
+  other = buildWordsLeft (notBuiltStruct 2) ws qs st block
 
   abbrev m : Memory
   m = memoryFrom ws qs st
 
-  -- what the export promises
-  abbrev promised : BuildLeft
-  promised = if228 ws (buildLeftBy ws qs st block (buildCall m block)) other
+  abbrev s : Station
+  s = stationFrom ws
 
-  refused-left : (r : Refusal) → buildLeft (notBuilt (refusalNumber r)) ws qs st block ≡ buildLeftBy ws qs st block (nothing (BuildReply.Refused r) m block)
+  -- what the export promises
+  abbrev promised : BuildWordsLeft
+  promised = ifStation ws (buildWordsLeftBy ws qs st block (buildCall m block)) other
+
+  refused-left : (r : Refusal) → buildWordsLeft (notBuiltStruct (refusalNumber r)) ws qs st block
+      ≡ buildWordsLeftBy ws qs st block (nothing (BuildReply.Refused r) m block)
   unfolding tagRow
   refused-left r = rw (ne-eqb (refusalNumber r) 0 (λ z. omega (arith, z, number-positive r)))
 
   -- a no to one of the questions
-  pub build-no : (n : ℕ) → n ≡ askedNumber (memoryQuestions (memory s (recordsFrom qs) st) (buildLent block)) → (n ≡ 0 → ⊥)
-      → (x : BsSchedBuilt) → x ≡ notBuilt n → buildLeft x ws qs st block ≡ promised
+  pub build-no : (n : ℕ) → n ≡ askedNumber (memoryQuestions m (buildLent block)) → (n ≡ 0 → ⊥)
+      → (x : BsSchedBuilt) → x ≡ notBuiltStruct n → buildWordsLeft x ws qs st block ≡ promised
   unfolding buildCall
-  build-no n en h x ex =
-      let e : n ≡ askedNumber (memoryQuestions m (buildLent block)) = en ∙ ap (λ (y : Station). askedNumber (memoryQuestions (memory y (recordsFrom qs) st) (buildLent block))) es in
-      ap (λ (y : BsSchedBuilt). buildLeft y ws qs st block) (ex ∙ ap notBuilt e)
-      ∙ is-228 ws other w228
-      (number-no (λ (i : ℕ) (o : BuildOutcome). buildLeft (notBuilt i) ws qs st block ≡ buildLeftBy ws qs st block o) _ (λ r. nothing (BuildReply.Refused r) m block)
+  build-no n e h x ex =
+      ap (λ (y : BsSchedBuilt). buildWordsLeft y ws qs st block) (ex ∙ ap notBuiltStruct e)
+      ∙ is-station ws other size
+      (number-no (λ (i : ℕ) (o : BuildOutcome). buildWordsLeft (notBuiltStruct i) ws qs st block ≡ buildWordsLeftBy ws qs st block o) _
+      (λ r. nothing (BuildReply.Refused r) m block)
       refused-left (memoryQuestions m (buildLent block)) [] (λ z. h (e ∙ z)))
 
-  module _ (good : soundStation s ≡ true) where
-    module _ (b34 : length block ≡ blockOctets) where
-      -- every question is answered yes
-      module _ (queue : SoundQueue s (recordsFrom qs) st) where
-        abbrev here : Memory
-        here = memory s (recordsFrom qs) st
+  -- every question is answered yes
+  module _ (good : soundStation s ≡ true) (full : length block ≡ blockOctets) (queue : SoundQueue s (recordsFrom qs) st) where
+    -- no block: station and queue keep their words
+    pub build-none : buildsNow s ≡ false → (x : BsSchedBuilt) → x ≡ notBuiltStruct 0 → buildWordsLeft x ws qs st block ≡ promised
+    unfolding tagRow
+    build-none idle x ex =
+        let o : nothing BuildReply.NoBlock m block ≡ buildCall m block = plan.none-called m block good (queue .places) (queue .cells) full
+        (queue .sound) idle in
+        is-station ws other size
+        ((λ i. buildWordsLeft (ex i) (sym (station-words-back ws good) i) (sym (words-back ws qs st queue) i) st block)
+        ∙ ap (buildWordsLeftBy ws qs st block) o)
 
-        same-call : buildCall here block ≡ buildCall m block
-        same-call = ap (λ (y : Station). buildCall (memory y (recordsFrom qs) st) block) es
+    -- a block: the records of the current timeslot are stored
+    module _ (can : buildsNow s ≡ true) where
+      pub records-sound : soundPlaces perTimeslot (getD (s .queued) (current s) 0) (take perTimeslot (drop (perTimeslot * current s) (recordsFrom qs)))
+          (drop (cellOctets * (perTimeslot * current s)) st) ≡ true
+      records-sound = plan.records-sound m block good (queue .places) (queue .cells) full (queue .sound) can (four-counts ws)
 
-        -- no block: station and queue keep their words
-        pub build-none : buildsNow s ≡ false → (x : BsSchedBuilt) → x ≡ notBuilt 0 → buildLeft x ws qs st block ≡ promised
-        unfolding tagRow
-        build-none idle x ex =
-            let o : nothing BuildReply.NoBlock here block ≡ buildCall m block = plan.none-called here block good (queue .places) (queue .cells) b34 (queue .sound) idle ∙ same-call in
-            let station : ws ≡ stationWords s = sym (station-words-back ws (ap soundStation (sym es) ∙ good)) ∙ ap stationWords (sym es) in
-            is-228 ws other w228
-            ((λ i. buildLeft (ex i) (station i) (sym (words-back ws qs st s es queue) i) st block) ∙ ap (buildLeftBy ws qs st block) o)
+      -- the places behind those filled are empty
+      pub behind : drop (getD (s .queued) (current s) 0) (take perTimeslot (drop (perTimeslot * current s) (recordsFrom qs)))
+          ≡ drop (getD (s .queued) (current s) 0) (replicate perTimeslot emptyRecord)
+      behind =
+          let rs : List Record = drop (perTimeslot * current s) (recordsFrom qs) in
+          let low = plan.current-low s (sound-time s good) in
+          let long : perTimeslot ≤ length rs = rw length-drop (omega (arith, low, queue .places)) in
+          sound-behind (getD (s .queued) (current s) 0) rs (drop (cellOctets * (perTimeslot * current s)) st) long
+          (queue-at (s .queued) (recordsFrom qs) st (queue .sound) (current s) (omega (arith, low, four-counts ws)) .1)
 
-        -- a block: the records of the current timeslot are stored
-        module _ (can : buildsNow s ≡ true) where
-          pub records-sound : soundPlaces perTimeslot (getD (s .queued) (current s) 0) (take perTimeslot (drop (perTimeslot * current s) (recordsFrom qs)))
-              (drop (cellOctets * (perTimeslot * current s)) st) ≡ true
-          records-sound = plan.records-sound here block good (queue .places) (queue .cells) b34 (queue .sound) can (counts ws qs st s es queue)
-
-          pub build-built : (p : Progress) (st' block' ws' qs' : List ℕ)
-              → BuiltIn (builtNow here) blockOctets st (perTimeslot * current s) p st' block' → ws' ≡ stationWords (withQueued s (set (s .queued) (current s) (p .left)))
-              → qs' ≡ sets qs (23 * (perTimeslot * current s)) (queueWords (p .records))
-              → buildLeft (record { refusal = 0; built = 1; «tag_count» = p .«tag_count»; tags = p .tags }) ws' qs' st' block' ≡ promised
-          build-built p st' block' ws' qs' h ew eq =
-              let low = plan.current-low s (sound-time s good) in
-              let stored = eq ∙ sixteen-stored ws qs st s es queue (perTimeslot * current s) (omega (arith, low)) (p .records) (ap length (h .records) ∙ length-records perTimeslot (builtNow here .left)) in
-              is-228 ws other w228
-              (rw (ew, stored, h .tags, h .tag-count)
-              (ap (buildLeftBy ws qs st block) (plan.plan-called here block good (queue .places) (queue .cells) b34 (queue .sound) can p _ _ st' block' h refl refl ∙ same-call)))
+      pub build-built : (p : Progress) (st' block' ws' qs' : List ℕ)
+          → BuiltIn (builtNow m) blockOctets st (perTimeslot * current s) p st' block' → ws'
+          ≡ stationWords (withQueued s (set (s .queued) (current s) (p .left)))
+          → qs' ≡ sets qs (recordWordCount * (perTimeslot * current s)) (queueWords (take (getD (s .queued) (current s) 0) (p .records)))
+          → p .left ≤ getD (s .queued) (current s) 0
+          → buildWordsLeft (record { refusal = 0; built = 1; «tag_count» = p .«tag_count»; tags = p .tags }) ws' qs' st' block' ≡ promised
+      build-built p st' block' ws' qs' h ew eq few =
+          let low = plan.current-low s (sound-time s good) in
+          let n : ℕ = getD (s .queued) (current s) 0 in
+          let same = ap (drop n) (h .records) ∙ list-behind perTimeslot n (builtNow m .left) (omega (arith, few, h .count)) ∙ sym behind in
+          let stored = eq ∙ records-stored ws qs st queue (perTimeslot * current s) (omega (arith, low)) (p .records)
+          (ap length (h .records) ∙ length-records perTimeslot (builtNow m .left))
+          n (plan.count-few s good (current s) (omega (arith, low, four-counts ws))) same in
+          is-station ws other size
+          (rw (ew, stored, h .tags, h .tag-count)
+          (ap (buildWordsLeftBy ws qs st block) (plan.plan-called m block good (queue .places) (queue .cells) full
+          (queue .sound) can p _ _ st' block' h refl refl)))

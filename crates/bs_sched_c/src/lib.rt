@@ -7,16 +7,20 @@ use crate::reply::BsSchedGrant;
 use crate::reply::BsSchedOwners;
 use crate::reply::BsSchedUsage;
 use questions::Refusal;
-use sched_core::Station;
+use sched_words::QUEUE_WORDS;
+use sched_words::RECORD_WORDS;
+use sched_words::STATION_WORDS;
+use sizes::PER_TIMESLOT;
 use tdma_time::TdmaTime;
-use uplink::PhyBlockNum;
 ghost use mathlib.Core.Path.{_≡_};
 ghost use mathlib.Core.List.{[], _∷_};
+ghost use lib.ListN.{length};
 ghost use Rattle.questions.specs.declared.Refusal.{Refusal};
 ghost use Rattle.questions.specs.Questions.{question, askedNumber};
 ghost use Rattle.sched_core.specs.Questions.{memory, memoryQuestions};
-ghost use Rattle.sched_words.specs.Words.{recordsFrom};
-ghost use Rattle.bs_sched_c.specs.Exports.{timeAt, stationLeft, newLeft, advanceLeft, ownerAnswer, usageReply, left, requestLeft, ackLeft, enqueueLeft, buildLeft, builtLeft};
+ghost use Rattle.sched_words.specs.Words.{stationWordCount, stationFrom, recordsFrom};
+ghost use Rattle.bs_sched_c.specs.Exports.{timeAt, stationLeft, newLeft, advanceLeft, ownerAnswer, usageAnswer, left, requestLeft, ackLeft};
+ghost use Rattle.bs_sched_c.specs.Exports.{enqueueLeft, buildWordsLeft, builtLeft};
 
 fn time_at(h: u16, m: u8, f: u8, t: u8) -> TdmaTime
     ensures { λ r. ⌜ r ≡ timeAt h m f t ⌝ }
@@ -34,7 +38,7 @@ fn time_at(h: u16, m: u8, f: u8, t: u8) -> TdmaTime
 pub extern "C" fn bs_sched_new(station: &mut [u32], h: u16, m: u8, f: u8, t: u8) -> u8
     ensures { λ r. ⌜ stationLeft r (now (station .exit)) ≡ newLeft (now (station .entry)) (timeAt h m f t) ⌝ }
 {
-    if station.len() != 228 {
+    if station.len() != STATION_WORDS {
         return 2;
     }
     let time = time_at(h, m, f, t);
@@ -54,18 +58,13 @@ pub extern "C" fn bs_sched_new(station: &mut [u32], h: u16, m: u8, f: u8, t: u8)
 pub extern "C" fn bs_sched_advance(station: &mut [u32]) -> u8
     ensures { λ r. ⌜ stationLeft r (now (station .exit)) ≡ advanceLeft (now (station .entry)) ⌝ }
 {
-    if station.len() != 228 {
+    if station.len() != STATION_WORDS {
         return 2;
     }
-    let s = sched_words::station::station_from(station);
-    let answer = sched_core::advance(s);
-    let reply = answer.reply;
-    let next = answer.station;
-    let n = reply::reply_number(reply);
-    if n != 0 {
-        return n;
+    if !sched_words::station::station_is_sound(station) {
+        return questions::number(Refusal::Unsound);
     }
-    sched_words::station::put_station(station, next);
+    sched_words::station::advance(station);
     0
 }
 
@@ -74,55 +73,52 @@ pub extern "C" fn bs_sched_advance(station: &mut [u32]) -> u8
 pub extern "C" fn bs_sched_slot_owner(station: &[u32], h: u16, m: u8, f: u8, t: u8) -> BsSchedOwners
     ensures { λ r. ⌜ r ≡ ownerAnswer (now (station .entry)) (timeAt h m f t) ⌝ }
 {
-    if station.len() != 228 {
-        return BsSchedOwners {
-            refusal: 2,
-            both: 0,
-            first: 0,
-            second: 0,
-        };
+    if station.len() != STATION_WORDS {
+        return reply::no_owners(2);
     }
-    let s = sched_words::station::station_from(station);
     let time = time_at(h, m, f, t);
-    let both = sched_core::ul_get_slot_owner(s, time, PhyBlockNum::Both);
-    let first = sched_core::ul_get_slot_owner(s, time, PhyBlockNum::Block1);
-    let second = sched_core::ul_get_slot_owner(s, time, PhyBlockNum::Block2);
-    let n = reply::owner_number(both);
-    let b = reply::owner_word(both);
-    let x = reply::owner_word(first);
-    let y = reply::owner_word(second);
-    BsSchedOwners {
-        refusal: n,
-        both: b,
-        first: x,
-        second: y,
+    if !sched_words::station::station_is_sound(station) {
+        return reply::no_owners(questions::number(Refusal::Unsound));
     }
+    if !time.is_valid() {
+        return reply::no_owners(questions::number(Refusal::Unsound));
+    }
+    let e = sched_words::station::entry_at(station, time);
+    reply::owners_of(e)
 }
 
 // How the slot at a time is used.
 #[no_mangle]
 pub extern "C" fn bs_sched_usage(station: &[u32], h: u16, m: u8, f: u8, t: u8) -> BsSchedUsage
-    ensures { λ r. ⌜ r ≡ usageReply (now (station .entry)) (timeAt h m f t) ⌝ }
+    ensures { λ r. ⌜ r ≡ usageAnswer (now (station .entry)) (timeAt h m f t) ⌝ }
 {
-    if station.len() != 228 {
+    if station.len() != STATION_WORDS {
         return reply::usage_answer(2, 0, 0);
     }
-    let s = sched_words::station::station_from(station);
     let time = time_at(h, m, f, t);
-    let found = sched_core::ul_get_usage(s, time);
-    reply::usage_of(found)
+    if !sched_words::station::station_is_sound(station) {
+        return reply::usage_answer(questions::number(Refusal::Unsound), 0, 0);
+    }
+    if !time.is_valid() {
+        return reply::usage_answer(questions::number(Refusal::Unsound), 0, 0);
+    }
+    let e = sched_words::station::entry_at(station, time);
+    let usage = uplink::usage_of(e);
+    reply::usage_found(usage)
 }
 
-// Questions 1 and 2 over the station, the words of the queue and the store: the number of the first no, 0 for none. `lent` says whether
-// what else is lent has its length.
-fn memory_number(s: Station, queue: &[u32], store: &[u8], lent: bool) -> u8
-    ensures { λ n. ⌜ n ≡ askedNumber (memoryQuestions (memory s (recordsFrom (now (queue .entry))) (now (store .entry)))
+// Questions 1 and 2 over the words of the station, those of the queue and the store: the number of the first no, 0 for none. `lent` says
+// whether what else is lent has its length.
+fn memory_number(station: &[u32], queue: &[u32], store: &[u8], lent: bool) -> u8
+    requires { ⌜ length (now station) ≡ stationWordCount ⌝ }
+    ensures { λ n. ⌜ n ≡ askedNumber (memoryQuestions (memory (stationFrom (now (station .entry))) (recordsFrom (now (queue .entry))) (now (store .entry)))
         (question lent Refusal.Lengths ∷ [])) ⌝ }
 {
-    if !sched_core::station_is_sound(s) {
+    let sound = sched_words::station::station_is_sound(station);
+    if !sound {
         return questions::number(Refusal::Unsound);
     }
-    if queue.len() != 1472 {
+    if queue.len() != QUEUE_WORDS {
         return questions::number(Refusal::Lengths);
     }
     if store.len() != sizes::STORE_OCTETS {
@@ -131,7 +127,7 @@ fn memory_number(s: Station, queue: &[u32], store: &[u8], lent: bool) -> u8
     if !lent {
         return questions::number(Refusal::Lengths);
     }
-    let queued = s.queued;
+    let queued = sched_words::station::queued_of(station);
     if !sched_words::queue::queue_is_sound(queued, queue, store) {
         return questions::number(Refusal::Unsound);
     }
@@ -152,15 +148,15 @@ pub extern "C" fn bs_sched_request(
     ensures { λ r. ⌜ left r (now (station .exit)) (now (queue .exit)) (now (store .entry)) ≡ requestLeft (now (station .entry))
         (now (queue .entry)) (now (store .entry)) timeslot code kind number ⌝ }
 {
-    if station.len() != 228 {
+    if station.len() != STATION_WORDS {
         return reply::not_granted(2);
     }
-    let s = sched_words::station::station_from(station);
-    let no = memory_number(s, queue, store, true);
+    let no = memory_number(station, queue, store, true);
     if no != 0 {
         return reply::not_granted(no);
     }
-    let plan = request_core::request_plan(s, timeslot, code, kind, number);
+    let s = sched_words::station::station_of(station);
+    let plan = sched_request::request_plan(s, timeslot, code, kind, number);
     let reply = plan.reply;
     let grant = reply::grant_of(reply);
     if grant.refusal != 0 {
@@ -186,23 +182,23 @@ pub extern "C" fn bs_sched_enqueue_ack(
     ensures { λ r. ⌜ left r (now (station .exit)) (now (queue .exit)) (now (store .entry)) ≡ ackLeft (now (station .entry))
         (now (queue .entry)) (now (store .entry)) timeslot kind number ⌝ }
 {
-    if station.len() != 228 {
+    if station.len() != STATION_WORDS {
         return 2;
     }
-    let s = sched_words::station::station_from(station);
-    let no = memory_number(s, queue, store, true);
+    let no = memory_number(station, queue, store, true);
     if no != 0 {
         return no;
     }
-    let plan = enqueue_core::ack_plan(s, timeslot, kind, number);
+    let queued = sched_words::station::queued_of(station);
+    let plan = sched_enqueue::ack_joins(queued, timeslot, kind, number);
     let reply = plan.reply;
     let n = reply::reply_number(reply);
     if n != 0 {
         return n;
     }
-    let next = plan.station;
+    let counts = plan.queued;
     let r = plan.record;
-    sched_words::station::put_station(station, next);
+    sched_words::station::put_queued(station, counts);
     sched_words::queue::put_record(queue, plan.place, r);
     0
 }
@@ -220,25 +216,25 @@ pub extern "C" fn bs_sched_enqueue(
     ensures { λ r. ⌜ left r (now (station .exit)) (now (queue .exit)) (now (store .exit)) ≡ enqueueLeft (now (station .entry))
         (now (queue .entry)) (now (store .entry)) timeslot (now (offered .entry)) (now (sdu .entry)) ⌝ }
 {
-    if station.len() != 228 {
+    if station.len() != STATION_WORDS {
         return 2;
     }
-    if offered.len() != 23 {
+    if offered.len() != RECORD_WORDS {
         return 2;
     }
-    let s = sched_words::station::station_from(station);
-    let no = memory_number(s, queue, store, true);
+    let no = memory_number(station, queue, store, true);
     if no != 0 {
         return no;
     }
+    let queued = sched_words::station::queued_of(station);
     let o = sched_words::queue::record_from(offered);
     let address_kind = o.address_kind;
     let number = o.number;
     let tag = o.tag;
     let header = o.header;
     let bits = o.bits;
-    let plan = enqueue_core::tma_plan(
-        s,
+    let plan = sched_enqueue::tma_joins(
+        queued,
         store,
         timeslot,
         address_kind,
@@ -253,9 +249,9 @@ pub extern "C" fn bs_sched_enqueue(
     if n != 0 {
         return n;
     }
-    let next = plan.station;
+    let counts = plan.queued;
     let r = plan.record;
-    sched_words::station::put_station(station, next);
+    sched_words::station::put_queued(station, counts);
     sched_words::queue::put_record(queue, plan.place, r);
     0
 }
@@ -268,32 +264,37 @@ pub extern "C" fn bs_sched_build(
     store: &mut [u8],
     block: &mut [u8],
 ) -> BsSchedBuilt
-    ensures { λ r. ⌜ buildLeft r (now (station .exit)) (now (queue .exit)) (now (store .exit)) (now (block .exit)) ≡ builtLeft (now (station .entry))
+    ensures { λ r. ⌜ buildWordsLeft r (now (station .exit)) (now (queue .exit)) (now (store .exit)) (now (block .exit)) ≡ builtLeft (now (station .entry))
         (now (queue .entry)) (now (store .entry)) (now (block .entry)) ⌝ }
 {
-    if station.len() != 228 {
+    if station.len() != STATION_WORDS {
         return reply::not_built(2);
     }
-    let s = sched_words::station::station_from(station);
-    let no = memory_number(s, queue, store, block.len() == sizes::BLOCK_OCTETS);
+    let no = memory_number(station, queue, store, block.len() == sizes::BLOCK_OCTETS);
     if no != 0 {
         return reply::not_built(no);
     }
-    if !build_core::builds_now(s) {
+    let time = sched_words::station::time_of(station);
+    let queued = sched_words::station::queued_of(station);
+    if !sched_build::builds_at(time, queued) {
         return reply::not_built(0);
     }
-    let first = build_core::first_place(s);
-    let records = sched_words::queue::sixteen_read(queue, first);
-    let plan = build_core::build_sound(s, records, store, block);
-    let next = build_core::station_left(s, plan.left);
+    let t = (time.t - 1) as usize;
+    let n = queued[t] as usize;
+    let first = PER_TIMESLOT * t;
+    let records = sched_words::queue::records_read(queue, first, n);
+    let plan = sched_build::build_timeslot(t, n, records, store, block);
+    let mut counts = queued;
+    counts[t] = plan.left as u8;
     let after = plan.records;
     let tags = plan.tags;
-    sched_words::station::put_station(station, next);
-    sched_words::queue::put_sixteen(queue, first, after);
+    let count = plan.tag_count as u8;
+    sched_words::station::put_queued(station, counts);
+    sched_words::queue::put_records(queue, first, n, after);
     BsSchedBuilt {
         refusal: 0,
         built: 1,
-        tag_count: plan.tag_count as u8,
+        tag_count: count,
         tags: tags,
     }
 }

@@ -1,14 +1,15 @@
 // The replies of the exported functions, and how the scheduler's replies become them.
 use optional::OptU8;
-use sched_core::OwnerReply;
 use sched_core::Reply;
 use sched_core::RequestReply;
-use sched_core::UsageReply;
+use sizes::PER_TIMESLOT;
 use uplink::AccessAssignUlUsage;
+use uplink::Entry;
+use uplink::PhyBlockNum;
 ghost use mathlib.Core.Path.{_≡_};
 ghost use Rattle.uplink.specs.UplinkEntry.{usageNumber, usageMarker, markerOrZero};
-ghost use Rattle.sched_core.specs.Calls.{replyNumber, ownerNumber};
-ghost use Rattle.bs_sched_c.specs.Exports.{notGranted, grantOf, notBuilt, ownerWord, usageAnswer, usageOf};
+ghost use Rattle.sched_core.specs.Calls.{replyNumber};
+ghost use Rattle.bs_sched_c.specs.Exports.{notGrantedStruct, grantStruct, notBuiltStruct, noOwnersStruct, entryOwners, usageStruct};
 
 // The grant of a request; usage_marker is 0 if there is none.
 #[repr(C)]
@@ -25,7 +26,7 @@ pub struct BsSchedBuilt {
     pub refusal: u8,
     pub built: u8,
     pub tag_count: u8,
-    pub tags: [u16; 16],
+    pub tags: [u16; PER_TIMESLOT],
 }
 
 // The owners of a slot, each 0 for none, else the number and 1.
@@ -55,7 +56,7 @@ pub fn reply_number(r: Reply) -> u8
 }
 
 pub fn not_granted(n: u8) -> BsSchedGrant
-    ensures { λ r. ⌜ r ≡ notGranted n ⌝ }
+    ensures { λ r. ⌜ r ≡ notGrantedStruct n ⌝ }
 {
     BsSchedGrant {
         refusal: n,
@@ -78,7 +79,7 @@ fn granted(capacity: u8, delay: u8, usage_marker: OptU8) -> BsSchedGrant
 }
 
 pub fn grant_of(r: RequestReply) -> BsSchedGrant
-    ensures { λ g. ⌜ g ≡ grantOf r ⌝ }
+    ensures { λ g. ⌜ g ≡ grantStruct r ⌝ }
 {
     match r {
         RequestReply::Granted {
@@ -91,36 +92,47 @@ pub fn grant_of(r: RequestReply) -> BsSchedGrant
 }
 
 pub fn not_built(n: u8) -> BsSchedBuilt
-    ensures { λ r. ⌜ r ≡ notBuilt n ⌝ }
+    ensures { λ r. ⌜ r ≡ notBuiltStruct n ⌝ }
 {
     BsSchedBuilt {
         refusal: n,
         built: 0,
         tag_count: 0,
-        tags: [0u16; 16],
+        tags: [0u16; PER_TIMESLOT],
     }
 }
 
-pub fn owner_number(r: OwnerReply) -> u8
-    ensures { λ n. ⌜ n ≡ ownerNumber r ⌝ }
+pub fn no_owners(n: u8) -> BsSchedOwners
+    ensures { λ r. ⌜ r ≡ noOwnersStruct n ⌝ }
 {
-    match r {
-        OwnerReply::Owner(_) => 0,
-        OwnerReply::Refused(q) => questions::number(q),
+    BsSchedOwners {
+        refusal: n,
+        both: 0,
+        first: 0,
+        second: 0,
     }
 }
 
-pub fn owner_word(r: OwnerReply) -> u32
-    ensures { λ n. ⌜ n ≡ ownerWord r ⌝ }
+// The owners of an entry's slot.
+pub fn owners_of(e: Entry) -> BsSchedOwners
+    ensures { λ r. ⌜ r ≡ entryOwners e ⌝ }
 {
-    match r {
-        OwnerReply::Owner(o) => sched_words::word::word_of_32(o),
-        OwnerReply::Refused(_) => 0,
+    let both = uplink::owner_of(e, PhyBlockNum::Both);
+    let first = uplink::owner_of(e, PhyBlockNum::Block1);
+    let second = uplink::owner_of(e, PhyBlockNum::Block2);
+    let b = sched_words::word::word_of_32(both);
+    let x = sched_words::word::word_of_32(first);
+    let y = sched_words::word::word_of_32(second);
+    BsSchedOwners {
+        refusal: 0,
+        both: b,
+        first: x,
+        second: y,
     }
 }
 
 pub fn usage_answer(n: u8, usage: u8, usage_marker: u8) -> BsSchedUsage
-    ensures { λ r. ⌜ r ≡ usageAnswer n usage «usage_marker» ⌝ }
+    ensures { λ r. ⌜ r ≡ usageStruct n usage «usage_marker» ⌝ }
 {
     BsSchedUsage {
         refusal: n,
@@ -129,22 +141,13 @@ pub fn usage_answer(n: u8, usage: u8, usage_marker: u8) -> BsSchedUsage
     }
 }
 
-fn usage_found(u: AccessAssignUlUsage) -> BsSchedUsage
-    ensures { λ r. ⌜ r ≡ usageAnswer 0 (usageNumber u) (markerOrZero (usageMarker u)) ⌝ }
+pub fn usage_found(u: AccessAssignUlUsage) -> BsSchedUsage
+    ensures { λ r. ⌜ r ≡ usageStruct 0 (usageNumber u) (markerOrZero (usageMarker u)) ⌝ }
 {
     match u {
         AccessAssignUlUsage::CommonOnly => usage_answer(0, 0, 0),
         AccessAssignUlUsage::CommonAndAssigned => usage_answer(0, 1, 0),
         AccessAssignUlUsage::AssignedOnly => usage_answer(0, 2, 0),
         AccessAssignUlUsage::Traffic(m) => usage_answer(0, 3, m),
-    }
-}
-
-pub fn usage_of(r: UsageReply) -> BsSchedUsage
-    ensures { λ a. ⌜ a ≡ usageOf r ⌝ }
-{
-    match r {
-        UsageReply::Usage(u) => usage_found(u),
-        UsageReply::Refused(q) => usage_answer(questions::number(q), 0, 0),
     }
 }

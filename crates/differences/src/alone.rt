@@ -1,4 +1,4 @@
-// Headers that the lone writer refuses.
+// Headers that the header writer refuses.
 use mac_pdus::AddressKind;
 use mac_pdus::ChanAllocElement;
 use mac_pdus::MacResource;
@@ -7,11 +7,11 @@ use mac_writer::WriteReply;
 use optional::OptU8;
 use optional::OptU16;
 
-// The reply of the lone writer, and whether its buffer is altered.
+// The reply of the header writer, and whether its buffer is altered.
 fn written(text: &[u8], h: MacResource) {
     let before = [0xffu8; 12];
     let mut s = [0xffu8; 12];
-    let reply = lone_writer::write_header(&mut s, 0, h);
+    let reply = mac_header_writer::write_header(&mut s, 0, h);
     show::word(text);
     match reply {
         WriteReply::Refused(r) => show::number(questions::number(r) as u64),

@@ -1,14 +1,14 @@
 -- What a build of a sound memory leaves: the timeslot's list is what stays, no other list changes, the memory stays sound; and its block reads as it was
 -- written. Assumes nothing.
-use mathlib.Core.Path.{_≡_, refl, sym, ap, _∙_}
+use mathlib.Core.Path.{_≡_, sym, ap, _∙_}
 use mathlib.Core.Bool.{true}
-use mathlib.Core.Logic.{inr}
 use mathlib.Core.List.{List, map}
 use Prim.Native.Nat.{ℕ, _*_, _<_, _≤_}
 use native.Mathlib.Omega.{arith}
 use lib.ListN.{length, getD, set, drop}
+use Rattle.lists.proofs.Every.{All, all-weaken}
 use Rattle.sizes.specs.Sizes.{perTimeslot, cellOctets, timeslotOctets, blockWidth, blockOctets}
-use Rattle.mac_reader.specs.PduList.{blockBits, placed, Fits}
+use Rattle.mac_reader.specs.PduList.{blockBits, placed}
 use Rattle.mac_reader.specs.Reader.{headers, replyOf, readBlock}
 use Rattle.dl_record.specs.declared.Record.{Record}
 use Rattle.dl_queue.specs.Queue.{Item, zeroCell, queueOf, queuesOf, cellsOf, withQueue, withCells, Cells}
@@ -16,14 +16,13 @@ use Rattle.dl_queue.specs.Questions.{soundQueue, soundItems}
 use Rattle.dl_queue.proofs.QueueLaws.{HoldsQueues}
 use Rattle.dl_queue.proofs.SetLaws.{queues-set}
 use Rattle.dl_queue.proofs.SoundLaws.{queue-at, set-sound}
-use Rattle.sdu_store.proofs.OctetLaws.{Octets, octets-drop, octets-paste}
+use Rattle.dl_sdu_store.proofs.OctetLaws.{Octets, octets-drop, octets-paste}
 use Rattle.dl_merge.specs.Merge.{mergeCells, always, keep}
-use Rattle.dl_merge.proofs.MergeLaws.{All, all-weaken, merge-all, reload}
+use Rattle.dl_merge.proofs.MergeLaws.{merge-all, reload}
 use Rattle.dl_merge.proofs.SoundMerge.{SoundItem, each-items, OneCell, each-cells, OctetItem, queue-octets, zero-octets, octets-cells}
 use Rattle.dl_send.specs.Send.{sendAll, cellSdu, blockOf}
-use Rattle.dl_send.proofs.TurnLaws.{Aligned}
-use Rattle.dl_send.proofs.BlockLaws.{SentWell, sent-well, built-read}
-use Rattle.dl_send.proofs.KeptLaws.{Stored, Staying, all-loaded, left-stays, left-few, left-loads}
+use Rattle.dl_send.proofs.BlockLaws.{built-read}
+use Rattle.dl_send.proofs.KeptLaws.{StoredItem, Staying, all-loaded, left-stays, left-few, left-loads}
 use Rattle.dl_send.proofs.MapLaws.{Steady, SameSdu, reloadSent, sendAll-map}
 use Rattle.dl_build.specs.Build.{builtFrom, inOrder, buildList, builtOf}
 use Rattle.dl_build.proofs.OrderLaws.{order-length, order-all, order-map}
@@ -31,15 +30,16 @@ use Rattle.dl_build.proofs.BuildLaws.{mergedQueue, merged-stored, merge
 
 -- to build and then map the loads is to map them and then build: the model's SDUs by value, with the names of their grants, and the code's cells give the same
 -- PDUs and tags
-pub build-map : {C D : Type 0} (f : Record → C → D) (steady : Steady f) (sc : C → ℕ → List ℕ) (sd : D → ℕ → List ℕ) (w : ℕ) (xs : List (Item C)) → All (SameSdu f sc sd) xs
+pub build-map : {C D : Type 0} (f : Record → C → D) (steady : Steady f) (sc : C → ℕ → List ℕ) (sd : D → ℕ → List ℕ) (w : ℕ) (xs : List (Item C))
+    → All (SameSdu f sc sd) xs
     → buildList sd w (map (reload f) xs) ≡ reloadSent f steady (buildList sc w xs)
 unfolding buildList
 build-map f steady sc sd w xs h = ap (sendAll sd w) (sym (order-map f xs)) ∙ sendAll-map f steady sc sd w (inOrder xs) (order-all (SameSdu f sc sd) xs h)
 
 module _ (ns : List ℕ) (rs : List Record) (s : List ℕ) (t : ℕ) (inside : t < length ns)
     (places : length rs ≡ perTimeslot * length ns) (size : length s ≡ timeslotOctets * length ns) (sound : soundQueue ns rs s ≡ true) where
-  taken : All Stored (inOrder (mergedQueue ns rs s t))
-  taken = order-all Stored (mergedQueue ns rs s t) (merged-stored ns rs s t inside places size sound)
+  taken : All StoredItem (inOrder (mergedQueue ns rs s t))
+  taken = order-all StoredItem (mergedQueue ns rs s t) (merged-stored ns rs s t inside places size sound)
 
   -- "What did not finish stays .. as waiting or started."
   pub build-stays : All Staying (builtOf ns rs s t .left)
@@ -79,18 +79,6 @@ module _ (ns : List ℕ) (rs : List Record) (s : List ℕ) (t : ℕ) (inside : t
         sound = set-sound ns rs s t (builtOf ns rs s t .left) inside places size few cells items sound;
         octets = octets-paste s (cellOctets * (perTimeslot * t)) (cellsOf perTimeslot (builtOf ns rs s t .left)) timeslotOctets h (octets h);
       }
-
-  well : SentWell blockWidth 0 blockWidth (builtOf ns rs s t)
-  unfolding builtOf builtFrom buildList mergedQueue
-  well = sent-well cellSdu blockWidth 0 blockWidth (inOrder (mergedQueue ns rs s t)) refl (omega arith) (all-loaded (inOrder (mergedQueue ns rs s t)) taken)
-
-  -- the PDUs fit the block
-  pub build-fits : Fits blockWidth 0 (builtOf ns rs s t .pdus)
-  build-fits = well .fits
-
-  -- "bits left in a block are 0, or 4 more than a multiple of eight"
-  pub build-room : Aligned (builtOf ns rs s t .room)
-  build-room = well .aligned (inr refl)
 
   -- the block reads as the headers of the PDUs that were written, at their positions
   pub build-read : readBlock blockOctets (blockOf blockOctets (blockBits (builtOf ns rs s t .pdus))) ≡ replyOf (headers (placed 0 (builtOf ns rs s t .pdus)))

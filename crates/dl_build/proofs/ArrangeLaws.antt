@@ -10,8 +10,8 @@ use lib.Seq.{take-at, take-all, take-take, take-add, drop-drop, drop-append-add,
 use borrow.Author.Tests.{ltb-true, lt-ltb, le-ltb}
 use Rattle.sizes.specs.Sizes.{perTimeslot, cellOctets, timeslotOctets}
 use Rattle.dl_queue.specs.Queue.{zeroCell}
-use Rattle.sdu_store.proofs.CellLaws.{paste-next, paste-same}
-use Rattle.dl_queue.proofs.SetLaws.{zero-size}
+use Rattle.dl_sdu_store.proofs.CellLaws.{paste-next, paste-same}
+use Rattle.dl_queue.proofs.SetLaws.{zero-size, one-cell}
 use Rattle.dl_build.specs.Moved.{cellsAt, sourceCell, arranged}
 
 pub length-source : (s : List ℕ) (f : ℕ) → timeslotOctets ≤ length s → length (sourceCell s f) ≡ cellOctets
@@ -25,12 +25,10 @@ length-source s f h = go (ltb f perTimeslot) refl
 pub length-arranged : (s fs : List ℕ) → timeslotOctets ≤ length s → length (arranged s fs) ≡ cellOctets * length fs
 unfolding arranged
 length-arranged s [] h = refl
-length-arranged s (f ∷ fs) h = length-append (sourceCell s f) (arranged s fs) ∙ ap₂ _+_ (length-source s f h) (length-arranged s fs h) ∙ more (length fs)
-  where
-    more : (n : ℕ) → cellOctets + cellOctets * n ≡ cellOctets * suc n
-    more n = omega arith
+length-arranged s (f ∷ fs) h = length-append (sourceCell s f) (arranged s fs) ∙ ap₂ _+_ (length-source s f h) (length-arranged s fs h) ∙ one-cell (length fs)
 
-pub arranged-at : (s fs : List ℕ) (p : ℕ) → timeslotOctets ≤ length s → p < length fs → take cellOctets (drop (cellOctets * p) (arranged s fs)) ≡ sourceCell s (getD fs p 0)
+pub arranged-at : (s fs : List ℕ) (p : ℕ) → timeslotOctets ≤ length s → p < length fs
+    → take cellOctets (drop (cellOctets * p) (arranged s fs)) ≡ sourceCell s (getD fs p 0)
 unfolding arranged
 arranged-at s [] p h b = absurd (omega arith)
 arranged-at s (f ∷ fs) zero h b = take-at (sourceCell s f) (arranged s fs) cellOctets (length-source s f h)
@@ -52,20 +50,25 @@ zero-take : (z : List ℕ) → z ≡ zeroCell → take cellOctets z ≡ zeroCell
 zero-take z e = ap (take cellOctets) e ∙ take-all cellOctets zeroCell (omega (arith, zero-size))
 
 -- one more cell
-module _ (d : List ℕ) (first : ℕ) (s fs : List ℕ) (room : cellOctets * first + timeslotOctets ≤ length d) (size : length s ≡ timeslotOctets) (all : length fs ≡ perTimeslot) (l : List ℕ) (p : ℕ) (less : p < perTimeslot)
+module _ (d : List ℕ) (first : ℕ) (s fs : List ℕ) (room : cellOctets * first + timeslotOctets ≤ length d) (size : length s ≡ timeslotOctets)
+    (all : length fs ≡ perTimeslot) (l : List ℕ) (p : ℕ) (less : p < perTimeslot)
     (so-far : l ≡ paste d (cellOctets * first) (arranged s fs) (cellOctets * p)) where
-  turn : (e : List ℕ) → take cellOctets e ≡ sourceCell s (getD fs p 0) → paste l (cellOctets * first + cellOctets * p) e cellOctets ≡ paste d (cellOctets * first) (arranged s fs) (cellOctets * (p + 1))
+  turn : (e : List ℕ) → take cellOctets e ≡ sourceCell s (getD fs p 0)
+      → paste l (cellOctets * first + cellOctets * p) e cellOctets ≡ paste d (cellOctets * first) (arranged s fs) (cellOctets * (p + 1))
   turn e h =
       let whole : length (arranged s fs) ≡ cellOctets * length fs = length-arranged s fs (omega arith) in
       let more : cellOctets * p + cellOctets ≡ cellOctets * (p + 1) = omega arith in
       ap (λ (m : List ℕ). paste m (cellOctets * first + cellOctets * p) e cellOctets) so-far
-      ∙ paste-next d (cellOctets * first) (arranged s fs) (cellOctets * p) e cellOctets (h ∙ sym (arranged-at s fs p (omega arith) (omega arith))) (omega arith) (omega arith)
+      ∙ paste-next d (cellOctets * first) (arranged s fs) (cellOctets * p) e cellOctets (h ∙ sym (arranged-at s fs p (omega arith) (omega arith)))
+      (omega arith) (omega arith)
       ∙ ap (paste d (cellOctets * first) (arranged s fs)) more
 
-  pub copy-turn : getD fs p 0 < perTimeslot → paste l (cellOctets * first + cellOctets * p) (drop (cellOctets * getD fs p 0) s) cellOctets ≡ paste d (cellOctets * first) (arranged s fs) (cellOctets * (p + 1))
+  pub copy-turn : getD fs p 0 < perTimeslot → paste l (cellOctets * first + cellOctets * p) (drop (cellOctets * getD fs p 0) s) cellOctets ≡ paste d
+      (cellOctets * first) (arranged s fs) (cellOctets * (p + 1))
   copy-turn h = turn (drop (cellOctets * getD fs p 0) s) (source-place s (getD fs p 0) h)
 
-  pub zero-turn : perTimeslot ≤ getD fs p 0 → paste l (cellOctets * first + cellOctets * p) (replicate cellOctets 0) cellOctets ≡ paste d (cellOctets * first) (arranged s fs) (cellOctets * (p + 1))
+  pub zero-turn : perTimeslot ≤ getD fs p 0
+      → paste l (cellOctets * first + cellOctets * p) (replicate cellOctets 0) cellOctets ≡ paste d (cellOctets * first) (arranged s fs) (cellOctets * (p + 1))
   unfolding zeroCell
   zero-turn h = turn (replicate cellOctets 0) (zero-take (replicate cellOctets 0) refl ∙ source-none s (getD fs p 0) h)
 
@@ -79,7 +82,8 @@ part-take (x ∷ l) zero (suc a) n h = absurd (omega arith)
 part-take (x ∷ l) (suc m) (suc a) n h = part-take l m a n (omega arith)
 
 -- where a list agrees with what it would be written over, it need not be written
-pub paste-kept : {A : Type 0} (d : List A) (at : ℕ) (s : List A) (i k : ℕ) → take k (drop (at + i) d) ≡ take k (drop i s) → at + (i + k) ≤ length d → i + k ≤ length s
+pub paste-kept : {A : Type 0} (d : List A) (at : ℕ) (s : List A) (i k : ℕ) → take k (drop (at + i) d) ≡ take k (drop i s) → at + (i + k) ≤ length d
+    → i + k ≤ length s
     → paste d at s i ≡ paste d at s (i + k)
 paste-kept {A} d at s i k h hd hs =
     let x : List A = paste d at s i in
@@ -108,17 +112,21 @@ module _ (d : List ℕ) (first : ℕ) (fs : List ℕ) (room : cellOctets * first
     ahead f h b =
         let m : ℕ = cellOctets * first + cellOctets * p in
         let e : m + cellOctets * (f - p) ≡ cellOctets * first + cellOctets * f = omega arith in
-        let behind : drop m l ≡ drop m d = ap (drop m) so-far ∙ drop-paste d (cellOctets * first) (arranged cells fs) (cellOctets * p) (omega arith) (omega (arith, whole)) in
+        let behind : drop m l ≡ drop m d =
+        ap (drop m) so-far ∙ drop-paste d (cellOctets * first) (arranged cells fs) (cellOctets * p) (omega arith) (omega (arith, whole)) in
         ap (take cellOctets)
-        (ap (λ (j : ℕ). drop j l) (sym e) ∙ sym (drop-drop (cellOctets * (f - p)) m l) ∙ ap (drop (cellOctets * (f - p))) behind ∙ drop-drop (cellOctets * (f - p)) m d ∙ ap (λ (j : ℕ). drop j d) e)
+        (ap (λ (j : ℕ). drop j l) (sym e) ∙ sym (drop-drop (cellOctets * (f - p)) m l) ∙ ap (drop (cellOctets * (f - p))) behind
+        ∙ drop-drop (cellOctets * (f - p)) m d ∙ ap (λ (j : ℕ). drop j d) e)
         ∙ sym (cells-part (cellOctets * f) cellOctets (omega arith)) ∙ source-place cells f b
 
     pub move-turn : p ≤ getD fs p 0 → getD fs p 0 < perTimeslot
-        → paste l (cellOctets * first + cellOctets * p) (drop (cellOctets * first + cellOctets * getD fs p 0) l) cellOctets ≡ paste d (cellOctets * first) (arranged cells fs) (cellOctets * (p + 1))
+        → paste l (cellOctets * first + cellOctets * p) (drop (cellOctets * first + cellOctets * getD fs p 0) l) cellOctets ≡ paste d
+        (cellOctets * first) (arranged cells fs) (cellOctets * (p + 1))
     move-turn h b = turn d first cells fs room size all l p less so-far (drop (cellOctets * first + cellOctets * getD fs p 0) l) (ahead (getD fs p 0) h b)
 
     pub blank-turn : perTimeslot ≤ getD fs p 0
-        → paste l (cellOctets * first + cellOctets * p) (replicate cellOctets 0) cellOctets ≡ paste d (cellOctets * first) (arranged cells fs) (cellOctets * (p + 1))
+        → paste l (cellOctets * first + cellOctets * p) (replicate cellOctets 0) cellOctets ≡ paste d (cellOctets * first) (arranged cells fs)
+        (cellOctets * (p + 1))
     blank-turn h = zero-turn d first cells fs room size all l p less so-far h
 
     -- a cell that stays is not touched
@@ -128,7 +136,8 @@ module _ (d : List ℕ) (first : ℕ) (fs : List ℕ) (room : cellOctets * first
         let here : take cellOctets (drop (cellOctets * first + cellOctets * p) d) ≡ take cellOctets (drop (cellOctets * p) (arranged cells fs)) =
         sym (cells-part (cellOctets * p) cellOctets (omega arith)) ∙ source-place cells p less ∙ ap (sourceCell cells) (sym e)
         ∙ sym (arranged-at cells fs p (omega (arith, size)) (omega arith)) in
-        so-far ∙ paste-kept d (cellOctets * first) (arranged cells fs) (cellOctets * p) cellOctets here (omega arith) (omega (arith, whole)) ∙ ap (paste d (cellOctets * first) (arranged cells fs)) n
+        so-far ∙ paste-kept d (cellOctets * first) (arranged cells fs) (cellOctets * p) cellOctets here (omega arith) (omega (arith, whole))
+        ∙ ap (paste d (cellOctets * first) (arranged cells fs)) n
 
   -- nor are those behind the first n, where they are to stay
   pub rest-kept : (n : ℕ) → n ≤ perTimeslot → drop (cellOctets * n) (arranged cells fs) ≡ drop (cellOctets * n) cells
@@ -136,7 +145,8 @@ module _ (d : List ℕ) (first : ℕ) (fs : List ℕ) (room : cellOctets * first
   rest-kept n h e =
       let k : ℕ = timeslotOctets - cellOctets * n in
       let m : cellOctets * n + k ≡ timeslotOctets = omega arith in
-      paste-kept d (cellOctets * first) (arranged cells fs) (cellOctets * n) k (sym (cells-part (cellOctets * n) k (omega arith)) ∙ ap (take k) (sym e)) (omega arith) (omega (arith, whole))
+      paste-kept d (cellOctets * first) (arranged cells fs) (cellOctets * n) k
+      (sym (cells-part (cellOctets * n) k (omega arith)) ∙ ap (take k) (sym e)) (omega arith) (omega (arith, whole))
       ∙ ap (paste d (cellOctets * first) (arranged cells fs)) m
 
 -- a whole array written over
@@ -146,7 +156,8 @@ read-list {A} n z e h =
     ap (λ (l : List A). take n e ++ l) (drop-of-length-le z b) ∙ append-nil (take n e)
 
 -- a cell copied out and in
-pub cell-moved : (s z : List ℕ) (to from : ℕ) (c s' : List ℕ) → length z ≡ cellOctets → c ≡ paste z 0 (drop from s) cellOctets → s' ≡ paste s to (drop 0 c) cellOctets
+pub cell-moved : (s z : List ℕ) (to from : ℕ) (c s' : List ℕ) → length z ≡ cellOctets → c ≡ paste z 0 (drop from s) cellOctets
+    → s' ≡ paste s to (drop 0 c) cellOctets
     → s' ≡ paste s to (drop from s) cellOctets
 cell-moved s z to from c s' size reads writes =
     writes

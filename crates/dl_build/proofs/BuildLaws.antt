@@ -7,34 +7,37 @@ use Prim.Native.Nat.{ℕ, _+_, _-_, _*_, _^_, _<_, _≤_}
 use native.Mathlib.Omega.{arith}
 use lib.ListN.{length, take, drop, getD, length-drop, length-map}
 use lib.Seq.{paste, getD-take}
+use Rattle.lists.proofs.Every.{All, all-weaken, all-both}
 use Rattle.sizes.specs.Sizes.{perTimeslot, noPlace, cellOctets, timeslotOctets, blockWidth}
 use Rattle.mac_reader.specs.PduList.{blockBits}
 use Rattle.dl_record.specs.declared.Record.{Record}
 use Rattle.dl_record.specs.Record.{emptyRecord}
 use Rattle.dl_record.specs.Kind.{isGrantOrAck, isKept}
-use Rattle.sdu_store.proofs.OctetLaws.{Octets, octets-drop}
+use Rattle.dl_sdu_store.proofs.OctetLaws.{Octets, octets-drop}
 use Rattle.dl_queue.specs.Queue.{Item, item, zeroCell, queueOf, recordsOf, cellsOf, Cells}
 use Rattle.dl_queue.specs.Questions.{soundPlaces, soundQueue}
 use Rattle.dl_queue.proofs.QueueLaws.{length-queue, cells-back}
 use Rattle.dl_queue.proofs.PushLaws.{queue-agree}
 use Rattle.dl_queue.proofs.SoundLaws.{queue-at, items-sound}
 use Rattle.dl_merge.specs.declared.Merged.{Merged}
-use Rattle.dl_merge.specs.Merge.{takes, joined, only, put, puts, merge, mergeCells, always, keep}
-use Rattle.dl_merge.specs.Places.{counted, mergePlaces, mergedOf}
-use Rattle.dl_merge.proofs.MergeLaws.{All, all-weaken, only-all, merge-all, merge-few, reload, records-map}
+use Rattle.dl_merge.specs.Merge.{takesNumber, joined, only, put, puts, merge, mergeCells, always, keep}
+use Rattle.dl_merge.specs.Places.{counted, mergePlaces}
+use Rattle.dl_merge.proofs.MergeLaws.{only-all, merge-all, merge-few, reload, records-map}
 use Rattle.dl_merge.proofs.SoundMerge.{SoundItem, items-each, OneCell, cells-each, each-cells, queue-cells, merge-sound, merge-cells}
 use Rattle.dl_merge.proofs.ListLaws.{length-counted}
 use Rattle.bs_frag.specs.NextPdu.{Sendable}
 use Rattle.dl_send.specs.declared.Progress.{Progress}
 use Rattle.dl_send.specs.Send.{Sent, sendAll, cellSdu, blockOf}
-use Rattle.dl_send.specs.Progress.{listed, placeSdu, sentOf, tagRow, progressOf, CanSend, BuiltAs}
+use Rattle.dl_send.specs.Arrays.{listed, recordsAt, placeSdu, sentOf, tagRow, progressOf, CanSend, BuiltAs}
+use Rattle.dl_send.proofs.ArrayLaws.{length-listed}
 use Rattle.dl_send.proofs.MapLaws.{SameSdu, reloadSent, sendAll-map}
-use Rattle.dl_send.proofs.KeptLaws.{Stored, stored-loaded, left-few, left-loads}
+use Rattle.dl_send.proofs.KeptLaws.{StoredItem, stored-loaded, left-few, left-loads}
 use Rattle.dl_build.specs.Moved.{cellsAt, arranged, moved}
-use Rattle.dl_build.specs.Build.{inOrder, buildList, builtFrom, builtOf, CanBuild, BuiltIn}
+use Rattle.dl_build.specs.Build.{inOrder, buildList, builtFrom, builtOf, Takes, CanBuild, BuiltIn}
+use Rattle.dl_build.specs.declared.Order.{Order}
 use Rattle.dl_build.proofs.MergeMap.{cellFrom, cells-map, merged-cells}
 use Rattle.dl_build.proofs.OrderLaws.{order-length, order-all, order-map}
-use Rattle.dl_build.proofs.PlaceLaws.{listed-back, Sourced, counted-sourced, all-reload, all-both, all-sendable, place-sdu, no-sdu, cells-behind}
+use Rattle.dl_build.proofs.PlaceLaws.{Sourced, counted-sourced, all-reload, all-sendable, place-sdu, no-sdu, cells-behind}
 
 -- ---- merging leaves no grant and no ack
 
@@ -45,7 +48,7 @@ module _ {C : Type 0} (fresh : Item C → C) (join : Item C → C → C) where
   put-kept : (g : Item C) (xs : List (Item C)) → All Kept xs → All Kept (put fresh join g xs)
   unfolding put
   put-kept g [] h = (refl, tt)
-  put-kept g (x ∷ xs) h = go (takes (g .rec .number) (x .rec)) (put-kept g xs (h .1))
+  put-kept g (x ∷ xs) h = go (takesNumber (g .rec .number) (x .rec)) (put-kept g xs (h .1))
     where
       go : (b : Bool) → All Kept (put fresh join g xs) → All Kept (cond b (item (joined (g .rec) (x .rec)) (join g (x .load)) ∷ xs) (x ∷ put fresh join g xs))
       go true ih = h
@@ -62,24 +65,26 @@ module _ {C : Type 0} (fresh : Item C → C) (join : Item C → C → C) where
 
   pub merge-kept : (xs : List (Item C)) → All Kept (merge fresh join xs)
   unfolding merge
-  merge-kept xs = puts-kept (only isGrantOrAck xs) (only isKept xs) (all-weaken _ Kept (λ x q. q .1) (only isKept xs) (only-all (λ (x : Item C). Unit) isKept xs (any xs)))
+  merge-kept xs =
+      puts-kept (only isGrantOrAck xs) (only isKept xs) (all-weaken _ Kept (λ x q. q .1) (only isKept xs) (only-all (λ (x : Item C). Unit) isKept xs (any xs)))
 
-stored-all : (xs : List (Item (List ℕ))) → All Kept xs → All SoundItem xs → All OneCell xs → All Stored xs
+stored-all : (xs : List (Item (List ℕ))) → All Kept xs → All SoundItem xs → All OneCell xs → All StoredItem xs
 stored-all [] a b c = tt
 stored-all (x ∷ xs) a b c = (record { kind = a .0; sound = b .0; cell = c .0 }, stored-all xs (a .1) (b .1) (c .1))
 
-pub sendables : (xs : List (Item (List ℕ))) → All Stored xs → All (λ (x : Item (List ℕ)). Sendable (x .rec)) xs
+pub sendables : (xs : List (Item (List ℕ))) → All StoredItem xs → All (λ (x : Item (List ℕ)). Sendable (x .rec)) xs
 sendables [] h = tt
 sendables (x ∷ xs) h = (stored-loaded x (h .0) .sendable, sendables xs (h .1))
 
 -- ---- a timeslot: n records and their cells
 
-module _ (n : ℕ) (rs : List Record) (s : List ℕ) (few : n ≤ perTimeslot) (long : timeslotOctets ≤ length s) (sound : soundPlaces perTimeslot n rs s ≡ true) where
+module _ (n : ℕ) (rs : List Record) (s : List ℕ) (few : n ≤ perTimeslot) (long : timeslotOctets ≤ length s)
+    (sound : soundPlaces perTimeslot n rs s ≡ true) where
   own-cells : Cells (mergeCells (queueOf n rs s))
   own-cells = merge-cells (queueOf n rs s) (queue-cells n rs s (omega arith))
 
   -- the merged records can be sent
-  pub own-stored : All Stored (mergeCells (queueOf n rs s))
+  pub own-stored : All StoredItem (mergeCells (queueOf n rs s))
   own-stored =
       stored-all (mergeCells (queueOf n rs s)) (merge-kept (always zeroCell) keep (queueOf n rs s))
       (items-each (mergeCells (queueOf n rs s)) (merge-sound (queueOf n rs s) (items-sound perTimeslot n rs s few sound)))
@@ -145,7 +150,8 @@ module _ (octets w : ℕ) (store : List ℕ) (first n : ℕ) (rs : List Record) 
   sendable : All (λ (x : Item ℕ). Sendable (x .rec)) merged
   sendable =
       all-reload Sendable (cellFrom cells) merged
-      (subst (λ (xs : List (Item (List ℕ))). All (λ (x : Item (List ℕ)). Sendable (x .rec)) xs) (sym by-cells) (sendables (mergeCells (queueOf n rs s)) (own-stored n rs s few long (can .sound))))
+      (subst (λ (xs : List (Item (List ℕ))). All (λ (x : Item (List ℕ)). Sendable (x .rec)) xs) (sym by-cells)
+      (sendables (mergeCells (queueOf n rs s)) (own-stored n rs s few long (can .sound))))
 
   sourced : All Sourced merged
   sourced = merge-all (always noPlace) keep Sourced (λ g x k t p q. q) (λ g k p. inr refl) (counted 0 n rs) (counted-sourced 0 n rs (omega (arith, few)))
@@ -163,25 +169,21 @@ module _ (octets w : ℕ) (store : List ℕ) (first n : ℕ) (rs : List Record) 
       ap (sendAll cellSdu w) (sym (order-map (cellFrom cells) merged ∙ ap inOrder by-cells))
       ∙ sendAll-map (cellFrom cells) (λ k n r c. refl) (placeSdu store first) cellSdu w taken
       (order-all (SameSdu (cellFrom cells) (placeSdu store first) cellSdu) merged
-      (all-weaken _ (SameSdu (cellFrom cells) (placeSdu store first) cellSdu) same-sdu merged (all-both (λ (x : Item ℕ). Sendable (x .rec)) Sourced merged sendable sourced)))
+      (all-weaken _ (SameSdu (cellFrom cells) (placeSdu store first) cellSdu) same-sdu merged
+      (all-both (λ (x : Item ℕ). Sendable (x .rec)) Sourced merged sendable sourced)))
 
-  module _ (m o : Merged) (merges : m ≡ mergedOf (mergePlaces (counted 0 n rs))) where
-    pub count-few : m .count ≤ perTimeslot
-    count-few = omega (arith, ap (λ (x : Merged). x .count) merges, merged-few, few)
+  module _ (m : Merged) (merges : listed (m .count) (m .records) (m .from) ≡ mergePlaces (counted 0 n rs)) where
+    module _ (o : Order) (orders : Takes (m .records) (o .at) (o .from) (o .count) (inOrder (listed (m .count) (m .records) (m .from)))) where
+      abbrev chosen : List Record
+      chosen = recordsAt (o .at) (m .records)
 
-    module _ (orders : o ≡ mergedOf (inOrder (listed (m .count) (m .records) (m .from)))) where
-      order-as : o ≡ mergedOf taken
-      order-as =
-          orders ∙ ap (λ (x : Merged). mergedOf (inOrder (listed (x .count) (x .records) (x .from)))) merges
-          ∙ ap (λ (l : List (Item ℕ)). mergedOf (inOrder l)) (listed-back perTimeslot merged (omega (arith, merged-few, few)))
+      listed-as : listed (o .count) chosen (o .from) ≡ taken
+      listed-as = orders .items ∙ ap inOrder merges
 
-      listed-as : listed (o .count) (o .records) (o .from) ≡ taken
-      listed-as = ap (λ (x : Merged). listed (x .count) (x .records) (x .from)) order-as ∙ listed-back perTimeslot taken taken-few
-
-      pub can-send : CanSend octets w store first (o .records) (o .from) (o .count)
+      pub can-send : CanSend octets w store first chosen (o .from) (o .count)
       can-send =
           record {
-            count = omega (arith, ap (λ (x : Merged). x .count) order-as, taken-few);
+            count = omega (arith, sym (length-listed (o .count) chosen (o .from)) ∙ ap length listed-as, taken-few);
             width = can .width;
             inside = can .inside;
             bounded = can .bounded;
@@ -190,11 +192,11 @@ module _ (octets w : ℕ) (store : List ℕ) (first n : ℕ) (rs : List Record) 
             all = rw listed-as (all-sendable taken (order-all (λ (x : Item ℕ). Sendable (x .rec)) merged sendable));
           }
 
-      sent-is : sentOf store first w (o .records) (o .from) (o .count) ≡ sent
+      sent-is : sentOf store first w chosen (o .from) (o .count) ≡ sent
       unfolding sentOf sent
       sent-is = ap (sendAll (placeSdu store first) w) listed-as
 
-      module _ (p : Progress) (b : List ℕ) (builds : BuiltAs octets b p (sentOf store first w (o .records) (o .from) (o .count))) where
+      module _ (p : Progress) (b : List ℕ) (builds : BuiltAs octets b p (sentOf store first w chosen (o .from) (o .count))) where
         x : Sent (List ℕ)
         x = builtFrom w n rs s
 
@@ -213,10 +215,12 @@ module _ (octets w : ℕ) (store : List ℕ) (first n : ℕ) (rs : List Record) 
         pub behind-kept : Octets store → drop (cellOctets * n) (arranged cells (p .from)) ≡ drop (cellOctets * n) cells
         behind-kept h = ap (drop (cellOctets * n)) kept ∙ built-behind n rs s few long (can .sound) w (octets-drop (cellOctets * first) store h)
 
-        pub build-says : (s' : List ℕ) → s' ≡ moved store first (p .from) → BuiltIn (builtFrom w n rs (drop (cellOctets * first) store)) octets store first p s' b
+        pub build-says : (s' : List ℕ) → s' ≡ moved store first (p .from)
+            → BuiltIn (builtFrom w n rs (drop (cellOctets * first) store)) octets store first p s' b
         build-says s' moves =
             record {
-              records = ap (λ (y : Progress). y .records) is ∙ sym (records-map (cellFrom cells) perTimeslot (sent .left)) ∙ ap (recordsOf perTimeslot) (sym same-left);
+              records = ap (λ (y : Progress). y .records) is ∙ sym (records-map (cellFrom cells) perTimeslot (sent .left))
+                  ∙ ap (recordsOf perTimeslot) (sym same-left);
               count = ap (λ (y : Progress). y .left) is ∙ sym (length-map (sent .left) (reload (cellFrom cells))) ∙ ap length (sym same-left);
               tags = ap (λ (y : Progress). y .tags) is ∙ ap (tagRow perTimeslot) given;
               tag-count = ap (λ (y : Progress). y .«tag_count») is ∙ ap length given;
@@ -248,13 +252,20 @@ module _ (ns : List ℕ) (rs : List Record) (s : List ℕ) (t : ℕ) (inside : t
   count = queue-at ns rs s sound t inside .0
 
   -- the merged records can be sent
-  pub merged-stored : All Stored (mergedQueue ns rs s t)
+  pub merged-stored : All StoredItem (mergedQueue ns rs s t)
   unfolding mergedQueue
   merged-stored =
-      own-stored (getD ns t 0) (drop (perTimeslot * t) rs) (drop (cellOctets * (perTimeslot * t)) s) count (rw length-drop (omega arith)) (queue-at ns rs s sound t inside .1)
+      own-stored (getD ns t 0) (drop (perTimeslot * t) rs) (drop (cellOctets * (perTimeslot * t)) s) count (rw length-drop (omega arith))
+      (queue-at ns rs s sound t inside .1)
 
   pub merged-most : length (mergedQueue ns rs s t) ≤ perTimeslot
   unfolding mergedQueue
   merged-most =
       let own : List (Item (List ℕ)) = queueOf (getD ns t 0) (drop (perTimeslot * t) rs) (drop (cellOctets * (perTimeslot * t)) s) in
-      omega (arith, merge-few (always zeroCell) keep own, length-queue (getD ns t 0) (drop (perTimeslot * t) rs) (drop (cellOctets * (perTimeslot * t)) s), count)
+      omega (
+        arith,
+        merge-few (always zeroCell) keep own,
+        length-queue (getD ns t 0) (drop (perTimeslot * t) rs)
+            (drop (cellOctets * (perTimeslot * t)) s),
+        count,
+      )

@@ -7,6 +7,7 @@ use native.Mathlib.Omega.{arith}
 use lib.Dec.{leb}
 use lib.ListN.{length, getD, drop, length-append}
 use borrow.Author.Tests.{le-ltb}
+use Rattle.lists.proofs.Every.{All}
 use Rattle.sizes.specs.Sizes.{perTimeslot, cellOctets, timeslotOctets, blockWidth}
 use Rattle.mac_reader.specs.PduList.{Pdu, whole, first, frag, final, null}
 use Rattle.dl_record.specs.declared.Kind.{Kind}
@@ -15,12 +16,12 @@ use Rattle.dl_queue.specs.Queue.{Item, zeroCell, queueOf}
 use Rattle.dl_queue.specs.Questions.{soundQueue}
 use Rattle.dl_queue.proofs.QueueLaws.{length-queue}
 use Rattle.dl_record.specs.Kind.{isGrantOrAck, isKept, isRecord, isStarted, isUnderway}
-use Rattle.dl_merge.specs.Merge.{takes, only, put, puts, merge, always, keep, mergeCells}
-use Rattle.dl_merge.proofs.MergeLaws.{All, only-both}
+use Rattle.dl_merge.specs.Merge.{takesNumber, only, put, puts, merge, always, keep, mergeCells}
+use Rattle.dl_merge.proofs.MergeLaws.{only-both}
 use Rattle.bs_frag.specs.NextPdu.{headerSize, endOctets, Next, beginWith, begin, continue, next}
 use Rattle.bs_frag.proofs.HeaderLaws.{header-bounds}
 use Rattle.dl_send.specs.Send.{sendAll, cellSdu, turns, readOff, roomAfter}
-use Rattle.dl_send.proofs.KeptLaws.{Stored}
+use Rattle.dl_send.proofs.KeptLaws.{StoredItem}
 use Rattle.dl_build.specs.Build.{builtFrom, inOrder, buildList, builtOf}
 use Rattle.dl_build.proofs.OrderLaws.{order-all}
 use Rattle.dl_build.proofs.BuildLaws.{mergedQueue, merged-stored, sendables}
@@ -34,7 +35,7 @@ either-some false l m h k = k
 put-some : {C : Type 0} (fresh : Item C → C) (join : Item C → C → C) (g : Item C) (xs : List (Item C)) → 0 < length (put fresh join g xs)
 unfolding put
 put-some fresh join g [] = omega arith
-put-some fresh join g (x ∷ xs) = either-some (takes (g .rec .number) (x .rec)) _ _ (omega arith) (omega arith)
+put-some fresh join g (x ∷ xs) = either-some (takesNumber (g .rec .number) (x .rec)) _ _ (omega arith) (omega arith)
 
 puts-some : {C : Type 0} (fresh : Item C → C) (join : Item C → C → C) (gs xs : List (Item C)) → 0 < length gs + length xs → 0 < length (puts fresh join gs xs)
 unfolding puts
@@ -54,14 +55,15 @@ underway-or-record Kind.Record e = refl
 underway-or-record Kind.Waiting e = refl
 underway-or-record Kind.Started e = refl
 
-order-some : (xs : List (Item (List ℕ))) → All Stored xs → 0 < length xs → 0 < length (inOrder xs)
+order-some : (xs : List (Item (List ℕ))) → All StoredItem xs → 0 < length xs → 0 < length (inOrder xs)
 unfolding inOrder only
 order-some [] h n = absurd (omega arith)
 order-some (x ∷ xs) h n =
     let k = x .rec .kind in
     rw length-append (go (isUnderway k) (isRecord k) (underway-or-record k (h .0 .kind)))
   where
-    go : (a b : Bool) → a || b ≡ true → 0 < length (cond a (x ∷ only isUnderway xs) (only isUnderway xs)) + length (cond b (x ∷ only isRecord xs) (only isRecord xs))
+    go : (a b : Bool) → a || b ≡ true
+        → 0 < length (cond a (x ∷ only isUnderway xs) (only isUnderway xs)) + length (cond b (x ∷ only isRecord xs) (only isRecord xs))
     go true b e = omega arith
     go false true e = omega arith
     go false false e = absurd (let z : _≡_ {A = ℕ} 0 1 = cc in omega arith)
@@ -106,18 +108,20 @@ next-writes r sdu small = either (isStarted (r .kind)) _ _ (continue-writes r sd
 longer : (l m : List Pdu) → Begins l → Begins (l ++ m)
 longer l m b = record { pdu = b .pdu; rest = b .rest ++ m; parts = ap (λ (x : List Pdu). x ++ m) (b .parts); real = b .real }
 
-send-writes : (xs : List (Item (List ℕ))) → All Stored xs → 0 < length xs → Begins (sendAll cellSdu blockWidth xs .pdus)
+send-writes : (xs : List (Item (List ℕ))) → All StoredItem xs → 0 < length xs → Begins (sendAll cellSdu blockWidth xs .pdus)
 unfolding sendAll turns readOff roomAfter
 send-writes [] h n = absurd (omega arith)
 send-writes (x ∷ xs) h n =
     longer _ _ (next-writes (x .rec) (cellSdu (x .load) (x .rec .bits)) (omega (arith, header-bounds (x .rec) (sendables (x ∷ xs) h .0 .legal) .1)))
 
 -- with something queued for a timeslot, a build of a sound memory writes a PDU of a record first
-pub build-writes : (ns : List ℕ) (rs : List Record) (s : List ℕ) (t : ℕ) → t < length ns → length rs ≡ perTimeslot * length ns → length s ≡ timeslotOctets * length ns → soundQueue ns rs s ≡ true
+pub build-writes : (ns : List ℕ) (rs : List Record) (s : List ℕ) (t : ℕ) → t < length ns → length rs ≡ perTimeslot * length ns
+    → length s ≡ timeslotOctets * length ns → soundQueue ns rs s ≡ true
     → 0 < getD ns t 0 → Begins (builtOf ns rs s t .pdus)
 unfolding builtOf builtFrom buildList mergedQueue
 build-writes ns rs s t inside places size sound some =
     let own : List (Item (List ℕ)) = queueOf (getD ns t 0) (drop (perTimeslot * t) rs) (drop (cellOctets * (perTimeslot * t)) s) in
     let stored = merged-stored ns rs s t inside places size sound in
-    let many = merge-some (always zeroCell) keep own (omega (arith, length-queue (getD ns t 0) (drop (perTimeslot * t) rs) (drop (cellOctets * (perTimeslot * t)) s))) in
-    send-writes (inOrder (mergeCells own)) (order-all Stored (mergeCells own) stored) (order-some (mergeCells own) stored many)
+    let many =
+    merge-some (always zeroCell) keep own (omega (arith, length-queue (getD ns t 0) (drop (perTimeslot * t) rs) (drop (cellOctets * (perTimeslot * t)) s))) in
+    send-writes (inOrder (mergeCells own)) (order-all StoredItem (mergeCells own) stored) (order-some (mergeCells own) stored many)

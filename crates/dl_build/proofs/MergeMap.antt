@@ -27,16 +27,19 @@ cells-map s zero xs = refl
 cells-map s (suc k) [] = ap₂ (λ (a b : List ℕ). a ++ b) (sym (source-none s noPlace (omega arith))) (cells-map s k [])
 cells-map s (suc k) (x ∷ xs) = ap (λ (b : List ℕ). sourceCell s (x .load) ++ b) (cells-map s k xs)
 
-pub counted-queue : (s : List ℕ) (i n : ℕ) (rs : List Record) → i + n ≤ perTimeslot → map (reload (cellFrom s)) (counted i n rs) ≡ queueOf n rs (drop (cellOctets * i) s)
+pub counted-queue : (s : List ℕ) (i n : ℕ) (rs : List Record) → i + n ≤ perTimeslot
+    → map (reload (cellFrom s)) (counted i n rs) ≡ queueOf n rs (drop (cellOctets * i) s)
 unfolding counted queueOf
 counted-queue s i zero rs h = refl
 counted-queue s i (suc n) rs h =
     let e : cellOctets * i + cellOctets ≡ cellOctets * suc i = omega arith in
     ap₂ (λ (c : List ℕ) (l : List (Item (List ℕ))). item (getD rs 0 emptyRecord) c ∷ l) (sym (source-place s i (omega arith)))
-    (counted-queue s (suc i) n (drop 1 rs) (omega arith) ∙ ap (queueOf n (drop 1 rs)) (sym (drop-drop cellOctets (cellOctets * i) s ∙ ap (λ (m : ℕ). drop m s) e)))
+    (counted-queue s (suc i) n (drop 1 rs) (omega arith) ∙ ap (queueOf n (drop 1 rs))
+    (sym (drop-drop cellOctets (cellOctets * i) s ∙ ap (λ (m : ℕ). drop m s) e)))
 
 -- a queue is that of its own places
-pub queue-part : (n : ℕ) (rs rs' : List Record) (s : List ℕ) → n ≤ perTimeslot → timeslotOctets ≤ length s → ((i : ℕ) → i < n → getD rs i emptyRecord ≡ getD rs' i emptyRecord)
+pub queue-part : (n : ℕ) (rs rs' : List Record) (s : List ℕ) → n ≤ perTimeslot → timeslotOctets ≤ length s
+    → ((i : ℕ) → i < n → getD rs i emptyRecord ≡ getD rs' i emptyRecord)
     → queueOf n rs (take timeslotOctets s) ≡ queueOf n rs' s
 queue-part n rs rs' s h b same =
     let whole : length (take timeslotOctets s) ≡ timeslotOctets = length-take-le timeslotOctets s b in

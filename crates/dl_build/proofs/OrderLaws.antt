@@ -1,26 +1,26 @@
 -- The order in which records are taken: the turns of its two loops, and what it keeps. Assumes nothing.
 use mathlib.Core.Path.{_≡_, refl, sym, ap, ap₂, _∙_}
 use mathlib.Core.Bool.{Bool, true, false, cond}
-use mathlib.Core.List.{List, [], _∷_, _++_, append-assoc, append-nil, map}
+use mathlib.Core.List.{List, [], _∷_, _++_, append-assoc, append-nil, map, map-append}
 use Prim.Native.Nat.{ℕ, zero, suc, _+_, _<_, _≤_}
 use native.Mathlib.Numerals.{add-one, one-add}
 use native.Mathlib.Omega.{arith}
-use lib.ListN.{length, getD, set, drop, replicate, length-append}
-use lib.Seq.{getD-drop}
-use Rattle.sizes.specs.Sizes.{perTimeslot, noPlace}
+use lib.Dec.{eqb}
+use lib.ListN.{length, getD, set, drop, length-append}
+use lib.Seq.{getD-drop, getD-set-same, getD-set-other}
+use borrow.Author.Tests.{eqb-true, eqb-false}
+use Rattle.lists.proofs.Every.{All, all-weaken, all-append}
+use Rattle.sizes.specs.Sizes.{perTimeslot}
 use Rattle.dl_record.specs.declared.Kind.{Kind}
 use Rattle.dl_record.specs.declared.Record.{Record}
 use Rattle.dl_record.specs.Record.{emptyRecord}
-use Rattle.dl_queue.specs.Queue.{Item, item, recordsOf}
+use Rattle.dl_queue.specs.Queue.{Item, item}
 use Rattle.dl_record.specs.Kind.{isRecord, isUnderway}
 use Rattle.dl_merge.specs.Merge.{only}
-use Rattle.dl_merge.specs.Places.{sourcesOf}
-use Rattle.dl_merge.proofs.MergeLaws.{All, all-weaken, only-all, only-pass, only-fail, only-map, reload}
-use Rattle.dl_merge.proofs.TurnLaws.{Holds, holds-as, holds-snoc}
-use Rattle.dl_send.specs.Progress.{listed}
+use Rattle.dl_merge.proofs.MergeLaws.{only-all, only-pass, only-fail, only-map, reload}
+use Rattle.dl_send.specs.Arrays.{listed, recordsAt}
 use Rattle.dl_send.proofs.ArrayLaws.{length-listed}
-use Rattle.dl_send.proofs.KeptLaws.{all-append}
-use Rattle.dl_build.specs.Build.{inOrder}
+use Rattle.dl_build.specs.Build.{inOrder, Takes}
 
 -- ---- the loops
 
@@ -34,8 +34,10 @@ listed-snoc (suc n) rs fs =
     (getD-drop 1 rs n emptyRecord ∙ ap (λ (j : ℕ). getD rs j emptyRecord) (one-add n)) (getD-drop 1 fs n 0 ∙ ap (λ (j : ℕ). getD fs j 0) (one-add n)))
 
 -- the list one longer, its last record as the code takes it out
-listed-more : (n : ℕ) (rs : List Record) (fs : List ℕ) (r : Record) → r ≡ getD rs n emptyRecord → listed (n + 1) rs fs ≡ listed n rs fs ++ item r (getD fs n 0) ∷ []
-listed-more n rs fs r is = ap (λ (m : ℕ). listed m rs fs) (add-one n) ∙ listed-snoc n rs fs ∙ ap (λ (x : Record). listed n rs fs ++ item x (getD fs n 0) ∷ []) (sym is)
+listed-more : (n : ℕ) (rs : List Record) (fs : List ℕ) (r : Record) → r ≡ getD rs n emptyRecord
+    → listed (n + 1) rs fs ≡ listed n rs fs ++ item r (getD fs n 0) ∷ []
+listed-more n rs fs r is =
+    ap (λ (m : ℕ). listed m rs fs) (add-one n) ∙ listed-snoc n rs fs ∙ ap (λ (x : Record). listed n rs fs ++ item x (getD fs n 0) ∷ []) (sym is)
 
 -- fewer records, fewer of each kind
 only-mono : (p : Kind → Bool) (i n : ℕ) (rs : List Record) (fs : List ℕ) → i ≤ n → length (only p (listed i rs fs)) ≤ length (only p (listed n rs fs))
@@ -57,15 +59,58 @@ only-mono p (suc i) (suc n) rs fs h = go (p (getD rs 0 emptyRecord .kind)) (only
 abbrev pub took : (Kind → Bool) → List (Item ℕ) → ℕ → List Record → List ℕ → List (Item ℕ)
 took p ys i rs fs = ys ++ only p (listed i rs fs)
 
-pub took-start : (p : Kind → Bool) (rs : List Record) (fs : List ℕ) → Holds (took p [] 0 rs fs) (replicate perTimeslot emptyRecord) (replicate perTimeslot noPlace) 0
-unfolding recordsOf sourcesOf only listed
-took-start p rs fs = record { recs = refl; srcs = refl; size = refl }
+-- what is written at k is not among the first k
+listed-set : (k : ℕ) (at from : List ℕ) (rs : List Record) (i f : ℕ) → listed k (recordsAt (set at k i) rs) (set from k f) ≡ listed k (recordsAt at rs) from
+unfolding listed
+listed-set zero at from rs i f = refl
+listed-set (suc k) [] [] rs i f = refl
+listed-set (suc k) [] (y ∷ from) rs i f = ap (_∷_ (item emptyRecord y)) (listed-set k [] from rs i f)
+listed-set (suc k) (x ∷ at) [] rs i f = ap (_∷_ (item (getD rs x emptyRecord) 0)) (listed-set k at [] rs i f)
+listed-set (suc k) (x ∷ at) (y ∷ from) rs i f = ap (_∷_ (item (getD rs x emptyRecord) y)) (listed-set k at from rs i f)
 
-pub took-none : (p : Kind → Bool) (ys : List (Item ℕ)) (rs : List Record) (fs : List ℕ) (out : List Record) (from : List ℕ) (k : ℕ) → Holds ys out from k → Holds (took p ys 0 rs fs) out from k
+record-set : (k : ℕ) (at : List ℕ) (rs : List Record) (i : ℕ) → k < length at → getD (recordsAt (set at k i) rs) k emptyRecord ≡ getD rs i emptyRecord
+record-set k [] rs i h = absurd (omega arith)
+record-set zero (x ∷ at) rs i h = refl
+record-set (suc k) (x ∷ at) rs i h = record-set k at rs i (omega arith)
+
+within-set : (k : ℕ) (at : List ℕ) (i : ℕ) → k < length at → i < perTimeslot → ((j : ℕ) → j < k → getD at j 0 < perTimeslot)
+    → (j : ℕ) → j < k + 1 → getD (set at k i) j 0 < perTimeslot
+within-set k at i h b w j l = go (eqb j k) refl
+  where
+    go : (t : Bool) → eqb j k ≡ t → getD (set at k i) j 0 < perTimeslot
+    go true e = let same : j ≡ k = eqb-true j k e in rw (ap (λ (q : ℕ). getD (set at k i) q 0) same ∙ getD-set-same at k i 0 h) b
+    go false e = let less : j < k = omega (arith, eqb-false j k e) in rw (getD-set-other at k j i 0 (λ q. omega arith)) (w j less)
+
+module _ (rs : List Record) (at from : List ℕ) (k : ℕ) where
+  -- another name for the list
+  takes-as : (xs ys : List (Item ℕ)) → xs ≡ ys → Takes rs at from k xs → Takes rs at from k ys
+  takes-as xs ys e h = record { items = h .items ∙ e; within = h .within }
+
+  pub takes-size : (xs : List (Item ℕ)) → Takes rs at from k xs → k ≡ length xs
+  takes-size xs h = sym (length-listed k (recordsAt at rs) from) ∙ ap length (h .items)
+
+  -- one more: the record that stands at i
+  takes-snoc : (xs : List (Item ℕ)) (i f : ℕ) (r : Record) → r ≡ getD rs i emptyRecord → k < length at → k < length from → i < perTimeslot
+      → Takes rs at from k xs
+      → Takes rs (set at k i) (set from k f) (k + 1) (xs ++ item r f ∷ [])
+  takes-snoc xs i f r is a b c h =
+      record {
+        items =
+            listed-more k (recordsAt (set at k i) rs) (set from k f) r (is ∙ sym (record-set k at rs i a))
+            ∙ ap₂ (λ (l : List (Item ℕ)) (g : ℕ). l ++ item r g ∷ []) (listed-set k at from rs i f ∙ h .items) (getD-set-same from k f 0 b);
+        within = within-set k at i a c (h .within);
+      }
+
+pub took-start : (p : Kind → Bool) (rs : List Record) (fs at from : List ℕ) → Takes rs at from 0 (took p [] 0 rs fs)
 unfolding only listed
-took-none p ys rs fs out from k h = holds-as ys (ys ++ []) out from k (sym (append-nil ys)) h
+took-start p rs fs at from = record { items = refl; within = λ i h. absurd (omega arith) }
 
-module _ (p : Kind → Bool) (ys : List (Item ℕ)) (rs : List Record) (fs : List ℕ) (i : ℕ) (out : List Record) (from : List ℕ) (k : ℕ) (r : Record)
+pub took-none : (p : Kind → Bool) (ys : List (Item ℕ)) (rs : List Record) (fs at from : List ℕ) (k : ℕ) → Takes rs at from k ys
+    → Takes rs at from k (took p ys 0 rs fs)
+unfolding only listed
+took-none p ys rs fs at from k h = takes-as rs at from k ys (ys ++ []) (sym (append-nil ys)) h
+
+module _ (p : Kind → Bool) (ys : List (Item ℕ)) (rs : List Record) (fs : List ℕ) (i : ℕ) (at from : List ℕ) (k : ℕ) (r : Record)
     (is : r ≡ getD rs i emptyRecord) where
   abbrev x : Item ℕ
   x = item r (getD fs i 0)
@@ -75,14 +120,15 @@ module _ (p : Kind → Bool) (ys : List (Item ℕ)) (rs : List Record) (fs : Lis
       ap (_++_ ys) (ap (only p) (listed-more i rs fs r is) ∙ only-pass p (listed i rs fs) x e)
       ∙ sym (append-assoc ys (only p (listed i rs fs)) (x ∷ []))
 
-  pub took-pass : k < perTimeslot → p (r .kind) ≡ true → Holds (took p ys i rs fs) out from k → Holds (took p ys (i + 1) rs fs) (set out k r) (set from k (getD fs i 0)) (k + 1)
-  took-pass b e h =
-      holds-as (took p ys i rs fs ++ x ∷ []) (took p ys (i + 1) rs fs) (set out k r) (set from k (getD fs i 0)) (k + 1) (sym (more e))
-      (holds-snoc (took p ys i rs fs) out from k r (getD fs i 0) b h)
+  pub took-pass : k < length at → k < length from → i < perTimeslot → p (r .kind) ≡ true → Takes rs at from k (took p ys i rs fs)
+      → Takes rs (set at k i) (set from k (getD fs i 0)) (k + 1) (took p ys (i + 1) rs fs)
+  took-pass a b c e h =
+      takes-as rs (set at k i) (set from k (getD fs i 0)) (k + 1) (took p ys i rs fs ++ x ∷ []) (took p ys (i + 1) rs fs) (sym (more e))
+      (takes-snoc rs at from k (took p ys i rs fs) i (getD fs i 0) r is a b c h)
 
-  pub took-fail : p (r .kind) ≡ false → Holds (took p ys i rs fs) out from k → Holds (took p ys (i + 1) rs fs) out from k
+  pub took-fail : p (r .kind) ≡ false → Takes rs at from k (took p ys i rs fs) → Takes rs at from k (took p ys (i + 1) rs fs)
   took-fail e h =
-      holds-as (took p ys i rs fs) (took p ys (i + 1) rs fs) out from k
+      takes-as rs at from k (took p ys i rs fs) (took p ys (i + 1) rs fs)
       (sym (ap (_++_ ys) (ap (only p) (listed-more i rs fs r is) ∙ only-fail p (listed i rs fs) x e))) h
 
 -- no record is both
@@ -98,7 +144,8 @@ unfolding only
 order-few [] = omega arith
 order-few {C} (x ∷ xs) = go (isUnderway (x .rec .kind)) refl (isRecord (x .rec .kind)) refl (order-few xs)
   where
-    go : (a : Bool) → isUnderway (x .rec .kind) ≡ a → (b : Bool) → isRecord (x .rec .kind) ≡ b → length (only isUnderway xs) + length (only isRecord xs) ≤ length xs
+    go : (a : Bool) → isUnderway (x .rec .kind) ≡ a → (b : Bool) → isRecord (x .rec .kind) ≡ b
+        → length (only isUnderway xs) + length (only isRecord xs) ≤ length xs
         → length (cond a (x ∷ only isUnderway xs) (only isUnderway xs)) + length (cond b (x ∷ only isRecord xs) (only isRecord xs)) ≤ suc (length xs)
     go true e true f ih = absurd (apart (x .rec .kind) e f)
     go true e false f ih = omega arith
@@ -136,10 +183,6 @@ unfolding inOrder
 order-all P xs h =
     all-append P (only isUnderway xs) (only isRecord xs) (all-weaken _ P (λ x q. q .0) (only isUnderway xs) (only-all P isUnderway xs h))
     (all-weaken _ P (λ x q. q .0) (only isRecord xs) (only-all P isRecord xs h))
-
-map-append : {A B : Type 0} (f : A → B) (xs ys : List A) → map f (xs ++ ys) ≡ map f xs ++ map f ys
-map-append f [] ys = refl
-map-append f (x ∷ xs) ys = ap (_∷_ (f x)) (map-append f xs ys)
 
 -- it looks at no load
 pub order-map : {C D : Type 0} (f : Record → C → D) (xs : List (Item C)) → map (reload f) (inOrder xs) ≡ inOrder (map (reload f) xs)

@@ -15,7 +15,7 @@ use Rattle.dl_queue.specs.Questions.{soundPlaces}
 use Rattle.dl_merge.specs.Merge.{only, mergeCells}
 use Rattle.dl_send.specs.declared.Progress.{Progress}
 use Rattle.dl_send.specs.Send.{Sent, sendAll, cellSdu, blockOf}
-use Rattle.dl_send.specs.Progress.{tagRow}
+use Rattle.dl_send.specs.Arrays.{listed, recordsAt, tagRow}
 
 -- "waiting and started records in queue order, then records"
 unfoldable pub inOrder : {C : Type 0} → List (Item C) → List (Item C)
@@ -34,6 +34,11 @@ unfoldable pub builtOf : List ℕ → List Record → List ℕ → ℕ → Sent 
 builtOf ns rs s t = builtFrom blockWidth (getD ns t 0) (drop (perTimeslot * t) rs) (drop (cellOctets * (perTimeslot * t)) s)
 
 -- ---- the contract
+
+-- a list of records as the code takes them: k of them, each by its place in an array, with the places that they come from
+pub record Takes (records : List Record) (at from : List ℕ) (k : ℕ) (xs : List (Item ℕ)) : Type 0 where
+  pub items : listed k (recordsAt at records) from ≡ xs
+  pub within : (i : ℕ) → i < k → getD at i 0 < perTimeslot
 
 -- a block of w bits in so many octets, and a timeslot, from place `first` on, whose records and cells are sound, n of them filled
 pub record CanBuild (octets w : ℕ) (store : List ℕ) (first n : ℕ) (records : List Record) : Type 0 where

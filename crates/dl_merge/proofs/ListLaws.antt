@@ -39,12 +39,6 @@ module _ {C : Type 0} where
   records-at (suc k) (y ∷ xs) zero d h b = refl
   records-at (suc k) (y ∷ xs) (suc i) d h b = records-at k xs i d (omega arith) (omega arith)
 
-pub length-sourcesOf : (k : ℕ) (xs : List (Item ℕ)) → length (sourcesOf k xs) ≡ k
-unfolding sourcesOf
-length-sourcesOf zero xs = refl
-length-sourcesOf (suc k) [] = ap suc (length-sourcesOf k [])
-length-sourcesOf (suc k) (x ∷ xs) = ap suc (length-sourcesOf k xs)
-
 pub sources-snoc : (k : ℕ) (xs : List (Item ℕ)) (x : Item ℕ) → length xs < k → sourcesOf k (xs ++ x ∷ []) ≡ set (sourcesOf k xs) (length xs) (x .load)
 unfolding sourcesOf
 sources-snoc zero xs x h = absurd (omega arith)
@@ -58,7 +52,8 @@ sources-none zero xs r = refl
 sources-none (suc k) [] r = refl
 sources-none (suc k) (y ∷ xs) r = ap (λ (l : List ℕ). y .load ∷ l) (sources-none k xs r)
 
-pub sources-keep : (k : ℕ) (xs : List (Item ℕ)) (i : ℕ) (r : Record) (d : Item ℕ) → i < length xs → sourcesOf k (set xs i (item r (getD xs i d .load))) ≡ sourcesOf k xs
+pub sources-keep : (k : ℕ) (xs : List (Item ℕ)) (i : ℕ) (r : Record) (d : Item ℕ) → i < length xs
+    → sourcesOf k (set xs i (item r (getD xs i d .load))) ≡ sourcesOf k xs
 unfolding sourcesOf
 sources-keep zero xs i r d h = refl
 sources-keep (suc k) [] i r d h = absurd (omega arith)
@@ -79,10 +74,12 @@ counted-snoc i (suc n) rs =
     let e : suc i + n ≡ i + suc n = omega arith in
     ap (λ (l : List (Item ℕ)). item (getD rs 0 emptyRecord) i ∷ l)
     (counted-snoc (suc i) n (drop 1 rs)
-    ∙ ap₂ (λ (r : Record) (m : ℕ). counted (suc i) n (drop 1 rs) ++ item r m ∷ []) (getD-drop 1 rs n emptyRecord ∙ ap (λ (j : ℕ). getD rs j emptyRecord) (one-add n)) e)
+    ∙ ap₂ (λ (r : Record) (m : ℕ). counted (suc i) n (drop 1 rs) ++ item r m ∷ [])
+    (getD-drop 1 rs n emptyRecord ∙ ap (λ (j : ℕ). getD rs j emptyRecord) (one-add n)) e)
 
 pub counted-more : (n : ℕ) (rs : List Record) → counted 0 (n + 1) rs ≡ counted 0 n rs ++ item (getD rs n emptyRecord) n ∷ []
-counted-more n rs = ap (λ (m : ℕ). counted 0 m rs) (add-one n) ∙ counted-snoc 0 n rs ∙ ap (λ (m : ℕ). counted 0 n rs ++ item (getD rs n emptyRecord) m ∷ []) (zero-add n)
+counted-more n rs =
+    ap (λ (m : ℕ). counted 0 m rs) (add-one n) ∙ counted-snoc 0 n rs ∙ ap (λ (m : ℕ). counted 0 n rs ++ item (getD rs n emptyRecord) m ∷ []) (zero-add n)
 
 -- fewer records, fewer of each kind
 pub only-mono : (p : Kind → Bool) (a i n : ℕ) (rs : List Record) → i ≤ n → length (only p (counted a i rs)) ≤ length (only p (counted a n rs))
@@ -95,6 +92,7 @@ only-mono p a (suc i) (suc n) rs h = go (p (getD rs 0 emptyRecord .kind)) (only-
     x = item (getD rs 0 emptyRecord) a
 
     go : (b : Bool) → length (only p (counted (suc a) i (drop 1 rs))) ≤ length (only p (counted (suc a) n (drop 1 rs)))
-        → length (cond b (x ∷ only p (counted (suc a) i (drop 1 rs))) (only p (counted (suc a) i (drop 1 rs)))) ≤ length (cond b (x ∷ only p (counted (suc a) n (drop 1 rs))) (only p (counted (suc a) n (drop 1 rs))))
+        → length (cond b (x ∷ only p (counted (suc a) i (drop 1 rs))) (only p (counted (suc a) i (drop 1 rs)))) ≤ length
+        (cond b (x ∷ only p (counted (suc a) n (drop 1 rs))) (only p (counted (suc a) n (drop 1 rs))))
     go true ih = omega arith
     go false ih = ih

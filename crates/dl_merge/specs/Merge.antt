@@ -21,12 +21,30 @@ orElse (OptU8.Of m) o = OptU8.Of m
 -- "A grant replaces the grant there; the marker is set only if there was none."
 abbrev pub withGrant : QueuedHeader → QueuedHeader → QueuedHeader
 withGrant g h =
-    record { «pos_of_grant» = h .«pos_of_grant»; «encryption_mode» = h .«encryption_mode»; «random_access_flag» = h .«random_access_flag»; «event_label» = h .«event_label»; «usage_marker» = orElse (h .«usage_marker») (g .«usage_marker»); «power_control_element» = h .«power_control_element»; «slot_granting_element» = g .«slot_granting_element»; «chan_alloc_element» = h .«chan_alloc_element» }
+    record {
+      «pos_of_grant» = h .«pos_of_grant»;
+      «encryption_mode» = h .«encryption_mode»;
+      «random_access_flag» = h .«random_access_flag»;
+      «event_label» = h .«event_label»;
+      «usage_marker» = orElse (h .«usage_marker») (g .«usage_marker»);
+      «power_control_element» = h .«power_control_element»;
+      «slot_granting_element» = g .«slot_granting_element»;
+      «chan_alloc_element» = h .«chan_alloc_element»;
+    }
 
 -- an ack sets the random-access flag
 abbrev pub withAck : QueuedHeader → QueuedHeader
 withAck h =
-    record { «pos_of_grant» = h .«pos_of_grant»; «encryption_mode» = h .«encryption_mode»; «random_access_flag» = 1; «event_label» = h .«event_label»; «usage_marker» = h .«usage_marker»; «power_control_element» = h .«power_control_element»; «slot_granting_element» = h .«slot_granting_element»; «chan_alloc_element» = h .«chan_alloc_element» }
+    record {
+      «pos_of_grant» = h .«pos_of_grant»;
+      «encryption_mode» = h .«encryption_mode»;
+      «random_access_flag» = 1;
+      «event_label» = h .«event_label»;
+      «usage_marker» = h .«usage_marker»;
+      «power_control_element» = h .«power_control_element»;
+      «slot_granting_element» = h .«slot_granting_element»;
+      «chan_alloc_element» = h .«chan_alloc_element»;
+    }
 
 abbrev pub joinedHeader : Kind → QueuedHeader → QueuedHeader → QueuedHeader
 joinedHeader Kind.Grant g h = withGrant g h
@@ -38,7 +56,15 @@ joinedHeader Kind.Started g h = h
 -- a record that a grant or ack g has joined
 abbrev pub joined : Record → Record → Record
 joined g r =
-    record { kind = r .kind; «address_kind» = r .«address_kind»; number = r .number; tag = r .tag; header = joinedHeader (g .kind) (g .header) (r .header); bits = r .bits; sent = r .sent }
+    record {
+      kind = r .kind;
+      «address_kind» = r .«address_kind»;
+      number = r .number;
+      tag = r .tag;
+      header = joinedHeader (g .kind) (g .header) (r .header);
+      bits = r .bits;
+      sent = r .sent;
+    }
 
 abbrev pub ackFlag : Kind → ℕ
 ackFlag Kind.Grant = 0
@@ -50,11 +76,19 @@ ackFlag Kind.Started = 0
 -- "a minimal one, without tag": the address, and the grant or the acknowledgement
 abbrev pub minimal : Record → Record
 minimal g =
-    record { kind = Kind.Record; «address_kind» = g .«address_kind»; number = g .number; tag = OptU16.Absent; header = grantHeader (ackFlag (g .kind)) (g .header .«usage_marker») (g .header .«slot_granting_element»); bits = 0; sent = 0 }
+    record {
+      kind = Kind.Record;
+      «address_kind» = g .«address_kind»;
+      number = g .number;
+      tag = OptU16.Absent;
+      header = grantHeader (ackFlag (g .kind)) (g .header .«usage_marker») (g .header .«slot_granting_element»);
+      bits = 0;
+      sent = 0;
+    }
 
 -- a record "with its number": only numbers are compared
-unfoldable pub takes : ℕ → Record → Bool
-takes m r = isRecord (r .kind) && eqb (r .number) m
+unfoldable pub takesNumber : ℕ → Record → Bool
+takesNumber m r = isRecord (r .kind) && eqb (r .number) m
 
 -- the items of these kinds, in order
 unfoldable pub only : {C : Type 0} → (Kind → Bool) → List (Item C) → List (Item C)
@@ -66,7 +100,8 @@ module _ {C : Type 0} (fresh : Item C → C) (join : Item C → C → C) where
   -- "each grant or ack goes to the first record .. With no such record a minimal one .. joins the end."
   unfoldable pub put : Item C → List (Item C) → List (Item C)
   put g [] = item (minimal (g .rec)) (fresh g) ∷ []
-  put g (x ∷ xs) = let rest : List (Item C) = put g xs in cond (takes (g .rec .number) (x .rec)) (item (joined (g .rec) (x .rec)) (join g (x .load)) ∷ xs) (x ∷ rest)
+  put g (x ∷ xs) =
+      let rest : List (Item C) = put g xs in cond (takesNumber (g .rec .number) (x .rec)) (item (joined (g .rec) (x .rec)) (join g (x .load)) ∷ xs) (x ∷ rest)
 
   -- "in queue order"
   unfoldable pub puts : List (Item C) → List (Item C) → List (Item C)

@@ -14,7 +14,7 @@ ghost use lib.ListN.{getD};
 ghost use Rattle.sizes.specs.Sizes.{perTimeslot};
 ghost use Rattle.dl_record.specs.Record.{emptyRecord};
 ghost use Rattle.dl_record.specs.Kind.{isGrantOrAck, isKept, isRecord};
-ghost use Rattle.dl_merge.specs.Merge.{orElse, withGrant, withAck, joinedHeader, joined, ackFlag, minimal, takes, only};
+ghost use Rattle.dl_merge.specs.Merge.{orElse, withGrant, withAck, joinedHeader, joined, ackFlag, minimal, takesNumber, only};
 ghost use Rattle.dl_merge.specs.Places.{counted, mergePlaces, mergedOf};
 
 // A timeslot's records with the places that they come from.
@@ -163,7 +163,7 @@ fn dl_make_minimal_resource(g: Record) -> Record
 
 // Whether a record takes a grant or ack with this number.
 fn takes_number(r: Record, number: u32) -> bool
-    ensures { λ b. ⌜ b ≡ takes number r ⌝ }
+    ensures { λ b. ⌜ b ≡ takesNumber number r ⌝ }
 {
     let k = r.kind;
     is_record(k) & (r.number == number)
@@ -177,8 +177,8 @@ fn dl_get_scheduled_resource_for_ssi(
 ) -> usize
     requires { ⌜ count ≤ perTimeslot ⌝ }
     ensures within { λ r. ⌜ r ≤ count ⌝ }
-    ensures before { λ r. ⌜ ((j : ℕ) → j < r → takes number (getD records j emptyRecord) ≡ false) ⌝ }
-    ensures found { λ r. ⌜ (r < count → takes number (getD records r emptyRecord) ≡ true) ⌝ }
+    ensures before { λ r. ⌜ ((j : ℕ) → j < r → takesNumber number (getD records j emptyRecord) ≡ false) ⌝ }
+    ensures found { λ r. ⌜ (r < count → takesNumber number (getD records r emptyRecord) ≡ true) ⌝ }
 {
     for i in 0..count {
         let r = records[i];
@@ -187,6 +187,21 @@ fn dl_get_scheduled_resource_for_ssi(
         }
     }
     count
+}
+
+// Is none of the first `n` records a grant or an ack? Then they are merged already.
+pub fn none_to_merge(records: [Record; PER_TIMESLOT], n: usize) -> bool
+    requires { ⌜ n ≤ perTimeslot ⌝ }
+    ensures { λ b. ⌜ (b ≡ true → (i : ℕ) → i < n → isGrantOrAck (getD records i emptyRecord .kind) ≡ false) ⌝ }
+{
+    for i in 0..n {
+        let r = records[i];
+        let kind = r.kind;
+        if is_grant_or_ack(kind) {
+            return false;
+        }
+    }
+    true
 }
 
 // What stays of the first `n` records when all grants and acks are taken out.

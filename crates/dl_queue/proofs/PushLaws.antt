@@ -28,11 +28,14 @@ pub rec-shift : (a : ℕ) (rs : List Record) (i : ℕ) → recAt (drop a rs) i �
 rec-shift a rs i = getD-drop a rs i emptyRecord
 
 pub cell-shift : (a : ℕ) (s : List ℕ) (i : ℕ) → cellAt (drop (cellOctets * a) s) i ≡ cellAt s (a + i)
-cell-shift a s i = let e : cellOctets * a + cellOctets * i ≡ cellOctets * (a + i) = omega arith in ap (take cellOctets) (drop-drop (cellOctets * i) (cellOctets * a) s ∙ ap (λ (n : ℕ). drop n s) e)
+cell-shift a s i =
+    let e : cellOctets * a + cellOctets * i ≡ cellOctets * (a + i) = omega arith in
+    ap (take cellOctets) (drop-drop (cellOctets * i) (cellOctets * a) s ∙ ap (λ (n : ℕ). drop n s) e)
 
 -- ---- a list of a timeslot by its places
 
-pub queue-agree : (n : ℕ) (rs rs' : List Record) (s s' : List ℕ) → ((i : ℕ) → i < n → recAt rs i ≡ recAt rs' i) → ((i : ℕ) → i < n → cellAt s i ≡ cellAt s' i) → queueOf n rs s ≡ queueOf n rs' s'
+pub queue-agree : (n : ℕ) (rs rs' : List Record) (s s' : List ℕ) → ((i : ℕ) → i < n → recAt rs i ≡ recAt rs' i) → ((i : ℕ) → i < n → cellAt s i ≡ cellAt s' i)
+    → queueOf n rs s ≡ queueOf n rs' s'
 unfolding queueOf
 queue-agree zero rs rs' s s' f g = refl
 queue-agree (suc n) rs rs' s s' f g =
@@ -80,7 +83,8 @@ unfolding queuesOf
 length-queues [] rs s = refl
 length-queues (n ∷ ns) rs s = ap suc (length-queues ns (drop perTimeslot rs) (drop timeslotOctets s))
 
-pub queues-at : (ns : List ℕ) (rs : List Record) (s : List ℕ) (u : ℕ) → u < length ns → getD (queuesOf ns rs s) u [] ≡ queueOf (getD ns u 0) (drop (perTimeslot * u) rs) (drop (cellOctets * (perTimeslot * u)) s)
+pub queues-at : (ns : List ℕ) (rs : List Record) (s : List ℕ) (u : ℕ) → u < length ns
+    → getD (queuesOf ns rs s) u [] ≡ queueOf (getD ns u 0) (drop (perTimeslot * u) rs) (drop (cellOctets * (perTimeslot * u)) s)
 unfolding queuesOf
 queues-at [] rs s u h = absurd (omega arith)
 queues-at (n ∷ ns) rs s zero h = refl
@@ -89,7 +93,8 @@ queues-at (n ∷ ns) rs s (suc u) h =
     let b : timeslotOctets + cellOctets * (perTimeslot * u) ≡ cellOctets * (perTimeslot * suc u) = omega arith in
     queues-at ns (drop perTimeslot rs) (drop timeslotOctets s) u (omega arith)
     ∙ ap₂ (λ (l : List Record) (m : List ℕ). queueOf (getD ns u 0) l m)
-    (drop-drop (perTimeslot * u) perTimeslot rs ∙ ap (λ (j : ℕ). drop j rs) a) (drop-drop (cellOctets * (perTimeslot * u)) timeslotOctets s ∙ ap (λ (j : ℕ). drop j s) b)
+    (drop-drop (perTimeslot * u) perTimeslot rs ∙ ap (λ (j : ℕ). drop j rs) a)
+    (drop-drop (cellOctets * (perTimeslot * u)) timeslotOctets s ∙ ap (λ (j : ℕ). drop j s) b)
 
 -- a record and its cell put behind the n of timeslot t: they join the end of its list, and no other list changes
 module _ (ns : List ℕ) (rs : List Record) (s : List ℕ) (t n : ℕ) (r : Record) (c : List ℕ)
@@ -109,21 +114,30 @@ module _ (ns : List ℕ) (rs : List Record) (s : List ℕ) (t n : ℕ) (r : Reco
 
   -- the first m places of timeslot u, none of them the one that is written
   queue-old : (u m : ℕ) → ((i : ℕ) → i < m → perTimeslot * u + i ≡ perTimeslot * t + n → ⊥)
-      → queueOf m (drop (perTimeslot * u) (set rs (perTimeslot * t + n) r)) (drop (cellOctets * (perTimeslot * u)) (paste s (cellOctets * (perTimeslot * t + n)) c cellOctets)) ≡ queueOf m (drop (perTimeslot * u) rs) (drop (cellOctets * (perTimeslot * u)) s)
+      → queueOf m (drop (perTimeslot * u) (set rs (perTimeslot * t + n) r))
+      (drop (cellOctets * (perTimeslot * u)) (paste s (cellOctets * (perTimeslot * t + n)) c cellOctets))
+      ≡ queueOf m (drop (perTimeslot * u) rs) (drop (cellOctets * (perTimeslot * u)) s)
   queue-old u m ne =
-      queue-agree m (drop (perTimeslot * u) (set rs (perTimeslot * t + n) r)) (drop (perTimeslot * u) rs) (drop (cellOctets * (perTimeslot * u)) (paste s (cellOctets * (perTimeslot * t + n)) c cellOctets)) (drop (cellOctets * (perTimeslot * u)) s)
+      queue-agree m (drop (perTimeslot * u) (set rs (perTimeslot * t + n) r)) (drop (perTimeslot * u) rs)
+      (drop (cellOctets * (perTimeslot * u)) (paste s (cellOctets * (perTimeslot * t + n)) c cellOctets)) (drop (cellOctets * (perTimeslot * u)) s)
       (λ i h. rec-shift (perTimeslot * u) (set rs (perTimeslot * t + n) r) i ∙ rec-old (perTimeslot * u + i) (ne i h) ∙ sym (rec-shift (perTimeslot * u) rs i))
-      (λ i h. cell-shift (perTimeslot * u) (paste s (cellOctets * (perTimeslot * t + n)) c cellOctets) i ∙ cell-old (perTimeslot * u + i) (ne i h) ∙ sym (cell-shift (perTimeslot * u) s i))
+      (λ i h. cell-shift (perTimeslot * u) (paste s (cellOctets * (perTimeslot * t + n)) c cellOctets) i ∙ cell-old (perTimeslot * u + i) (ne i h)
+      ∙ sym (cell-shift (perTimeslot * u) s i))
 
-  queue-new : queueOf (n + 1) (drop (perTimeslot * t) (set rs (perTimeslot * t + n) r)) (drop (cellOctets * (perTimeslot * t)) (paste s (cellOctets * (perTimeslot * t + n)) c cellOctets))
+  queue-new : queueOf (n + 1) (drop (perTimeslot * t) (set rs (perTimeslot * t + n) r))
+      (drop (cellOctets * (perTimeslot * t)) (paste s (cellOctets * (perTimeslot * t + n)) c cellOctets))
       ≡ queueOf n (drop (perTimeslot * t) rs) (drop (cellOctets * (perTimeslot * t)) s) ++ item r c ∷ []
   queue-new =
-      ap (λ (m : ℕ). queueOf m (drop (perTimeslot * t) (set rs (perTimeslot * t + n) r)) (drop (cellOctets * (perTimeslot * t)) (paste s (cellOctets * (perTimeslot * t + n)) c cellOctets))) (add-one n)
-      ∙ queue-snoc n (drop (perTimeslot * t) (set rs (perTimeslot * t + n) r)) (drop (cellOctets * (perTimeslot * t)) (paste s (cellOctets * (perTimeslot * t + n)) c cellOctets))
+      ap (λ (m : ℕ). queueOf m (drop (perTimeslot * t) (set rs (perTimeslot * t + n) r))
+      (drop (cellOctets * (perTimeslot * t)) (paste s (cellOctets * (perTimeslot * t + n)) c cellOctets))) (add-one n)
+      ∙ queue-snoc n (drop (perTimeslot * t) (set rs (perTimeslot * t + n) r))
+      (drop (cellOctets * (perTimeslot * t)) (paste s (cellOctets * (perTimeslot * t + n)) c cellOctets))
       ∙ ap₂ (λ (l : List (Item (List ℕ))) (x : Item (List ℕ)). l ++ x ∷ []) (queue-old t n (λ i h e. omega arith))
-      (ap₂ (λ (a : Record) (b : List ℕ). item a b) (rec-shift (perTimeslot * t) (set rs (perTimeslot * t + n) r) n ∙ rec-new) (cell-shift (perTimeslot * t) (paste s (cellOctets * (perTimeslot * t + n)) c cellOctets) n ∙ cell-new))
+      (ap₂ (λ (a : Record) (b : List ℕ). item a b) (rec-shift (perTimeslot * t) (set rs (perTimeslot * t + n) r) n ∙ rec-new)
+      (cell-shift (perTimeslot * t) (paste s (cellOctets * (perTimeslot * t + n)) c cellOctets) n ∙ cell-new))
 
-  pub queues-push : queuesOf (set ns t (n + 1)) (set rs (perTimeslot * t + n) r) (paste s (cellOctets * (perTimeslot * t + n)) c cellOctets) ≡ set (queuesOf ns rs s) t (getD (queuesOf ns rs s) t [] ++ item r c ∷ [])
+  pub queues-push : queuesOf (set ns t (n + 1)) (set rs (perTimeslot * t + n) r) (paste s (cellOctets * (perTimeslot * t + n)) c cellOctets)
+      ≡ set (queuesOf ns rs s) t (getD (queuesOf ns rs s) t [] ++ item r c ∷ [])
   queues-push = ext-getD [] after-lists wanted sizes (λ u h. at u (rw sizes-after at h) (eqb u t) refl)
     where
       ns' : List ℕ
@@ -141,15 +155,19 @@ module _ (ns : List ℕ) (rs : List Record) (s : List ℕ) (t n : ℕ) (r : Reco
       sizes : length after-lists ≡ length wanted
       sizes = sizes-after ∙ sym (length-set (queuesOf ns rs s) t (getD (queuesOf ns rs s) t [] ++ item r c ∷ []) ∙ length-queues ns rs s)
 
-      seen : (u : ℕ) → u < length ns → getD after-lists u [] ≡ queueOf (getD ns' u 0) (drop (perTimeslot * u) (set rs (perTimeslot * t + n) r)) (drop (cellOctets * (perTimeslot * u)) (paste s (cellOctets * (perTimeslot * t + n)) c cellOctets))
+      seen : (u : ℕ) → u < length ns → getD after-lists u []
+          ≡ queueOf (getD ns' u 0) (drop (perTimeslot * u) (set rs (perTimeslot * t + n) r))
+          (drop (cellOctets * (perTimeslot * u)) (paste s (cellOctets * (perTimeslot * t + n)) c cellOctets))
       seen u h = queues-at ns' (set rs (perTimeslot * t + n) r) (paste s (cellOctets * (perTimeslot * t + n)) c cellOctets) u (rw length-set h)
 
       here-list : getD after-lists t [] ≡ getD wanted t []
       here-list =
           seen t inside
-          ∙ ap (λ (m : ℕ). queueOf m (drop (perTimeslot * t) (set rs (perTimeslot * t + n) r)) (drop (cellOctets * (perTimeslot * t)) (paste s (cellOctets * (perTimeslot * t + n)) c cellOctets))) (getD-set-same ns t (n + 1) 0 inside)
+          ∙ ap (λ (m : ℕ). queueOf m (drop (perTimeslot * t) (set rs (perTimeslot * t + n) r))
+          (drop (cellOctets * (perTimeslot * t)) (paste s (cellOctets * (perTimeslot * t + n)) c cellOctets))) (getD-set-same ns t (n + 1) 0 inside)
           ∙ queue-new
-          ∙ ap (λ (l : List (Item (List ℕ))). l ++ item r c ∷ []) (sym (queues-at ns rs s t inside ∙ ap (λ (m : ℕ). queueOf m (drop (perTimeslot * t) rs) (drop (cellOctets * (perTimeslot * t)) s)) count))
+          ∙ ap (λ (l : List (Item (List ℕ))). l ++ item r c ∷ [])
+          (sym (queues-at ns rs s t inside ∙ ap (λ (m : ℕ). queueOf m (drop (perTimeslot * t) rs) (drop (cellOctets * (perTimeslot * t)) s)) count))
           ∙ sym (getD-set-same (queuesOf ns rs s) t (getD (queuesOf ns rs s) t [] ++ item r c ∷ []) [] (rw length-queues inside))
 
       at : (u : ℕ) → u < length ns → (b : Bool) → eqb u t ≡ b → getD after-lists u [] ≡ getD wanted u []
@@ -157,6 +175,7 @@ module _ (ns : List ℕ) (rs : List Record) (s : List ℕ) (t n : ℕ) (r : Reco
       at u h false e =
           let ne : u ≡ t → ⊥ = eqb-false u t e in
           seen u h
-          ∙ ap (λ (m : ℕ). queueOf m (drop (perTimeslot * u) (set rs (perTimeslot * t + n) r)) (drop (cellOctets * (perTimeslot * u)) (paste s (cellOctets * (perTimeslot * t + n)) c cellOctets))) (getD-set-other ns t u (n + 1) 0 ne)
+          ∙ ap (λ (m : ℕ). queueOf m (drop (perTimeslot * u) (set rs (perTimeslot * t + n) r))
+          (drop (cellOctets * (perTimeslot * u)) (paste s (cellOctets * (perTimeslot * t + n)) c cellOctets))) (getD-set-other ns t u (n + 1) 0 ne)
           ∙ queue-old u (getD ns u 0) (λ i b q. omega (arith, counts u h, b, q, ne))
           ∙ sym (queues-at ns rs s u h) ∙ sym (getD-set-other (queuesOf ns rs s) t u (getD (queuesOf ns rs s) t [] ++ item r c ∷ []) [] ne)

@@ -15,10 +15,10 @@ use Rattle.dl_record.proofs.RecordLaws.{empty-is}
 use Rattle.dl_record.specs.declared.Record.{Record}
 use Rattle.dl_record.specs.Record.{emptyRecord}
 use Rattle.dl_record.specs.Questions.{isEmpty}
-use Rattle.sdu_store.specs.Cells.{cleanPast}
-use Rattle.sdu_store.proofs.ZeroLaws.{zero-bitsOf}
-use Rattle.sdu_store.proofs.CellBits.{zero-list}
-use Rattle.sdu_store.proofs.OctetLaws.{Octets, octets-take, octets-drop}
+use Rattle.dl_sdu_store.specs.Cells.{cleanPast}
+use Rattle.dl_sdu_store.proofs.ZeroLaws.{zero-bitsOf}
+use Rattle.dl_sdu_store.proofs.CellBits.{zero-list}
+use Rattle.dl_sdu_store.proofs.OctetLaws.{Octets, octets-take, octets-drop}
 use Rattle.dl_queue.specs.Queue.{Queue, Item, zeroCell, queueOf, recordsOf, cellsOf, queuesOf, allRecords, allCells}
 use Rattle.dl_queue.specs.Questions.{soundPlace, soundPlaces, soundQueue}
 
@@ -32,7 +32,8 @@ first [] d k e = absurd (omega arith)
 first (x ∷ l) d k e = refl
 
 cells-first : (s : List ℕ) (k : ℕ) → take cellOctets s ++ take (cellOctets * k) (drop cellOctets s) ≡ take (cellOctets * suc k) s
-cells-first s k = let e : cellOctets + cellOctets * k ≡ cellOctets * suc k = omega arith in sym (take-add cellOctets (cellOctets * k) s) ∙ ap (λ (n : ℕ). take n s) e
+cells-first s k =
+    let e : cellOctets + cellOctets * k ≡ cellOctets * suc k = omega arith in sym (take-add cellOctets (cellOctets * k) s) ∙ ap (λ (n : ℕ). take n s) e
 
 tail-length : {A : Type 0} (l : List A) (k : ℕ) → suc k ≤ length l → k ≤ length (drop 1 l)
 tail-length l k e = rw length-drop (omega arith)
@@ -58,32 +59,41 @@ records-back zero zero rs s b l m h e = refl
 records-back zero (suc n) rs s b l m h e = absurd (omega arith)
 records-back (suc k) zero rs s b l m h e =
     let r : Record = getD rs 0 emptyRecord in
-    let p : soundPlace false r (take cellOctets s) ≡ true = and-left (soundPlace false r (take cellOctets s)) (soundPlaces k zero (drop 1 rs) (drop cellOctets s)) e in
-    let q : soundPlaces k zero (drop 1 rs) (drop cellOctets s) ≡ true = and-right (soundPlace false r (take cellOctets s)) (soundPlaces k zero (drop 1 rs) (drop cellOctets s)) e in
+    let p : soundPlace false r (take cellOctets s) ≡ true =
+    and-left (soundPlace false r (take cellOctets s)) (soundPlaces k zero (drop 1 rs) (drop cellOctets s)) e in
+    let q : soundPlaces k zero (drop 1 rs) (drop cellOctets s) ≡ true =
+    and-right (soundPlace false r (take cellOctets s)) (soundPlaces k zero (drop 1 rs) (drop cellOctets s)) e in
     ap₂ (λ (x : Record) (l : List Record). x ∷ l) (sym (empty-place r (take cellOctets s) (cell-length s k m) (octets-take cellOctets s h) p .0))
     (records-back k zero (drop 1 rs) (drop cellOctets s) (omega arith) (tail-length rs k l) (cells-length s k m) (octets-drop cellOctets s h) q)
     ∙ sym (first rs emptyRecord k l)
 records-back (suc k) (suc n) rs s b l m h e =
     let r : Record = getD rs 0 emptyRecord in
-    let q : soundPlaces k n (drop 1 rs) (drop cellOctets s) ≡ true = and-right (soundPlace true r (take cellOctets s)) (soundPlaces k n (drop 1 rs) (drop cellOctets s)) e in
-    ap (λ (l : List Record). r ∷ l) (records-back k n (drop 1 rs) (drop cellOctets s) (omega arith) (tail-length rs k l) (cells-length s k m) (octets-drop cellOctets s h) q)
+    let q : soundPlaces k n (drop 1 rs) (drop cellOctets s) ≡ true =
+    and-right (soundPlace true r (take cellOctets s)) (soundPlaces k n (drop 1 rs) (drop cellOctets s)) e in
+    ap (λ (l : List Record). r ∷ l) (records-back k n (drop 1 rs) (drop cellOctets s) (omega arith) (tail-length rs k l) (cells-length s k m)
+    (octets-drop cellOctets s h) q)
     ∙ sym (first rs emptyRecord k l)
 
-pub cells-back : (k n : ℕ) (rs : List Record) (s : List ℕ) → n ≤ k → cellOctets * k ≤ length s → Octets s → soundPlaces k n rs s ≡ true → cellsOf k (queueOf n rs s) ≡ take (cellOctets * k) s
+pub cells-back : (k n : ℕ) (rs : List Record) (s : List ℕ) → n ≤ k → cellOctets * k ≤ length s → Octets s → soundPlaces k n rs s ≡ true
+    → cellsOf k (queueOf n rs s) ≡ take (cellOctets * k) s
 unfolding cellsOf queueOf soundPlaces
 cells-back zero zero rs s b m h e = refl
 cells-back zero (suc n) rs s b m h e = absurd (omega arith)
 cells-back (suc k) zero rs s b m h e =
     let r : Record = getD rs 0 emptyRecord in
-    let p : soundPlace false r (take cellOctets s) ≡ true = and-left (soundPlace false r (take cellOctets s)) (soundPlaces k zero (drop 1 rs) (drop cellOctets s)) e in
-    let q : soundPlaces k zero (drop 1 rs) (drop cellOctets s) ≡ true = and-right (soundPlace false r (take cellOctets s)) (soundPlaces k zero (drop 1 rs) (drop cellOctets s)) e in
+    let p : soundPlace false r (take cellOctets s) ≡ true =
+    and-left (soundPlace false r (take cellOctets s)) (soundPlaces k zero (drop 1 rs) (drop cellOctets s)) e in
+    let q : soundPlaces k zero (drop 1 rs) (drop cellOctets s) ≡ true =
+    and-right (soundPlace false r (take cellOctets s)) (soundPlaces k zero (drop 1 rs) (drop cellOctets s)) e in
     ap₂ (λ (a b : List ℕ). a ++ b) (sym (empty-place r (take cellOctets s) (cell-length s k m) (octets-take cellOctets s h) p .1))
     (cells-back k zero (drop 1 rs) (drop cellOctets s) (omega arith) (cells-length s k m) (octets-drop cellOctets s h) q)
     ∙ cells-first s k
 cells-back (suc k) (suc n) rs s b m h e =
     let r : Record = getD rs 0 emptyRecord in
-    let q : soundPlaces k n (drop 1 rs) (drop cellOctets s) ≡ true = and-right (soundPlace true r (take cellOctets s)) (soundPlaces k n (drop 1 rs) (drop cellOctets s)) e in
-    ap (λ (b : List ℕ). take cellOctets s ++ b) (cells-back k n (drop 1 rs) (drop cellOctets s) (omega arith) (cells-length s k m) (octets-drop cellOctets s h) q)
+    let q : soundPlaces k n (drop 1 rs) (drop cellOctets s) ≡ true =
+    and-right (soundPlace true r (take cellOctets s)) (soundPlaces k n (drop 1 rs) (drop cellOctets s)) e in
+    ap (λ (b : List ℕ). take cellOctets s ++ b) (cells-back k n (drop 1 rs) (drop cellOctets s) (omega arith) (cells-length s k m)
+    (octets-drop cellOctets s h) q)
     ∙ cells-first s k
 
 pub length-queue : (n : ℕ) (rs : List Record) (s : List ℕ) → length (queueOf n rs s) ≡ n
@@ -106,14 +116,16 @@ unfolding queuesOf
 counts-back [] rs s = refl
 counts-back (n ∷ ns) rs s = ap₂ (λ (m : ℕ) (l : List ℕ). m ∷ l) (length-queue n rs s) (counts-back ns (drop perTimeslot rs) (drop timeslotOctets s))
 
-pub memory-records : (ns : List ℕ) (rs : List Record) (s : List ℕ) → length rs ≡ perTimeslot * length ns → length s ≡ timeslotOctets * length ns → Octets s → soundQueue ns rs s ≡ true
+pub memory-records : (ns : List ℕ) (rs : List Record) (s : List ℕ) → length rs ≡ perTimeslot * length ns → length s ≡ timeslotOctets * length ns → Octets s
+    → soundQueue ns rs s ≡ true
     → allRecords (queuesOf ns rs s) ≡ rs
 unfolding queuesOf allRecords
 memory-records [] rs s l m h e = nothing-left rs (omega arith)
 memory-records (n ∷ ns) rs s l m h e =
     let p = parts n ns rs s e in
     ap₂ (λ (a b : List Record). a ++ b) (records-back perTimeslot n rs s (leb-true n perTimeslot (p .0)) (omega arith) (omega arith) h (p .1))
-    (memory-records ns (drop perTimeslot rs) (drop timeslotOctets s) (rw length-drop (omega arith)) (rw length-drop (omega arith)) (octets-drop timeslotOctets s h) (p .2))
+    (memory-records ns (drop perTimeslot rs) (drop timeslotOctets s) (rw length-drop (omega arith)) (rw length-drop (omega arith))
+    (octets-drop timeslotOctets s h) (p .2))
     ∙ take-append-drop perTimeslot rs
 
 pub memory-cells : (ns : List ℕ) (rs : List Record) (s : List ℕ) → length s ≡ timeslotOctets * length ns → Octets s → soundQueue ns rs s ≡ true
@@ -148,10 +160,14 @@ module _ (ns ns' : List ℕ) (rs rs' : List Record) (s s' : List ℕ)
 
 -- so the lists determine the memory
 pub same-memory : (qs : List (List (Item (List ℕ)))) (q q' : Queue) (s s' : List ℕ)
-    → length (q .records) ≡ perTimeslot * length (q .counts) → length s ≡ timeslotOctets * length (q .counts) → length (q' .records) ≡ perTimeslot * length (q' .counts) → length s' ≡ timeslotOctets * length (q' .counts)
+    → length (q .records) ≡ perTimeslot * length (q .counts) → length s ≡ timeslotOctets * length (q .counts)
+    → length (q' .records) ≡ perTimeslot * length (q' .counts) → length s' ≡ timeslotOctets * length (q' .counts)
     → HoldsQueues qs q s → HoldsQueues qs q' s' → (q ≡ q') × (s ≡ s')
 same-memory qs q q' s s' l m l' m' h h' =
     let same : queuesOf (q .counts) (q .records) s ≡ queuesOf (q' .counts) (q' .records) s' = h .lists ∙ sym (h' .lists) in
     let counts = same-counts (q .counts) (q' .counts) (q .records) (q' .records) s s' l m (h .octets) (h .sound) l' m' (h' .octets) (h' .sound) same in
-    let records = same-records (q .counts) (q' .counts) (q .records) (q' .records) s s' l m (h .octets) (h .sound) l' m' (h' .octets) (h' .sound) same in
-    (λ i. record { counts = counts i; records = records i }, same-cells (q .counts) (q' .counts) (q .records) (q' .records) s s' l m (h .octets) (h .sound) l' m' (h' .octets) (h' .sound) same)
+    let records = same-records (q .counts) (q' .counts) (q .records) (q' .records) s s' l m (h .octets) (h .sound) l' m' (h' .octets) (h' .sound) same in (
+      λ i. record { counts = counts i; records = records i },
+      same-cells (q .counts) (q' .counts) (q .records) (q' .records) s s' l m (h .octets)
+          (h .sound) l' m' (h' .octets) (h' .sound) same,
+    )

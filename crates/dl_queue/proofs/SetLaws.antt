@@ -29,7 +29,7 @@ pub zero-size : length zeroCell ≡ cellOctets
 unfolding zeroCell
 zero-size = length-replicate {A = ℕ} cellOctets 0
 
-one-cell : (n : ℕ) → cellOctets + cellOctets * n ≡ cellOctets * suc n
+pub one-cell : (n : ℕ) → cellOctets + cellOctets * n ≡ cellOctets * suc n
 one-cell n = omega arith
 
 pub length-cells : (k : ℕ) (xs : List (Item (List ℕ))) → Cells xs → length (cellsOf k xs) ≡ cellOctets * k
@@ -63,29 +63,38 @@ module _ (ns : List ℕ) (rs : List Record) (s : List ℕ) (t : ℕ) (xs : List 
   cells-full = omega (arith, length-cells perTimeslot xs cells)
 
   pub rec-in : (i : ℕ) → i < perTimeslot → recAt (drop (perTimeslot * t) rs') i ≡ recAt (recordsOf perTimeslot xs) i
-  rec-in i h = rec-shift (perTimeslot * t) rs' i ∙ paste-inside emptyRecord rs (perTimeslot * t) (recordsOf perTimeslot xs) perTimeslot rec-full (omega arith) i h
+  rec-in i h =
+      rec-shift (perTimeslot * t) rs' i ∙ paste-inside emptyRecord rs (perTimeslot * t) (recordsOf perTimeslot xs) perTimeslot rec-full (omega arith) i h
 
   pub rec-out : (u i : ℕ) → (u ≡ t → ⊥) → i < perTimeslot → recAt (drop (perTimeslot * u) rs') i ≡ recAt (drop (perTimeslot * u) rs) i
   rec-out u i ne h =
       rec-shift (perTimeslot * u) rs' i
-      ∙ ⊎-elim (λ b. paste-before emptyRecord rs (perTimeslot * t) (recordsOf perTimeslot xs) perTimeslot rec-full (omega arith) (perTimeslot * u + i) (omega arith))
-      (λ b. paste-after emptyRecord rs (perTimeslot * t) (recordsOf perTimeslot xs) perTimeslot rec-full (omega arith) (perTimeslot * u + i) (omega (arith, b, ne))) (lt-or-le u t)
+      ∙ ⊎-elim (λ b. paste-before emptyRecord rs (perTimeslot * t) (recordsOf perTimeslot xs) perTimeslot rec-full (omega arith) (perTimeslot * u + i)
+      (omega arith))
+      (λ b. paste-after emptyRecord rs (perTimeslot * t) (recordsOf perTimeslot xs) perTimeslot rec-full (omega arith) (perTimeslot * u + i)
+      (omega (arith, b, ne))) (lt-or-le u t)
       ∙ sym (rec-shift (perTimeslot * u) rs i)
 
   pub cell-in : (i : ℕ) → i < perTimeslot → cellAt (drop (cellOctets * (perTimeslot * t)) s') i ≡ cellAt (cellsOf perTimeslot xs) i
   cell-in i h =
       let whole : length s' ≡ length s = length-paste s (cellOctets * (perTimeslot * t)) (cellsOf perTimeslot xs) timeslotOctets (omega arith) cells-full in
       cell-shift (perTimeslot * t) s' i
-      ∙ parts-agree cellOctets (cellOctets * (perTimeslot * t + i)) (cellOctets * i) s' (cellsOf perTimeslot xs) (omega (arith, whole)) (omega (arith, cells-full))
+      ∙ parts-agree cellOctets (cellOctets * (perTimeslot * t + i)) (cellOctets * i) s' (cellsOf perTimeslot xs) (omega (arith, whole))
+      (omega (arith, cells-full))
       (λ j l. let e : cellOctets * (perTimeslot * t + i) + j ≡ cellOctets * (perTimeslot * t) + (cellOctets * i + j) = omega arith in
-      ap (λ (m : ℕ). getD s' m 0) e ∙ paste-inside 0 s (cellOctets * (perTimeslot * t)) (cellsOf perTimeslot xs) timeslotOctets cells-full (omega arith) (cellOctets * i + j) (omega arith))
+      ap (λ (m : ℕ). getD s' m 0) e ∙ paste-inside 0 s (cellOctets * (perTimeslot * t)) (cellsOf perTimeslot xs) timeslotOctets cells-full (omega arith)
+      (cellOctets * i + j) (omega arith))
 
-  pub cell-out : (u i : ℕ) → (u ≡ t → ⊥) → i < perTimeslot → cellAt (drop (cellOctets * (perTimeslot * u)) s') i ≡ cellAt (drop (cellOctets * (perTimeslot * u)) s) i
+  pub cell-out : (u i : ℕ) → (u ≡ t → ⊥) → i < perTimeslot
+      → cellAt (drop (cellOctets * (perTimeslot * u)) s') i ≡ cellAt (drop (cellOctets * (perTimeslot * u)) s) i
   cell-out u i ne h =
       cell-shift (perTimeslot * u) s' i
-      ∙ part-agree cellOctets (cellOctets * (perTimeslot * u + i)) s' s (length-paste s (cellOctets * (perTimeslot * t)) (cellsOf perTimeslot xs) timeslotOctets (omega arith) cells-full)
-      (λ j l. ⊎-elim (λ b. paste-before 0 s (cellOctets * (perTimeslot * t)) (cellsOf perTimeslot xs) timeslotOctets cells-full (omega arith) (cellOctets * (perTimeslot * u + i) + j) (omega arith))
-      (λ b. paste-after 0 s (cellOctets * (perTimeslot * t)) (cellsOf perTimeslot xs) timeslotOctets cells-full (omega arith) (cellOctets * (perTimeslot * u + i) + j) (omega (arith, b, ne))) (lt-or-le u t))
+      ∙ part-agree cellOctets (cellOctets * (perTimeslot * u + i)) s' s
+      (length-paste s (cellOctets * (perTimeslot * t)) (cellsOf perTimeslot xs) timeslotOctets (omega arith) cells-full)
+      (λ j l. ⊎-elim (λ b. paste-before 0 s (cellOctets * (perTimeslot * t)) (cellsOf perTimeslot xs) timeslotOctets cells-full (omega arith)
+      (cellOctets * (perTimeslot * u + i) + j) (omega arith))
+      (λ b. paste-after 0 s (cellOctets * (perTimeslot * t)) (cellsOf perTimeslot xs) timeslotOctets cells-full (omega arith)
+      (cellOctets * (perTimeslot * u + i) + j) (omega (arith, b, ne))) (lt-or-le u t))
       ∙ sym (cell-shift (perTimeslot * u) s i)
 
   pub queues-set : queuesOf (set ns t (length xs)) rs' s' ≡ set (queuesOf ns rs s) t xs
@@ -113,7 +122,8 @@ module _ (ns : List ℕ) (rs : List Record) (s : List ℕ) (t : ℕ) (xs : List 
       here =
           seen t inside
           ∙ ap (λ (m : ℕ). queueOf m (drop (perTimeslot * t) rs') (drop (cellOctets * (perTimeslot * t)) s')) (getD-set-same ns t (length xs) 0 inside)
-          ∙ queue-agree (length xs) (drop (perTimeslot * t) rs') (recordsOf perTimeslot xs) (drop (cellOctets * (perTimeslot * t)) s') (cellsOf perTimeslot xs) (λ i h. rec-in i (omega arith)) (λ i h. cell-in i (omega arith))
+          ∙ queue-agree (length xs) (drop (perTimeslot * t) rs') (recordsOf perTimeslot xs) (drop (cellOctets * (perTimeslot * t)) s') (cellsOf perTimeslot xs)
+          (λ i h. rec-in i (omega arith)) (λ i h. cell-in i (omega arith))
           ∙ queue-back perTimeslot xs few cells
           ∙ sym (getD-set-same (queuesOf ns rs s) t xs [] (rw length-queues inside))
 
@@ -124,5 +134,6 @@ module _ (ns : List ℕ) (rs : List Record) (s : List ℕ) (t : ℕ) (xs : List 
           let few-there : getD ns u 0 ≤ perTimeslot = counts u h in
           seen u h
           ∙ ap (λ (m : ℕ). queueOf m (drop (perTimeslot * u) rs') (drop (cellOctets * (perTimeslot * u)) s')) (getD-set-other ns t u (length xs) 0 ne)
-          ∙ queue-agree (getD ns u 0) (drop (perTimeslot * u) rs') (drop (perTimeslot * u) rs) (drop (cellOctets * (perTimeslot * u)) s') (drop (cellOctets * (perTimeslot * u)) s) (λ i b. rec-out u i ne (omega arith)) (λ i b. cell-out u i ne (omega arith))
+          ∙ queue-agree (getD ns u 0) (drop (perTimeslot * u) rs') (drop (perTimeslot * u) rs) (drop (cellOctets * (perTimeslot * u)) s')
+          (drop (cellOctets * (perTimeslot * u)) s) (λ i b. rec-out u i ne (omega arith)) (λ i b. cell-out u i ne (omega arith))
           ∙ sym (queues-at ns rs s u h) ∙ sym (getD-set-other (queuesOf ns rs s) t u xs [] ne)

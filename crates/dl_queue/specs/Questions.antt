@@ -8,7 +8,7 @@ use Rattle.sizes.specs.Sizes.{perTimeslot, cellOctets, timeslotOctets}
 use Rattle.dl_record.specs.declared.Record.{Record}
 use Rattle.dl_record.specs.Record.{emptyRecord}
 use Rattle.dl_record.specs.Questions.{soundRecord, isEmpty}
-use Rattle.sdu_store.specs.Cells.{cleanPast}
+use Rattle.dl_sdu_store.specs.Cells.{cleanPast}
 use Rattle.dl_queue.specs.Queue.{Item}
 
 -- the record of a place: a sound one if the place is filled, else the empty one

@@ -8,12 +8,12 @@ ghost use Rattle.dl_queue.specs.Questions.{soundPlace};
 pub fn filled_is_sound(r: Record, cell: &[u8]) -> bool
     ensures { λ b. ⌜ b ≡ soundPlace true r (now (cell .entry)) ⌝ }
 {
-    record_sound::record_is_sound(r) & sdu_store::cell_is_clean(cell, r.bits)
+    dl_record_sound::record_is_sound(r) & dl_sdu_store::cell_is_clean(cell, r.bits)
 }
 
 // Question 1 for a place that is not filled, and its cell.
 pub fn unfilled_is_sound(r: Record, cell: &[u8]) -> bool
     ensures { λ b. ⌜ b ≡ soundPlace false r (now (cell .entry)) ⌝ }
 {
-    record_sound::record_is_empty(r) & sdu_store::cell_is_zero(cell)
+    dl_record_sound::record_is_empty(r) & dl_sdu_store::cell_is_zero(cell)
 }

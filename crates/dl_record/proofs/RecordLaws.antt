@@ -7,11 +7,11 @@ use Prim.Native.Nat.{ℕ, _*_, _≤_}
 use native.Mathlib.Omega.{arith}
 use lib.Dec.{eqb, leb}
 use borrow.Author.Tests.{leb-true, eqb-true}
+use Rattle.mac_pdus.proofs.LegalLaws.{is-absent, no-chan-alloc}
 use Rattle.sizes.specs.Sizes.{sduBits}
 use Rattle.optional.specs.declared.OptU8.{OptU8}
 use Rattle.optional.specs.declared.OptU16.{OptU16}
 use Rattle.optional.proofs.Tests.{and-left, and-right}
-use Rattle.mac_pdus.specs.declared.OptChanAlloc.{OptChanAlloc}
 use Rattle.mac_pdus.specs.Legal.{absentU8, absentU16, absentChanAlloc, fits, optFits, legalQueued, legalOffered}
 use Rattle.dl_record.specs.declared.Record.{Record}
 use Rattle.dl_record.specs.declared.QueuedHeader.{QueuedHeader}
@@ -19,20 +19,11 @@ use Rattle.dl_record.specs.declared.Kind.{Kind}
 use Rattle.dl_record.specs.Record.{emptyRecord, grantRecord, ackRecord, offeredRecord, resourceOf}
 use Rattle.dl_record.specs.Kind.{isGrant}
 use Rattle.dl_record.specs.Questions.{headerHoldsGrantOnly, holdsGrantOnly, isEmpty, legalAddress, presentSdu, soundAs, soundRecord}
-use Rattle.mac_pdus.proofs.Conjunctions.{false-not-true, and3, and4}
-use Rattle.dl_record.proofs.Tests.{and6}
+use Rattle.mac_pdus.proofs.Conjunctions.{false-not-true, and3, and4, and6}
 
 absent-tag : (t : OptU16) → absentU16 t ≡ true → t ≡ OptU16.Absent
 absent-tag OptU16.Absent e = refl
 absent-tag (OptU16.Of n) e = false-not-true e
-
-absent-octet : (o : OptU8) → absentU8 o ≡ true → o ≡ OptU8.Absent
-absent-octet OptU8.Absent e = refl
-absent-octet (OptU8.Of n) e = false-not-true e
-
-absent-chan : (m : OptChanAlloc) → absentChanAlloc m ≡ true → m ≡ OptChanAlloc.Absent
-absent-chan OptChanAlloc.Absent e = refl
-absent-chan (OptChanAlloc.Of c) e = false-not-true e
 
 grant-kind : (k : Kind) → isGrant k ≡ true → k ≡ Kind.Grant
 grant-kind Kind.Grant e = refl
@@ -45,9 +36,13 @@ pub empty-is : (r : Record) → isEmpty r ≡ true → r ≡ emptyRecord
 unfolding isEmpty holdsGrantOnly headerHoldsGrantOnly
 empty-is r e =
     let h = r .header in
-    let p = and6 (isGrant (r .kind)) (eqb (r .«address_kind») 0) (eqb (r .number) 0) (holdsGrantOnly r) (absentU8 (h .«slot_granting_element»)) (absentU8 (h .«usage_marker»)) e in
+    let p =
+    and6 (isGrant (r .kind)) (eqb (r .«address_kind») 0) (eqb (r .number) 0) (holdsGrantOnly r) (absentU8 (h .«slot_granting_element»))
+    (absentU8 (h .«usage_marker»)) e in
     let b = and4 (eqb (r .bits) 0) (eqb (r .sent) 0) (absentU16 (r .tag)) (headerHoldsGrantOnly h) (p .3) in
-    let q = and6 (eqb (h .«pos_of_grant») 0) (eqb (h .«encryption_mode») 0) (eqb (h .«random_access_flag») 0) (absentU16 (h .«event_label»)) (absentU8 (h .«power_control_element»)) (absentChanAlloc (h .«chan_alloc_element»)) (b .3) in
+    let q =
+    and6 (eqb (h .«pos_of_grant») 0) (eqb (h .«encryption_mode») 0) (eqb (h .«random_access_flag») 0) (absentU16 (h .«event_label»))
+    (absentU8 (h .«power_control_element»)) (absentChanAlloc (h .«chan_alloc_element»)) (b .3) in
     λ i. record {
       kind = grant-kind (r .kind) (p .0) i;
       «address_kind» = eqb-true (r .«address_kind») 0 (p .1) i;
@@ -58,10 +53,10 @@ empty-is r e =
         «encryption_mode» = eqb-true (h .«encryption_mode») 0 (q .1) i;
         «random_access_flag» = eqb-true (h .«random_access_flag») 0 (q .2) i;
         «event_label» = absent-tag (h .«event_label») (q .3) i;
-        «usage_marker» = absent-octet (h .«usage_marker») (p .5) i;
-        «power_control_element» = absent-octet (h .«power_control_element») (q .4) i;
-        «slot_granting_element» = absent-octet (h .«slot_granting_element») (p .4) i;
-        «chan_alloc_element» = absent-chan (h .«chan_alloc_element») (q .5) i;
+        «usage_marker» = is-absent (h .«usage_marker») (p .5) i;
+        «power_control_element» = is-absent (h .«power_control_element») (q .4) i;
+        «slot_granting_element» = is-absent (h .«slot_granting_element») (p .4) i;
+        «chan_alloc_element» = no-chan-alloc (h .«chan_alloc_element») (q .5) i;
       };
       bits = eqb-true (r .bits) 0 (b .0) i;
       sent = eqb-true (r .sent) 0 (b .1) i;
@@ -91,7 +86,8 @@ unfolding soundRecord
 sound-small r e = small-as (r .kind) r (and-right (legalAddress (r .«address_kind») (r .number)) (soundAs (r .kind) r) e)
 
 -- what is queued is sound: a grant and an ack to a legal address, a record that passes questions 5 to 7
-pub grant-sound : (k n octet : ℕ) (m : OptU8) → legalAddress k n ≡ true → fits 8 octet ≡ true → optFits 6 m ≡ true → soundRecord (grantRecord k n octet m) ≡ true
+pub grant-sound : (k n octet : ℕ) (m : OptU8) → legalAddress k n ≡ true → fits 8 octet ≡ true → optFits 6 m ≡ true
+    → soundRecord (grantRecord k n octet m) ≡ true
 unfolding soundRecord holdsGrantOnly headerHoldsGrantOnly
 grant-sound k n octet m a o w = rw (a, o, w)
 
@@ -99,7 +95,8 @@ pub ack-sound : (k n : ℕ) → legalAddress k n ≡ true → soundRecord (ackRe
 unfolding soundRecord holdsGrantOnly headerHoldsGrantOnly
 ack-sound k n a = rw a
 
-pub offered-sound : (k n : ℕ) (t : OptU16) (h : QueuedHeader) (b : ℕ) (s : List ℕ) → legalAddress k n ≡ true → legalOffered (resourceOf (offeredRecord k n t h b) 0 0) ≡ true → presentSdu b s ≡ true
+pub offered-sound : (k n : ℕ) (t : OptU16) (h : QueuedHeader) (b : ℕ) (s : List ℕ) → legalAddress k n ≡ true
+    → legalOffered (resourceOf (offeredRecord k n t h b) 0 0) ≡ true → presentSdu b s ≡ true
     → soundRecord (offeredRecord k n t h b) ≡ true
 unfolding soundRecord legalOffered presentSdu
 offered-sound k n t h b s a o p =

@@ -32,7 +32,9 @@ holdsGrantOnly r = eqb (r .bits) 0 && eqb (r .sent) 0 && absentU16 (r .tag) && h
 
 -- "A grant or ack holds only its address, a grant its octet and marker too"; "stored records passing 5–7, sent bits within the SDU and 0 unless started"
 abbrev pub soundAs : Kind → Record → Bool
-soundAs Kind.Grant r = holdsGrantOnly r && not (absentU8 (r .header .«slot_granting_element»)) && optFits 8 (r .header .«slot_granting_element») && optFits 6 (r .header .«usage_marker»)
+soundAs Kind.Grant r =
+    holdsGrantOnly r && not (absentU8 (r .header .«slot_granting_element»)) && optFits 8 (r .header .«slot_granting_element»)
+    && optFits 6 (r .header .«usage_marker»)
 soundAs Kind.Ack r = holdsGrantOnly r && absentU8 (r .header .«slot_granting_element») && absentU8 (r .header .«usage_marker»)
 soundAs Kind.Record r = legalQueued (resourceOf r 0 0) && leb (r .bits) sduBits && eqb (r .sent) 0
 soundAs Kind.Waiting r = legalQueued (resourceOf r 0 0) && leb (r .bits) sduBits && eqb (r .sent) 0
@@ -45,4 +47,5 @@ soundRecord r = legalAddress (r .«address_kind») (r .number) && soundAs (r .ki
 -- the record of a place that is not filled: the empty record, as a test
 unfoldable pub isEmpty : Record → Bool
 isEmpty r =
-    isGrant (r .kind) && eqb (r .«address_kind») 0 && eqb (r .number) 0 && holdsGrantOnly r && absentU8 (r .header .«slot_granting_element») && absentU8 (r .header .«usage_marker»)
+    isGrant (r .kind) && eqb (r .«address_kind») 0 && eqb (r .number) 0 && holdsGrantOnly r && absentU8 (r .header .«slot_granting_element»)
+    && absentU8 (r .header .«usage_marker»)

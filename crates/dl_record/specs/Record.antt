@@ -10,7 +10,17 @@ use Rattle.dl_record.specs.declared.QueuedHeader.{QueuedHeader}
 use Rattle.dl_record.specs.declared.Kind.{Kind}
 
 abbrev pub emptyHeader : QueuedHeader
-emptyHeader = record { «pos_of_grant» = 0; «encryption_mode» = 0; «random_access_flag» = 0; «event_label» = OptU16.Absent; «usage_marker» = OptU8.Absent; «power_control_element» = OptU8.Absent; «slot_granting_element» = OptU8.Absent; «chan_alloc_element» = OptChanAlloc.Absent }
+emptyHeader =
+    record {
+      «pos_of_grant» = 0;
+      «encryption_mode» = 0;
+      «random_access_flag» = 0;
+      «event_label» = OptU16.Absent;
+      «usage_marker» = OptU8.Absent;
+      «power_control_element» = OptU8.Absent;
+      «slot_granting_element» = OptU8.Absent;
+      «chan_alloc_element» = OptChanAlloc.Absent;
+    }
 
 -- "the empty record (kind grant, all else 0 or absent)"
 abbrev pub emptyRecord : Record
@@ -18,11 +28,22 @@ emptyRecord = record { kind = Kind.Grant; «address_kind» = 0; number = 0; tag 
 
 -- a header that holds nothing but a grant and a marker
 abbrev pub grantHeader : ℕ → OptU8 → OptU8 → QueuedHeader
-grantHeader flag marker grant = record { «pos_of_grant» = 0; «encryption_mode» = 0; «random_access_flag» = flag; «event_label» = OptU16.Absent; «usage_marker» = marker; «power_control_element» = OptU8.Absent; «slot_granting_element» = grant; «chan_alloc_element» = OptChanAlloc.Absent }
+grantHeader flag marker grant =
+    record {
+      «pos_of_grant» = 0;
+      «encryption_mode» = 0;
+      «random_access_flag» = flag;
+      «event_label» = OptU16.Absent;
+      «usage_marker» = marker;
+      «power_control_element» = OptU8.Absent;
+      «slot_granting_element» = grant;
+      «chan_alloc_element» = OptChanAlloc.Absent;
+    }
 
 -- "A grant or ack holds only its address, a grant its octet and marker too."
 abbrev pub grantRecord : ℕ → ℕ → ℕ → OptU8 → Record
-grantRecord kind n octet marker = record { kind = Kind.Grant; «address_kind» = kind; number = n; tag = OptU16.Absent; header = grantHeader 0 marker (OptU8.Of octet); bits = 0; sent = 0 }
+grantRecord kind n octet marker =
+    record { kind = Kind.Grant; «address_kind» = kind; number = n; tag = OptU16.Absent; header = grantHeader 0 marker (OptU8.Of octet); bits = 0; sent = 0 }
 
 abbrev pub ackRecord : ℕ → ℕ → Record
 ackRecord kind n = record { kind = Kind.Ack; «address_kind» = kind; number = n; tag = OptU16.Absent; header = emptyHeader; bits = 0; sent = 0 }

@@ -61,13 +61,6 @@ impl Record {
     };
 }
 
-// The record of a place that is not filled.
-pub fn empty() -> Record
-    ensures { λ r. ⌜ r ≡ emptyRecord ⌝ }
-{
-    Record::EMPTY
-}
-
 // A grant as it is queued: its address, its octet and its marker.
 pub fn grant_record(kind: u8, number: u32, grant: u8, marker: OptU8) -> Record
     ensures { λ r. ⌜ r ≡ grantRecord kind number grant marker ⌝ }
@@ -172,12 +165,26 @@ pub fn address_is_legal(kind: u8, number: u32) -> bool
     (kind <= 2) & (number < 16777216)
 }
 
-// Question 6 for a stored record.
+// Question 6 for a stored record. Every call asks it of every record, so it is asked field by field and no header is made: with an
+// address, which each record has, encryption is 0, and without a label any marker goes.
 pub fn header_is_legal(r: Record) -> bool
     ensures { λ b. ⌜ b ≡ legalQueued (resourceOf r 0 0) ⌝ }
 {
-    let stored = resource_of(r, 0, 0);
-    mac_legal::legal_queued(stored)
+    let h = r.header;
+    let label = h.event_label;
+    let marker = h.usage_marker;
+    let power = h.power_control_element;
+    let grant = h.slot_granting_element;
+    let alloc = h.chan_alloc_element;
+    (h.pos_of_grant < 2)
+        & (h.encryption_mode == 0)
+        & (h.random_access_flag < 2)
+        & (r.number < 16777216)
+        & mac_legal::absent_u16(label)
+        & mac_legal::opt_below(64, marker)
+        & mac_legal::opt_below(16, power)
+        & mac_legal::opt_below(256, grant)
+        & mac_legal::legal_opt_chan_alloc(alloc)
 }
 
 // Question 6 for a record offered to the queue.

@@ -4,20 +4,21 @@ use mathlib.Core.List.{List, [], _∷_, _++_, append-nil}
 use Prim.Native.Nat.{ℕ, zero, suc, _+_, _<_, _≤_}
 use native.Mathlib.Numerals.{add-one, one-add}
 use native.Mathlib.Omega.{arith}
-use lib.ListN.{length, getD, set, drop, length-append, drop-of-length-le}
+use lib.ListN.{length, getD, set, drop, length-append, drop-of-length-le, length-map, List·getD-map}
 use lib.Seq.{getD-drop}
 use Rattle.sizes.specs.Sizes.{noPlace}
 use Rattle.optional.specs.declared.OptU16.{OptU16}
 use Rattle.dl_record.specs.declared.Record.{Record}
 use Rattle.dl_record.specs.Record.{emptyRecord}
 use Rattle.dl_queue.specs.Queue.{Item, item, recordsOf}
+use Rattle.lists.proofs.Lists.{getD-any}
 use Rattle.dl_merge.specs.Places.{sourcesOf}
 use Rattle.dl_merge.proofs.ListLaws.{records-snoc, sources-snoc}
 use Rattle.bs_frag.specs.NextPdu.{Sendable}
-use Rattle.bs_frag.specs.declared.Outcome.{Outcome}
-use Rattle.bs_frag.specs.declared.Outcome.the-variants.{Finished, Waiting, Started}
-use Rattle.dl_send.specs.Send.{kept, tagsOf}
-use Rattle.dl_send.specs.Progress.{listed, tagRow, staysIn, stayedAs, stayedFrom, firstTag, AllSendable}
+use Rattle.bs_frag.specs.declared.ChunkOutcome.{ChunkOutcome}
+use Rattle.bs_frag.specs.declared.ChunkOutcome.the-variants.{Finished, Waiting, Started}
+use Rattle.dl_send.specs.Send.{staying, tagsOf}
+use Rattle.dl_send.specs.Arrays.{listed, recordsAt, tagRow, staysIn, stayedAs, stayedFrom, firstTag, AllSendable}
 
 -- ---- the list that the arrays hold
 
@@ -45,6 +46,13 @@ listed-next n rs fs i h =
 
 pub listed-end : (n : ℕ) (rs : List Record) (fs : List ℕ) (i : ℕ) → n ≤ i → drop i (listed n rs fs) ≡ []
 listed-end n rs fs i h = drop-of-length-le (listed n rs fs) {i = i} (rw (length-listed n rs fs) h)
+
+-- the record at the i-th of these places, as the code takes it out
+pub record-at : (places : List ℕ) (rs : List Record) (i : ℕ) (d : Record) → i < length places → getD places i 0 < length rs
+    → getD rs (getD places i 0) d ≡ getD (recordsAt places rs) i emptyRecord
+record-at places rs i d h k =
+    getD-any rs (getD places i 0) d emptyRecord k ∙ sym (List·getD-map (λ (p : ℕ). getD rs p emptyRecord) places i 0)
+    ∙ getD-any (recordsAt places rs) i (getD rs 0 emptyRecord) emptyRecord (rw length-map h)
 
 all-at : (l : List (Item ℕ)) (i : ℕ) (x : Item ℕ) (rest : List (Item ℕ)) → AllSendable l → drop i l ≡ x ∷ rest → Sendable (x .rec)
 unfolding AllSendable
@@ -82,24 +90,24 @@ tags-snoc zero ts t h = absurd (omega arith)
 tags-snoc (suc k) [] t h = refl
 tags-snoc (suc k) (x ∷ ts) t h = ap (_∷_ x) (tags-snoc k ts t (omega arith))
 
-pub records-step : (k : ℕ) (xs : List (Item ℕ)) (o : Outcome) (x : Item ℕ) → length xs < k
-    → set (recordsOf k xs) (length xs) (stayedAs o (x .rec)) ≡ recordsOf k (xs ++ kept o x)
+pub records-step : (k : ℕ) (xs : List (Item ℕ)) (o : ChunkOutcome) (x : Item ℕ) → length xs < k
+    → set (recordsOf k xs) (length xs) (stayedAs o (x .rec)) ≡ recordsOf k (xs ++ staying o x)
 records-step k xs Finished x h = records-blank k xs ∙ ap (recordsOf k) (sym (append-nil xs))
 records-step k xs Waiting x h = sym (records-snoc k xs (item (stayedAs Waiting (x .rec)) (x .load)) h)
 records-step k xs (Started n) x h = sym (records-snoc k xs (item (stayedAs (Started n) (x .rec)) (x .load)) h)
 
-pub sources-step : (k : ℕ) (xs : List (Item ℕ)) (o : Outcome) (x : Item ℕ) → length xs < k
-    → set (sourcesOf k xs) (length xs) (stayedFrom o (x .load)) ≡ sourcesOf k (xs ++ kept o x)
+pub sources-step : (k : ℕ) (xs : List (Item ℕ)) (o : ChunkOutcome) (x : Item ℕ) → length xs < k
+    → set (sourcesOf k xs) (length xs) (stayedFrom o (x .load)) ≡ sourcesOf k (xs ++ staying o x)
 sources-step k xs Finished x h = sources-blank k xs ∙ ap (sourcesOf k) (sym (append-nil xs))
 sources-step k xs Waiting x h = sym (sources-snoc k xs (item (stayedAs Waiting (x .rec)) (x .load)) h)
 sources-step k xs (Started n) x h = sym (sources-snoc k xs (item (stayedAs (Started n) (x .rec)) (x .load)) h)
 
-pub length-step : (xs : List (Item ℕ)) (o : Outcome) (x : Item ℕ) → length (xs ++ kept o x) ≡ length xs + staysIn o
+pub length-step : (xs : List (Item ℕ)) (o : ChunkOutcome) (x : Item ℕ) → length (xs ++ staying o x) ≡ length xs + staysIn o
 length-step xs Finished x = length-append xs []
-length-step xs Waiting x = length-append xs (kept Waiting x)
-length-step xs (Started n) x = length-append xs (kept (Started n) x)
+length-step xs Waiting x = length-append xs (staying Waiting x)
+length-step xs (Started n) x = length-append xs (staying (Started n) x)
 
-pub stays-most : (o : Outcome) → staysIn o ≤ 1
+pub stays-most : (o : ChunkOutcome) → staysIn o ≤ 1
 stays-most Finished = omega arith
 stays-most Waiting = omega arith
 stays-most (Started n) = omega arith
@@ -107,7 +115,8 @@ stays-most (Started n) = omega arith
 tags-same : (k : ℕ) (ts : List ℕ) → set (tagRow k ts) (length ts) 0 ≡ tagRow k (ts ++ [])
 tags-same k ts = tags-blank k ts ∙ ap (tagRow k) (sym (append-nil ts))
 
-pub tags-step : (k : ℕ) (ts : List ℕ) (o : Outcome) (t : OptU16) → length ts < k → set (tagRow k ts) (length ts) (firstTag (tagsOf o t)) ≡ tagRow k (ts ++ tagsOf o t)
+pub tags-step : (k : ℕ) (ts : List ℕ) (o : ChunkOutcome) (t : OptU16) → length ts < k
+    → set (tagRow k ts) (length ts) (firstTag (tagsOf o t)) ≡ tagRow k (ts ++ tagsOf o t)
 tags-step k ts Finished OptU16.Absent h = tags-same k ts
 tags-step k ts Finished (OptU16.Of t) h = tags-snoc k ts t h
 tags-step k ts Waiting t h = tags-same k ts

@@ -3,8 +3,9 @@ use mathlib.Core.Path.{_≡_, refl, ap, _∙_}
 use mathlib.Core.List.{List, [], _∷_, _++_, append-nil}
 use Prim.Native.Nat.{ℕ, zero, suc, _+_, _-_}
 use native.Mathlib.Omega.{arith}
-use lib.ListN.{length, take, replicate, length-append}
+use lib.ListN.{length, take, length-append}
 use lib.Seq.{take-at}
+use Rattle.bitbuffer.proofs.Octets.{zeros-are-bits}
 use Rattle.bitbuffer.specs.Bits.{valueBits, AreBits}
 use Rattle.bitbuffer.proofs.Laws.{bits-valueBits, bits-append}
 use Rattle.fillbits.specs.Fill.{fillBits, fromLastSet}
@@ -15,7 +16,8 @@ use Rattle.mac_pdus.specs.declared.ChanAllocElement.{ChanAllocElement}
 use Rattle.mac_pdus.specs.declared.OptChanAlloc.{OptChanAlloc}
 use Rattle.mac_pdus.specs.declared.ResourceHeader.{ResourceHeader}
 use Rattle.mac_pdus.specs.declared.PduHeader.{PduHeader}
-use Rattle.mac_pdus.specs.Headers.{optBits, addressType, addressBits, frame18Bits, chanAllocBits, optChanAllocBits, fixedBits, elementsBits, resourceBits, fragBits, endBits, headerBits}
+use Rattle.mac_pdus.specs.Headers.{optBits, addressType, addressBits, frame18Bits, chanAllocBits, optChanAllocBits, fixedBits, elementsBits, resourceBits}
+use Rattle.mac_pdus.specs.Headers.{fragBits, endBits, headerBits}
 use Rattle.mac_reader.specs.PduList.{Pdu, header, body, pduBits, blockBits}
 use Rattle.bs_frag.specs.NextPdu.{fillFlag}
 use Rattle.dl_send.specs.Carried.{unfilled}
@@ -76,18 +78,15 @@ resource-bits : (r : ResourceHeader) → AreBits (resourceBits r)
 unfolding resourceBits
 resource-bits r =
     bits-append _ _ (fixed-bits (r .«fill_bits») (r .«pos_of_grant») (r .«encryption_mode») (r .«random_access_flag») (r .«length_ind»))
-    (bits-append _ _ (address-bits (r .address)) (elements-bits (addressType (r .address)) (r .«power_control_element») (r .«slot_granting_element») (r .«chan_alloc_element»)))
+    (bits-append _ _ (address-bits (r .address)) (elements-bits (addressType (r .address)) (r .«power_control_element») (r .«slot_granting_element»)
+    (r .«chan_alloc_element»)))
 
 header-are-bits : (h : PduHeader) → AreBits (headerBits h)
 unfolding headerBits fragBits endBits
 header-are-bits (PduHeader.Resource r) = resource-bits r
 header-are-bits (PduHeader.Frag f) = more 2 1 _ (two 1 0 1 (f .«fill_bits»))
-header-are-bits (PduHeader.End e) = more 2 1 _ (more 1 1 _ (more 1 (e .«fill_bits») _ (more 1 (e .«pos_of_grant») _ (more 6 (e .«length_ind») _ (two 1 0 1 0)))))
-
-pub zeros-are-bits : (n : ℕ) → AreBits (replicate n 0)
-unfolding AreBits
-zeros-are-bits zero = tt
-zeros-are-bits (suc n) = (omega arith, zeros-are-bits n)
+header-are-bits (PduHeader.End e) =
+    more 2 1 _ (more 1 1 _ (more 1 (e .«fill_bits») _ (more 1 (e .«pos_of_grant») _ (more 6 (e .«length_ind») _ (two 1 0 1 0)))))
 
 fill-are-bits : (k : ℕ) → AreBits (fillBits k)
 unfolding fillBits AreBits

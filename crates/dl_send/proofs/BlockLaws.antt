@@ -3,27 +3,27 @@ use mathlib.Core.Path.{_≡_, refl, sym, ap, ap₂, _∙_, subst}
 use mathlib.Core.Bool.{Bool, true, false, cond}
 use mathlib.Core.Logic.{inl}
 use mathlib.Core.List.{List, [], _∷_, _++_}
-use Prim.Native.Nat.{ℕ, zero, suc, _+_, _-_, _*_, _<_, _≤_}
+use Prim.Native.Nat.{ℕ, _+_, _-_, _*_, _<_, _≤_}
 use native.Mathlib.Omega.{arith}
 use lib.Dec.{ltb}
 use lib.ListN.{length, replicate, length-append, length-replicate}
 use borrow.Author.Tests.{ltb-true, ltb-false}
+use Rattle.lists.proofs.Every.{All}
 use Rattle.sizes.specs.Sizes.{blockWidth, blockOctets}
-use Rattle.bitbuffer.specs.Bits.{bitsOf, packed, AreBits}
+use Rattle.bitbuffer.specs.Bits.{bitsOf, AreBits}
 use Rattle.bitbuffer.proofs.Laws.{bits-append}
-use Rattle.bitbuffer.proofs.Octets.{bitsOf-packed}
+use Rattle.bitbuffer.proofs.Octets.{bitsOf-packed, length-packed, zeros-are-bits}
 use Rattle.mac_reader.specs.PduList.{Pdu, null, body, blockBits, placed, Fits}
 use Rattle.mac_reader.specs.Reader.{headers, replyOf, readBlock}
 use Rattle.mac_reader.proofs.BlockRoundTrip.{block-reads-back}
 use Rattle.dl_record.specs.declared.Record.{Record}
 use Rattle.dl_queue.specs.Queue.{Item}
-use Rattle.dl_merge.proofs.MergeLaws.{All}
 use Rattle.dl_record.specs.Kind.{isStarted}
 use Rattle.bs_frag.specs.NextPdu.{headerSize, Next, next, Sendable}
 use Rattle.bs_frag.proofs.HeaderLaws.{header-bounds}
 use Rattle.bs_frag.proofs.Laws.{begin-waits, continue-waits, next-later, next-first}
 use Rattle.dl_send.specs.Send.{Sent, nullIn, sendAll, blockOf, turns, readOff, roomAfter}
-use Rattle.dl_send.proofs.BitLaws.{no-bit, zeros-are-bits, one-is-bits}
+use Rattle.dl_send.proofs.BitLaws.{no-bit, one-is-bits}
 use Rattle.dl_send.proofs.SendLaws.{block-append, null-fits}
 use Rattle.dl_send.proofs.TurnLaws.{Aligned, next-turn}
 
@@ -44,9 +44,11 @@ no-room r sdu s = go (isStarted (r .kind)) refl
   where
     go : (b : Bool) → isStarted (r .kind) ≡ b → Nothing (next 0 r sdu)
     go true e =
-        subst Nothing (sym (next-later 0 r sdu e ∙ continue-waits 0 r sdu (r .bits - r .sent) refl (omega arith) (omega arith))) (record { pdus = refl; room = refl })
+        subst Nothing (sym (next-later 0 r sdu e ∙ continue-waits 0 r sdu (r .bits - r .sent) refl (omega arith) (omega arith)))
+        (record { pdus = refl; room = refl })
     go false e =
-        subst Nothing (sym (next-first 0 r sdu e ∙ begin-waits 0 r sdu (headerSize r) refl (omega (arith, header-bounds r (s .legal) .0)) (inl (omega arith)))) (record { pdus = refl; room = refl })
+        subst Nothing (sym (next-first 0 r sdu e ∙ begin-waits 0 r sdu (headerSize r) refl (omega (arith, header-bounds r (s .legal) .0)) (inl (omega arith))))
+        (record { pdus = refl; room = refl })
 
 module _ {C : Type 0} (sdu : C → ℕ → List ℕ) where
   pub nothing-left : (room : ℕ) (xs : List (Item C)) → All (Loaded sdu) xs → room ≡ 0 → sendAll sdu room xs .pdus ≡ []
@@ -80,7 +82,8 @@ pub record SentWell {C : Type 0} (w at room : ℕ) (s : Sent C) : Type 0 where
   pub fits : Fits w at (s .pdus)
   pub aligned : Aligned room → Aligned (s .room)
 
-pub sent-well : {C : Type 0} (sdu : C → ℕ → List ℕ) (w at room : ℕ) (xs : List (Item C)) → at + room ≡ w → w ≤ blockWidth → All (Loaded sdu) xs → SentWell w at room (sendAll sdu room xs)
+pub sent-well : {C : Type 0} (sdu : C → ℕ → List ℕ) (w at room : ℕ) (xs : List (Item C)) → at + room ≡ w → w ≤ blockWidth → All (Loaded sdu) xs
+    → SentWell w at room (sendAll sdu room xs)
 unfolding sendAll turns readOff roomAfter
 sent-well sdu w at room [] e width h = record { bits = null-bits (ltb room 16); size = null-fits room; fits = null-place w at room e; aligned = λ a. a }
 sent-well sdu w at room (x ∷ xs) e width h =
@@ -91,7 +94,15 @@ sent-well sdu w at room (x ∷ xs) e width h =
     let ih = sent-well sdu w at' (n .room) xs (omega (arith, t .size)) width (h .1) in
     record {
       bits = subst AreBits (sym (block-append (n .pdus) _)) (bits-append _ _ (t .bits) (ih .bits));
-      size = omega (arith, ap length (block-append (n .pdus) (sendAll sdu (n .room) xs .pdus)), length-append (blockBits (n .pdus)) (blockBits (sendAll sdu (n .room) xs .pdus)), t .size, ih .size);
+      size =
+          omega (
+            arith,
+            ap length (block-append (n .pdus) (sendAll sdu (n .room) xs .pdus)),
+            length-append (blockBits (n .pdus))
+                (blockBits (sendAll sdu (n .room) xs .pdus)),
+            t .size,
+            ih .size,
+          );
       fits = t .fits at _ e (nothing-left sdu (n .room) xs (h .1)) (ih .fits);
       aligned = λ a. ih .aligned (t .aligned a);
     }
@@ -100,18 +111,14 @@ sent-well sdu w at room (x ∷ xs) e width h =
 
 -- "the last four bits zero": a built block's bits are its PDUs' and then zeros
 pub built-bits : {C : Type 0} (sdu : C → ℕ → List ℕ) (n w : ℕ) (xs : List (Item C)) → w ≤ 8 * n → w ≤ blockWidth → All (Loaded sdu) xs
-    → bitsOf (blockOf n (blockBits (sendAll sdu w xs .pdus))) ≡ blockBits (sendAll sdu w xs .pdus) ++ replicate (8 * n - length (blockBits (sendAll sdu w xs .pdus))) 0
+    → bitsOf (blockOf n (blockBits (sendAll sdu w xs .pdus)))
+    ≡ blockBits (sendAll sdu w xs .pdus) ++ replicate (8 * n - length (blockBits (sendAll sdu w xs .pdus))) 0
 unfolding blockOf
 built-bits sdu n w xs inside width h =
     let g = sent-well sdu w 0 w xs (omega arith) width h in
     let f : List ℕ = blockBits (sendAll sdu w xs .pdus) in
     bitsOf-packed n (f ++ replicate (8 * n - length f) 0) (bits-append f _ (g .bits) (zeros-are-bits (8 * n - length f)))
     (length-append f (replicate (8 * n - length f) 0) ∙ omega (arith, length-replicate {A = ℕ} (8 * n - length f) 0, g .size))
-
-length-packed : (n : ℕ) (l : List ℕ) → length (packed n l) ≡ n
-unfolding packed
-length-packed zero l = refl
-length-packed (suc n) l = ap suc (length-packed n _)
 
 pub length-block : (n : ℕ) (f : List ℕ) → length (blockOf n f) ≡ n
 unfolding blockOf

@@ -7,4 +7,3 @@ pub mod BlockLaws
 pub mod OnceLaws
 pub mod KeptLaws
 pub mod MapLaws
-pub mod Cases

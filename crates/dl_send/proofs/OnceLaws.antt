@@ -4,15 +4,15 @@ use mathlib.Core.List.{List, [], _∷_, _++_, append-assoc, append-nil}
 use Prim.Native.Nat.{ℕ, _≤_}
 use native.Mathlib.Omega.{arith}
 use lib.ListN.{length, drop, drop-of-length-le}
+use Rattle.lists.proofs.Every.{All}
 use Rattle.sizes.specs.Sizes.{blockWidth}
 use Rattle.bitbuffer.specs.Bits.{AreBits}
-use Rattle.dl_merge.proofs.MergeLaws.{All}
 use Rattle.mac_reader.specs.PduList.{Pdu}
 use Rattle.dl_record.specs.declared.Kind.{Kind}
 use Rattle.dl_record.specs.declared.Record.{Record}
 use Rattle.bs_frag.specs.NextPdu.{Next, next, Sendable}
-use Rattle.bs_frag.specs.declared.Outcome.{Outcome}
-use Rattle.bs_frag.specs.declared.Outcome.the-variants.{Finished, Waiting, Started}
+use Rattle.bs_frag.specs.declared.ChunkOutcome.{ChunkOutcome}
+use Rattle.bs_frag.specs.declared.ChunkOutcome.the-variants.{Finished, Waiting, Started}
 use Rattle.dl_send.specs.Send.{again}
 use Rattle.dl_send.specs.Carried.{sduIn, carried, sentBy, over}
 use Rattle.dl_send.proofs.TurnLaws.{next-turn}
@@ -28,7 +28,7 @@ pub record Sendable-SDU (r : Record) (sdu : List ℕ) : Type 0 where
   pub bits : AreBits sdu
   pub size : length sdu ≡ r .bits
 
-sent-again : (o : Outcome) (k : Kind) (n : ℕ) (r : Record) → sentBy o (again k n r) ≡ sentBy o r
+sent-again : (o : ChunkOutcome) (k : Kind) (n : ℕ) (r : Record) → sentBy o (again k n r) ≡ sentBy o r
 sent-again Finished k n r = refl
 sent-again Waiting k n r = refl
 sent-again (Started m) k n r = refl
@@ -37,7 +37,8 @@ again-sendable : (k : Kind) (n : ℕ) (r : Record) → Sendable r → n ≤ r .b
 again-sendable k n r s h = record { legal = s .legal; bits = s .bits; sent = h }
 
 -- the SDU bits sent in any blocks, and those still to be sent, are what was to be sent
-pub each-once : (rooms : List ℕ) (o : Outcome) (r : Record) (sdu : List ℕ) → All (λ (room : ℕ). room ≤ blockWidth) rooms → Sendable-SDU r sdu → sentBy o r ≤ r .bits
+pub each-once : (rooms : List ℕ) (o : ChunkOutcome) (r : Record) (sdu : List ℕ) → All (λ (room : ℕ). room ≤ blockWidth) rooms → Sendable-SDU r sdu
+    → sentBy o r ≤ r .bits
     → carried (over rooms o r sdu .pdus) ++ drop (sentBy (over rooms o r sdu .outcome) r) sdu ≡ drop (sentBy o r) sdu
 unfolding over
 each-once [] o r sdu h s b = unfold carried in refl
@@ -62,10 +63,11 @@ each-once (room ∷ rooms) (Started n) r sdu h s b =
     ∙ t .once
 
 -- when a record is finished its PDUs carry its SDU
-pub finished-whole : (rooms : List ℕ) (r : Record) (sdu : List ℕ) → All (λ (room : ℕ). room ≤ blockWidth) rooms → Sendable-SDU r sdu → over rooms Waiting r sdu .outcome ≡ Finished
+pub finished-whole : (rooms : List ℕ) (r : Record) (sdu : List ℕ) → All (λ (room : ℕ). room ≤ blockWidth) rooms → Sendable-SDU r sdu
+    → over rooms Waiting r sdu .outcome ≡ Finished
     → carried (over rooms Waiting r sdu .pdus) ≡ sdu
 finished-whole rooms r sdu h s e =
     sym (append-nil (carried (over rooms Waiting r sdu .pdus)))
     ∙ ap (_++_ (carried (over rooms Waiting r sdu .pdus)))
-    (sym (drop-of-length-le sdu {i = r .bits} (omega (arith, s .size))) ∙ ap (λ (o : Outcome). drop (sentBy o r) sdu) (sym e))
+    (sym (drop-of-length-le sdu {i = r .bits} (omega (arith, s .size))) ∙ ap (λ (o : ChunkOutcome). drop (sentBy o r) sdu) (sym e))
     ∙ each-once rooms Waiting r sdu h s (omega arith)

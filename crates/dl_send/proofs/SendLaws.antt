@@ -5,28 +5,29 @@ use mathlib.Core.List.{List, [], _∷_, _++_, append-assoc, append-nil}
 use Prim.Native.Nat.{ℕ, zero, suc, _+_, _-_, _*_, _%_, _^_, _<_, _≤_}
 use native.Mathlib.Nat.{zero-add}
 use native.Mathlib.Omega.{arith}
-use lib.Dec.{ltb, leb}
+use lib.Dec.{ltb}
 use lib.ListN.{length, drop, getD, set, replicate, length-append, drop-of-length-le, length-replicate, replicate-append-replicate}
-use lib.Seq.{take-all, drop-at, paste}
-use borrow.Author.Tests.{lt-ltb, le-ltb, ltb-true, ltb-false, leb-true, leb-false}
+use lib.Seq.{take-all, paste}
+use borrow.Author.Tests.{lt-ltb, le-ltb, ltb-true, ltb-false}
+use Rattle.lists.proofs.Lists.{drop-replicate}
+use Rattle.mac_pdus.proofs.ShortHeaders.{null-size}
 use Rattle.sizes.specs.Sizes.{perTimeslot, noPlace}
 use Rattle.bitbuffer.specs.Bits.{bitsOf, written, packed}
 use Rattle.bitbuffer.proofs.Chunks.{valueBits-zero}
 use Rattle.bitbuffer.proofs.Laws.{written-append, length-bitsOf, written-eq}
 use Rattle.bitbuffer.proofs.Octets.{packed-bitsOf}
-use Rattle.mac_pdus.specs.Headers.{addressType, resourceBits, nullHeader, headerBits, headerLength}
-use Rattle.mac_pdus.proofs.LengthLaws.{header-size}
+use Rattle.mac_pdus.specs.Headers.{resourceBits, nullHeader, headerBits}
 use Rattle.mac_reader.specs.PduList.{Pdu, null, header, body, pduBits, blockBits}
 use Rattle.dl_record.specs.declared.Record.{Record}
 use Rattle.dl_record.specs.Record.{emptyRecord}
 use Rattle.dl_queue.specs.Queue.{Item, item, recordsOf}
 use Rattle.dl_merge.specs.Places.{sourcesOf}
 use Rattle.bs_frag.specs.NextPdu.{Next, next, sduAt, Chunked}
-use Rattle.bs_frag.specs.declared.Outcome.{Outcome}
+use Rattle.bs_frag.specs.declared.ChunkOutcome.{ChunkOutcome}
 use Rattle.bs_frag.specs.declared.Chunk.{Chunk}
 use Rattle.dl_send.specs.declared.Progress.{Progress}
-use Rattle.dl_send.specs.Send.{kept, tagsOf, Sent, nullIn, sendAll, blockOf}
-use Rattle.dl_send.specs.Progress.{listed, placeSdu, sentOf, tagRow, staysIn, stayedAs, stayedFrom, firstTag, WrittenAs, BuiltAs}
+use Rattle.dl_send.specs.Send.{staying, tagsOf, Sent, nullIn, sendAll, blockOf}
+use Rattle.dl_send.specs.Arrays.{listed, placeSdu, sentOf, tagRow, staysIn, stayedAs, stayedFrom, firstTag, SentInto, BuiltAs}
 use Rattle.dl_send.proofs.StepLaws.{andThen, send-none, send-next}
 use Rattle.dl_send.proofs.ArrayLaws.{listed-next, listed-end, records-step, sources-step, length-step, stays-most, tags-step}
 
@@ -50,10 +51,6 @@ null-some room h = rw (le-ltb room 16 h) null-bits
 
 pub null-none : (room : ℕ) → room < 16 → blockBits (nullIn room) ≡ []
 null-none room h = rw (lt-ltb room 16 h) no-bits
-
-null-size : length (resourceBits nullHeader) ≡ 16
-unfolding headerLength addressType
-null-size = sym (header-size nullHeader)
 
 pub null-fits : (room : ℕ) → length (blockBits (nullIn room)) ≤ room
 null-fits room = go (ltb room 16) refl
@@ -86,12 +83,15 @@ module _ (block₀ : List ℕ) (w : ℕ) (store : List ℕ) (first : ℕ) (recor
     pub tags-noted : tags ≡ tagRow perTimeslot noted
     pub count-noted : tag-count ≡ length noted
     pub few-tags : tag-count ≤ i
-    pub bits : written (bitsOf block) at (blockBits (sendAll (placeSdu store first) (w - at) (drop i (listed n records from)) .pdus)) ≡ written (bitsOf block₀) 0 (blockBits (sentOf store first w records from n .pdus))
-    pub total : at + length (blockBits (sendAll (placeSdu store first) (w - at) (drop i (listed n records from)) .pdus)) ≡ length (blockBits (sentOf store first w records from n .pdus))
+    pub bits : written (bitsOf block) at (blockBits (sendAll (placeSdu store first) (w - at) (drop i (listed n records from)) .pdus))
+        ≡ written (bitsOf block₀) 0 (blockBits (sentOf store first w records from n .pdus))
+    pub total : at + length (blockBits (sendAll (placeSdu store first) (w - at) (drop i (listed n records from)) .pdus))
+        ≡ length (blockBits (sentOf store first w records from n .pdus))
     pub stay : held ++ sendAll (placeSdu store first) (w - at) (drop i (listed n records from)) .left ≡ sentOf store first w records from n .left
     pub tagged : noted ++ sendAll (placeSdu store first) (w - at) (drop i (listed n records from)) .tags ≡ sentOf store first w records from n .tags
 
-  pub running-start : (out : List Record) (out-from tags : List ℕ) → out ≡ replicate perTimeslot emptyRecord → out-from ≡ replicate perTimeslot noPlace → tags ≡ replicate perTimeslot 0 → Running block₀ out out-from 0 tags 0 0 0
+  pub running-start : (out : List Record) (out-from tags : List ℕ) → out ≡ replicate perTimeslot emptyRecord → out-from ≡ replicate perTimeslot noPlace
+      → tags ≡ replicate perTimeslot 0 → Running block₀ out out-from 0 tags 0 0 0
   unfolding sentOf recordsOf sourcesOf tagRow
   running-start out out-from tags eo ef et =
       let z : w - 0 ≡ w = omega arith in
@@ -121,26 +121,31 @@ module _ (block₀ : List ℕ) (w : ℕ) (store : List ℕ) (first : ℕ) (recor
   abbrev thePlace : ℕ → ℕ
   thePlace i = getD from i 0
 
-  pub running-step : (block : List ℕ) (out : List Record) (out-from : List ℕ) (left : ℕ) (tags : List ℕ) (tag-count at i : ℕ) (m : List ℕ) (c : Chunk) (x : Record) (f t k l : ℕ)
-      → n ≤ perTimeslot → i < n → Running block out out-from left tags tag-count at i → length m ≡ length block
-      → Chunked (bitsOf block) at w (bitsOf m) c (next (w - at) (theRecord i) (sduAt store (first + thePlace i % perTimeslot) (theRecord i .bits)))
-      → x ≡ stayedAs (c .outcome) (theRecord i) → f ≡ stayedFrom (c .outcome) (thePlace i) → t ≡ firstTag (tagsOf (c .outcome) (theRecord i .tag))
-      → k ≡ staysIn (c .outcome) → l ≡ length (tagsOf (c .outcome) (theRecord i .tag)) → l ≤ 1
+  pub running-step : (block : List ℕ) (out : List Record) (out-from : List ℕ) (left : ℕ) (tags : List ℕ) (tag-count at i : ℕ) (m : List ℕ) (c : Chunk)
+      (r x : Record) (f t k l : ℕ)
+      → n ≤ perTimeslot → i < n → r ≡ theRecord i → Running block out out-from left tags tag-count at i → length m ≡ length block
+      → Chunked (bitsOf block) at w (bitsOf m) c (next (w - at) r (sduAt store (first + thePlace i % perTimeslot) (r .bits)))
+      → x ≡ stayedAs (c .outcome) r → f ≡ stayedFrom (c .outcome) (thePlace i) → t ≡ firstTag (tagsOf (c .outcome) (r .tag))
+      → k ≡ staysIn (c .outcome) → l ≡ length (tagsOf (c .outcome) (r .tag)) → l ≤ 1
       → Running m (set out left x) (set out-from left f) (left + k) (set tags tag-count t) (tag-count + l) (c .next) (i + 1)
   unfolding placeSdu
-  running-step block out out-from left tags tag-count at i m c x f t k l n16 hi run e ch ex ef et ek el hl =
-      let y : Item ℕ = item (theRecord i) (thePlace i) in
+  running-step block out out-from left tags tag-count at i m c r x f t k l n16 hi is run e ch ex ef et ek el hl =
+      let y : Item ℕ = item r (thePlace i) in
       let s : Next = next (w - at) (y .rec) (placeSdu store first (y .load) (y .rec .bits)) in
       let u : Sent ℕ = rest (c .next) (i + 1) in
       let room : s .room ≡ w - c .next = omega (arith, ch .left) in
       let here : rest at i ≡ andThen s y u =
-      ap (sendAll (placeSdu store first) (w - at)) (listed-next n records from i hi) ∙ send-next (placeSdu store first) (w - at) y _ ∙ ap (λ (z : ℕ). andThen s y (sendAll (placeSdu store first) z (drop (i + 1) (listed n records from)))) room
+      ap (sendAll (placeSdu store first) (w - at))
+      (listed-next n records from i hi ∙ ap (λ (z : Record). item z (thePlace i) ∷ drop (i + 1) (listed n records from)) (sym is))
+      ∙ send-next (placeSdu store first) (w - at) y _
+      ∙ ap (λ (z : ℕ). andThen s y (sendAll (placeSdu store first) z (drop (i + 1) (listed n records from)))) room
       in
-      let joined : blockBits (rest at i .pdus) ≡ blockBits (s .pdus) ++ blockBits (u .pdus) = ap (λ (z : Sent ℕ). blockBits (z .pdus)) here ∙ block-append (s .pdus) (u .pdus) in
+      let joined : blockBits (rest at i .pdus) ≡ blockBits (s .pdus) ++ blockBits (u .pdus) =
+      ap (λ (z : Sent ℕ). blockBits (z .pdus)) here ∙ block-append (s .pdus) (u .pdus) in
       let less : length (run .held) < perTimeslot = omega (arith, run .few, run .left-held) in
       let fewer : length (run .noted) < perTimeslot = omega (arith, run .few-tags, run .count-noted) in
       record {
-        held = run .held ++ kept (c .outcome) y;
+        held = run .held ++ staying (c .outcome) y;
         noted = run .noted ++ tagsOf (c .outcome) (y .rec .tag);
         place = omega arith;
         room = omega (arith, ch .left);
@@ -158,11 +163,11 @@ module _ (block₀ : List ℕ) (w : ℕ) (store : List ℕ) (first : ℕ) (recor
             ∙ ap (written (bitsOf block) at) (sym joined) ∙ run .bits;
         total = omega (arith, run .total, ap length joined, length-append (blockBits (s .pdus)) (blockBits (u .pdus)), ch .wrote .ends);
         stay =
-            ap (λ (o : Outcome). (run .held ++ kept o y) ++ u .left) (ch .outcome)
-            ∙ append-assoc (run .held) (kept (s .outcome) y) (u .left)
+            ap (λ (o : ChunkOutcome). (run .held ++ staying o y) ++ u .left) (ch .outcome)
+            ∙ append-assoc (run .held) (staying (s .outcome) y) (u .left)
             ∙ ap (λ (z : Sent ℕ). run .held ++ z .left) (sym here) ∙ run .stay;
         tagged =
-            ap (λ (o : Outcome). (run .noted ++ tagsOf o (y .rec .tag)) ++ u .tags) (ch .outcome)
+            ap (λ (o : ChunkOutcome). (run .noted ++ tagsOf o (y .rec .tag)) ++ u .tags) (ch .outcome)
             ∙ append-assoc (run .noted) (tagsOf (s .outcome) (y .rec .tag)) (u .tags)
             ∙ ap (λ (z : Sent ℕ). run .noted ++ z .tags) (sym here) ∙ run .tagged;
       }
@@ -170,7 +175,8 @@ module _ (block₀ : List ℕ) (w : ℕ) (store : List ℕ) (first : ℕ) (recor
   pub running-end : (block : List ℕ) (out : List Record) (out-from : List ℕ) (left : ℕ) (tags : List ℕ) (tag-count at i : ℕ) (m : List ℕ)
       → n ≤ perTimeslot → n ≤ i → Running block out out-from left tags tag-count at i → w ≤ 8 * length block₀
       → bitsOf m ≡ written (bitsOf block) at (blockBits (nullIn (w - at)))
-      → WrittenAs (bitsOf block₀) (bitsOf m) (record { records = out; from = out-from; left = left; tags = tags; «tag_count» = tag-count }) (sentOf store first w records from n)
+      → SentInto (bitsOf block₀) (bitsOf m) (record { records = out; from = out-from; left = left; tags = tags; «tag_count» = tag-count })
+      (sentOf store first w records from n)
   running-end block out out-from left tags tag-count at i m n16 hi run hw e =
       let t : Sent ℕ = record { pdus = nullIn (w - at); room = w - at; left = []; tags = [] } in
       let here : rest at i ≡ t = ap (sendAll (placeSdu store first) (w - at)) (listed-end n records from i hi) ∙ send-none (placeSdu store first) (w - at) in
@@ -203,38 +209,35 @@ zeros-bits : (n : ℕ) → bitsOf (replicate n 0) ≡ replicate (8 * n) 0
 unfolding bitsOf
 zeros-bits zero = refl
 zeros-bits (suc n) =
-    ap₂ _++_ (valueBits-zero 8) (zeros-bits n) ∙ replicate-append-replicate 8 (8 * n) 0 ∙ ap (λ (k : ℕ). replicate {A = ℕ} k 0) (let e : 8 + 8 * n ≡ 8 * suc n = omega arith in e)
+    ap₂ _++_ (valueBits-zero 8) (zeros-bits n) ∙ replicate-append-replicate 8 (8 * n) 0
+    ∙ ap (λ (k : ℕ). replicate {A = ℕ} k 0) (let e : 8 + 8 * n ≡ 8 * suc n = omega arith in e)
 
-drop-replicate : (k n : ℕ) → drop k (zeros n) ≡ zeros (n - k)
-drop-replicate k n = go (leb k n) refl
-  where
-    go : (b : Bool) → leb k n ≡ b → drop k (zeros n) ≡ zeros (n - k)
-    go true e =
-        let h : k ≤ n = leb-true k n e in
-        let s : n ≡ k + (n - k) = omega arith in
-        ap (λ (j : ℕ). drop k (zeros j)) s ∙ ap (drop k) (sym (replicate-append-replicate k (n - k) 0)) ∙ drop-at (zeros k) (zeros (n - k)) k (length-replicate k 0)
-    go false e =
-        let h : n < k = leb-false k n e in
-        let s : 0 ≡ n - k = omega arith in
-        drop-of-length-le (zeros n) {i = k} (rw length-replicate (omega arith)) ∙ ap (λ (j : ℕ). zeros j) s
-
-block-octets : (n : ℕ) (m f : List ℕ) → ((i : ℕ) → getD m i 0 < 2 ^ 8) → length m ≡ n → length f ≤ 8 * n → bitsOf m ≡ written (bitsOf (zeros n)) 0 f → m ≡ blockOf n f
+block-octets : (n : ℕ) (m f : List ℕ) → ((i : ℕ) → getD m i 0 < 2 ^ 8) → length m ≡ n → length f ≤ 8 * n → bitsOf m ≡ written (bitsOf (zeros n)) 0 f
+    → m ≡ blockOf n f
 unfolding blockOf
 block-octets n m f h k i e =
     let big : 0 + length f ≤ length (zeros (8 * n)) = rw length-replicate (omega arith) in
     sym (packed-bitsOf m h)
     ∙ ap₂ packed k
     (e ∙ ap (λ (l : List ℕ). written l 0 f) (zeros-bits n) ∙ written-eq (zeros (8 * n)) 0 f big
-    ∙ ap (λ (l : List ℕ). f ++ l) (ap (λ (j : ℕ). drop j (zeros (8 * n))) (zero-add (length f)) ∙ drop-replicate (length f) (8 * n)))
+    ∙ ap (λ (l : List ℕ). f ++ l) (ap (λ (j : ℕ). drop j (zeros (8 * n))) (zero-add (length f)) ∙ drop-replicate (length f) (8 * n) 0))
 
 cleared : (l : List ℕ) → paste l 0 (zeros (length l)) (length l) ≡ zeros (length l)
-cleared l = ap₂ (λ (a b : List ℕ). a ++ b) (take-all (length l) (zeros (length l)) (rw length-replicate (omega arith))) (drop-of-length-le l {i = 0 + length l} (omega arith)) ∙ append-nil (zeros (length l))
+cleared l =
+    ap₂ (λ (a b : List ℕ). a ++ b) (take-all (length l) (zeros (length l)) (rw length-replicate (omega arith)))
+    (drop-of-length-le l {i = 0 + length l} (omega arith)) ∙ append-nil (zeros (length l))
 
-pub built-as : (l₀ l m : List ℕ) (p : Progress) (s : Sent ℕ) → ((i : ℕ) → getD m i 0 < 2 ^ 8) → length m ≡ length l₀ → l ≡ paste l₀ 0 (zeros (length l₀)) (length l₀) → WrittenAs (bitsOf l) (bitsOf m) p s
+pub built-as : (l₀ l m : List ℕ) (p : Progress) (s : Sent ℕ) → ((i : ℕ) → getD m i 0 < 2 ^ 8) → length m ≡ length l₀
+    → l ≡ paste l₀ 0 (zeros (length l₀)) (length l₀) → SentInto (bitsOf l) (bitsOf m) p s
     → BuiltAs (length l₀) m p s
 built-as l₀ l m p s h k e₀ w =
     let n : ℕ = length l₀ in
     let e : l ≡ zeros n = e₀ ∙ cleared l₀ in
     let f : List ℕ = blockBits (s .pdus) in
     let size : length f ≤ 8 * n = omega (arith, w .size, length-bitsOf l, ap length e, length-replicate {A = ℕ} n 0) in
-    record { block = block-octets n m f h k size (w .bits ∙ ap (λ (x : List ℕ). written (bitsOf x) 0 f) e); arrays = w .arrays; few = w .few; few-tags = w .few-tags }
+    record {
+      block = block-octets n m f h k size (w .bits ∙ ap (λ (x : List ℕ). written (bitsOf x) 0 f) e);
+      arrays = w .arrays;
+      few = w .few;
+      few-tags = w .few-tags;
+    }

@@ -4,11 +4,11 @@ use mathlib.Core.List.{List, [], _∷_, _++_}
 use Prim.Native.Nat.{ℕ}
 use Rattle.dl_queue.specs.Queue.{Item}
 use Rattle.bs_frag.specs.NextPdu.{Next}
-use Rattle.dl_send.specs.Send.{kept, tagsOf, nullIn, turn, turns, readOff, roomAfter, Sent, sendAll}
+use Rattle.dl_send.specs.Send.{staying, tagsOf, nullIn, turn, turns, readOff, roomAfter, Sent, sendAll}
 
 abbrev pub andThen : {C : Type 0} → Next → Item C → Sent C → Sent C
 andThen s x t =
-    record { pdus = s .pdus ++ t .pdus; room = t .room; left = kept (s .outcome) x ++ t .left; tags = tagsOf (s .outcome) (x .rec .tag) ++ t .tags }
+    record { pdus = s .pdus ++ t .pdus; room = t .room; left = staying (s .outcome) x ++ t .left; tags = tagsOf (s .outcome) (x .rec .tag) ++ t .tags }
 
 module _ {C : Type 0} (sdu : C → ℕ → List ℕ) (room : ℕ) where
   pub send-none : sendAll sdu room [] ≡ record { pdus = nullIn room; room = room; left = []; tags = [] }

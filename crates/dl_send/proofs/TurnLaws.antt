@@ -21,8 +21,8 @@ use Rattle.mac_reader.specs.PduList.{Pdu, header, body, pduBits, blockBits, Fit
 use Rattle.dl_record.specs.declared.Record.{Record}
 use Rattle.dl_record.specs.Kind.{isStarted}
 use Rattle.bs_frag.specs.NextPdu.{fillFlag, headerOf, headerSize, wholePdu, firstPdu, fragPdu, endPdu, endOctets, Next, begin, continue, next, Sendable}
-use Rattle.bs_frag.specs.declared.Outcome.{Outcome}
-use Rattle.bs_frag.specs.declared.Outcome.the-variants.{Waiting, Started}
+use Rattle.bs_frag.specs.declared.ChunkOutcome.{ChunkOutcome}
+use Rattle.bs_frag.specs.declared.ChunkOutcome.the-variants.{Waiting, Started}
 use Rattle.bs_frag.proofs.HeaderLaws.{header-bits, header-bounds, header-taken, header-address}
 use Rattle.bs_frag.proofs.Laws.{flag-lt, begin-whole, begin-waits, begin-starts, continue-ends, continue-waits, continue-frags, next-later, next-first}
 use Rattle.dl_send.specs.Carried.{unfilled, sduIn, carried, sentBy}
@@ -105,7 +105,8 @@ whole-sdu : (r : Record) (s : List ℕ) (k : ℕ) → carried (wholePdu r s k �
 unfolding carried sduIn
 whole-sdu r s k =
     let l : ℕ = (headerSize r + r .bits + k) / 8 in
-    append-nil (unfilled (headerOf r (fillFlag k) l .«fill_bits») (s ++ fillBits k)) ∙ ap (λ (f : ℕ). unfilled f (s ++ fillBits k)) (fill-of r (fillFlag k) l) ∙ fill-left-out s k
+    append-nil (unfilled (headerOf r (fillFlag k) l .«fill_bits») (s ++ fillBits k)) ∙ ap (λ (f : ℕ). unfilled f (s ++ fillBits k)) (fill-of r (fillFlag k) l)
+    ∙ fill-left-out s k
 
 first-sdu : (r : Record) (s : List ℕ) → carried (firstPdu r s ∷ []) ≡ s
 unfolding carried sduIn unfilled
@@ -148,11 +149,12 @@ end-octets rest = omega arith
 
 -- ---- the six ways
 
-module _ (w room : ℕ) (r : Record) (sdu : List ℕ) (few : room ≤ w) (width : w ≤ blockWidth) (sendable : Sendable r) (are : AreBits sdu) (long : length sdu ≡ r .bits) where
+module _ (w room : ℕ) (r : Record) (sdu : List ℕ) (few : room ≤ w) (width : w ≤ blockWidth) (sendable : Sendable r) (are : AreBits sdu)
+    (long : length sdu ≡ r .bits) where
   bounds : (43 ≤ headerSize r) × (headerSize r ≤ 88)
   bounds = header-bounds r (sendable .legal)
 
-  nothing : (from : ℕ) (o : Outcome) → sentBy o r ≡ from → from ≤ r .bits → SoundTurn w room from r sdu (record { pdus = []; room = room; outcome = o })
+  nothing : (from : ℕ) (o : ChunkOutcome) → sentBy o r ≡ from → from ≤ r .bits → SoundTurn w room from r sdu (record { pdus = []; room = room; outcome = o })
   nothing from o e b =
       record {
         bits = no-bits;
@@ -181,7 +183,11 @@ module _ (w room : ℕ) (r : Record) (sdu : List ℕ) (few : room ≤ w) (width 
         fits = λ at ps q stop f. (
           omega (arith, bounds .0, i),
           record {
-            sound = record { taken = header-taken r (fillFlag k) l (sendable .legal) (flag-lt k) (omega (arith, bounds .0)) (omega (arith, inside)); address = header-address r (fillFlag k) l (sendable .legal) };
+            sound =
+                record {
+                  taken = header-taken r (fillFlag k) l (sendable .legal) (flag-lt k) (omega (arith, bounds .0)) (omega (arith, inside));
+                  address = header-address r (fillFlag k) l (sendable .legal);
+                };
             inside = omega (arith, size, inside);
             code = code ∙ ap (λ (m : ℕ). m / 8) (sym size);
             low = omega (arith, code, bounds .0);
@@ -210,7 +216,11 @@ module _ (w room : ℕ) (r : Record) (sdu : List ℕ) (few : room ≤ w) (width 
         fits = λ at ps q stop f. (
           omega (arith, j),
           record {
-            sound = record { taken = header-taken r 0 63 (sendable .legal) (omega arith) (omega arith) (omega arith); address = header-address r 0 63 (sendable .legal) };
+            sound =
+                record {
+                  taken = header-taken r 0 63 (sendable .legal) (omega arith) (omega arith) (omega arith);
+                  address = header-address r 0 63 (sendable .legal);
+                };
             ends = omega (arith, size);
             code = code-of r 0 63;
           },
@@ -278,9 +288,11 @@ module _ (w room : ℕ) (r : Record) (sdu : List ℕ) (few : room ≤ w) (width 
   pub begin-turn : SoundTurn w room 0 r sdu (begin room r sdu)
   begin-turn = go (leb (headerSize r + r .bits) room) refl
     where
-      start : room < headerSize r + r .bits → (b : Bool) → ltb room 32 ≡ b → (c : Bool) → ltb room (headerSize r) ≡ c → SoundTurn w room 0 r sdu (begin room r sdu)
+      start : room < headerSize r + r .bits → (b : Bool) → ltb room 32 ≡ b → (c : Bool) → ltb room (headerSize r) ≡ c
+          → SoundTurn w room 0 r sdu (begin room r sdu)
       start i true e c f = turn-as (begin-waits room r sdu (headerSize r) refl i (inl (ltb-true room 32 e))) (nothing 0 Waiting refl (omega arith))
-      start i false e true f = turn-as (begin-waits room r sdu (headerSize r) refl i (inr (ltb-true room (headerSize r) f))) (nothing 0 Waiting refl (omega arith))
+      start i false e true f =
+          turn-as (begin-waits room r sdu (headerSize r) refl i (inr (ltb-true room (headerSize r) f))) (nothing 0 Waiting refl (omega arith))
       start i false e false f = first-turn i (ltb-false room 32 e) (ltb-false room (headerSize r) f)
 
       go : (b : Bool) → leb (headerSize r + r .bits) room ≡ b → SoundTurn w room 0 r sdu (begin room r sdu)
@@ -291,7 +303,8 @@ module _ (w room : ℕ) (r : Record) (sdu : List ℕ) (few : room ≤ w) (width 
   continue-turn = go (leb (endOctets (r .bits - r .sent) * 8) room) refl
     where
       on : room < endOctets (r .bits - r .sent) * 8 → (b : Bool) → ltb room 16 ≡ b → SoundTurn w room (r .sent) r sdu (continue room r sdu)
-      on i true e = turn-as (continue-waits room r sdu (r .bits - r .sent) refl i (ltb-true room 16 e)) (nothing (r .sent) (Started (r .sent)) refl (sendable .sent))
+      on i true e =
+          turn-as (continue-waits room r sdu (r .bits - r .sent) refl i (ltb-true room 16 e)) (nothing (r .sent) (Started (r .sent)) refl (sendable .sent))
       on i false e = frag-turn i (ltb-false room 16 e)
 
       go : (b : Bool) → leb (endOctets (r .bits - r .sent) * 8) room ≡ b → SoundTurn w room (r .sent) r sdu (continue room r sdu)

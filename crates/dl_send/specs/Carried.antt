@@ -8,8 +8,8 @@ use Rattle.mac_reader.specs.PduList.{Pdu, whole, first, frag, final, null}
 use Rattle.dl_record.specs.declared.Kind.{Kind}
 use Rattle.dl_record.specs.declared.Record.{Record}
 use Rattle.bs_frag.specs.NextPdu.{Next, next}
-use Rattle.bs_frag.specs.declared.Outcome.{Outcome}
-use Rattle.bs_frag.specs.declared.Outcome.the-variants.{Finished, Waiting, Started}
+use Rattle.bs_frag.specs.declared.ChunkOutcome.{ChunkOutcome}
+use Rattle.bs_frag.specs.declared.ChunkOutcome.the-variants.{Finished, Waiting, Started}
 use Rattle.dl_send.specs.Send.{again}
 
 -- what stands behind a header, without the fill bits that its fill bit tells of
@@ -31,7 +31,7 @@ carried (p ∷ ps) = sduIn p ++ carried ps
 -- ---- a record over its blocks
 
 -- how many of its bits are sent
-abbrev pub sentBy : Outcome → Record → ℕ
+abbrev pub sentBy : ChunkOutcome → Record → ℕ
 sentBy Finished r = r .bits
 sentBy Waiting r = 0
 sentBy (Started n) r = n
@@ -39,13 +39,13 @@ sentBy (Started n) r = n
 -- the PDUs written so far, and what has become of the record
 pub record Progressed : Type 0 where
   pub pdus : List Pdu
-  pub outcome : Outcome
+  pub outcome : ChunkOutcome
 
 abbrev pub behind : List Pdu → Progressed → Progressed
 behind ps x = record { pdus = ps ++ x .pdus; outcome = x .outcome }
 
 -- its turns in blocks with these rooms left, until it is finished
-unfoldable pub over : List ℕ → Outcome → Record → List ℕ → Progressed
+unfoldable pub over : List ℕ → ChunkOutcome → Record → List ℕ → Progressed
 over [] o r sdu = record { pdus = []; outcome = o }
 over (room ∷ rooms) Finished r sdu = record { pdus = []; outcome = Finished }
 over (room ∷ rooms) Waiting r sdu = let x : Next = next room (again Kind.Waiting 0 r) sdu in behind (x .pdus) (over rooms (x .outcome) r sdu)

@@ -1,3 +1,3 @@
 pub mod Send
-pub mod Progress
+pub mod Arrays
 pub mod Carried

@@ -12,25 +12,25 @@ use Rattle.dl_record.specs.declared.Kind.{Kind}
 use Rattle.dl_record.specs.declared.Record.{Record}
 use Rattle.dl_queue.specs.Queue.{Item, item}
 use Rattle.bs_frag.specs.NextPdu.{Next, next}
-use Rattle.bs_frag.specs.declared.Outcome.{Outcome}
-use Rattle.bs_frag.specs.declared.Outcome.the-variants.{Finished, Waiting, Started}
+use Rattle.bs_frag.specs.declared.ChunkOutcome.{ChunkOutcome}
+use Rattle.bs_frag.specs.declared.ChunkOutcome.the-variants.{Finished, Waiting, Started}
 
 -- a record as it stays, with so many bits sent
 abbrev pub again : Kind → ℕ → Record → Record
 again k sent r = record { kind = k; «address_kind» = r .«address_kind»; number = r .number; tag = r .tag; header = r .header; bits = r .bits; sent = sent }
 
 -- "What did not finish stays .. as waiting or started."
-abbrev pub kept : {C : Type 0} → Outcome → Item C → List (Item C)
-kept Finished x = []
-kept Waiting x = item (again Kind.Waiting 0 (x .rec)) (x .load) ∷ []
-kept (Started n) x = item (again Kind.Started n (x .rec)) (x .load) ∷ []
+abbrev pub staying : {C : Type 0} → ChunkOutcome → Item C → List (Item C)
+staying Finished x = []
+staying Waiting x = item (again Kind.Waiting 0 (x .rec)) (x .load) ∷ []
+staying (Started n) x = item (again Kind.Started n (x .rec)) (x .load) ∷ []
 
 abbrev pub tagIn : OptU16 → List ℕ
 tagIn OptU16.Absent = []
 tagIn (OptU16.Of t) = t ∷ []
 
 -- "Tags of finished records come back in order."
-abbrev pub tagsOf : Outcome → OptU16 → List ℕ
+abbrev pub tagsOf : ChunkOutcome → OptU16 → List ℕ
 tagsOf Finished t = tagIn t
 tagsOf Waiting t = []
 tagsOf (Started n) t = []
@@ -79,7 +79,7 @@ sentIn room ts =
     record {
       pdus = readOff (λ t. t .next .pdus) nullIn room ts;
       room = roomAfter room ts;
-      left = readOff (λ t. kept (t .next .outcome) (t .taken)) (λ r. []) room ts;
+      left = readOff (λ t. staying (t .next .outcome) (t .taken)) (λ r. []) room ts;
       tags = readOff (λ t. tagsOf (t .next .outcome) (t .taken .rec .tag)) (λ r. []) room ts;
     }
 

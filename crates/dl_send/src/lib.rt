@@ -1,12 +1,13 @@
 // Records in the order in which they are taken, sent in a block.
 ghost use mathlib.Core.Path.{_≡_};
-ghost use Prim.Native.Nat.{_-_, _*_, _<_, _≤_, _^_};
-ghost use lib.ListN.{length};
+ghost use Prim.Native.Nat.{ℕ, _-_, _*_, _<_, _≤_, _^_};
+ghost use lib.ListN.{length, getD};
+ghost use Rattle.sizes.specs.Sizes.{perTimeslot};
 ghost use Rattle.bitbuffer.specs.Bits.{bitsOf, written};
 ghost use Rattle.mac_reader.specs.PduList.{blockBits};
 ghost use Rattle.dl_send.specs.Send.{again, tagsOf, nullIn};
-ghost use Rattle.dl_send.specs.Progress.{staysIn, stayedAs, stayedFrom, firstTag, sentOf, CanSend, WrittenAs, BuiltAs};
-use bs_frag::Outcome;
+ghost use Rattle.dl_send.specs.Arrays.{recordsAt, staysIn, stayedAs, stayedFrom, firstTag, sentOf, CanSend, SentInto, BuiltAs};
+use bs_frag::ChunkOutcome;
 use dl_record::Kind;
 use dl_record::Record;
 use optional::OptU16;
@@ -39,63 +40,63 @@ fn again_as(kind: Kind, sent: u16, r: Record) -> Record
 }
 
 // Whether a record stays after its turn, as a count.
-fn stays(outcome: Outcome) -> usize
+fn stays(outcome: ChunkOutcome) -> usize
     ensures { λ n. ⌜ (n ≡ staysIn outcome) × (n ≤ 1) ⌝ }
 {
     match outcome {
-        Outcome::Finished => 0,
-        Outcome::Waiting => 1,
-        Outcome::Started(_) => 1,
+        ChunkOutcome::Finished => 0,
+        ChunkOutcome::Waiting => 1,
+        ChunkOutcome::Started(_) => 1,
     }
 }
 
 // The record as it stays, the empty record if it does not.
-fn stayed(outcome: Outcome, r: Record) -> Record
+fn stayed(outcome: ChunkOutcome, r: Record) -> Record
     ensures { λ x. ⌜ x ≡ stayedAs outcome r ⌝ }
 {
     match outcome {
-        Outcome::Finished => Record::EMPTY,
-        Outcome::Waiting => again_as(Kind::Waiting, 0, r),
-        Outcome::Started(n) => again_as(Kind::Started, n, r),
+        ChunkOutcome::Finished => Record::EMPTY,
+        ChunkOutcome::Waiting => again_as(Kind::Waiting, 0, r),
+        ChunkOutcome::Started(n) => again_as(Kind::Started, n, r),
     }
 }
 
 // The place of a record that stays, none if it does not.
-fn stayed_from(outcome: Outcome, place: u8) -> u8
+fn stayed_from(outcome: ChunkOutcome, place: u8) -> u8
     ensures { λ x. ⌜ x ≡ stayedFrom outcome place ⌝ }
 {
     match outcome {
-        Outcome::Finished => NO_PLACE,
-        Outcome::Waiting => place,
-        Outcome::Started(_) => place,
+        ChunkOutcome::Finished => NO_PLACE,
+        ChunkOutcome::Waiting => place,
+        ChunkOutcome::Started(_) => place,
     }
 }
 
 // Whether a tag comes back, as a count.
-fn tag_comes(outcome: Outcome, tag: OptU16) -> usize
+fn tag_comes(outcome: ChunkOutcome, tag: OptU16) -> usize
     ensures { λ n. ⌜ (n ≡ length (tagsOf outcome tag)) × (n ≤ 1) ⌝ }
 {
     match outcome {
-        Outcome::Finished => match tag {
+        ChunkOutcome::Finished => match tag {
             OptU16::Absent => 0,
             OptU16::Of(_) => 1,
         },
-        Outcome::Waiting => 0,
-        Outcome::Started(_) => 0,
+        ChunkOutcome::Waiting => 0,
+        ChunkOutcome::Started(_) => 0,
     }
 }
 
 // The tag that comes back, 0 for none.
-fn tag_value(outcome: Outcome, tag: OptU16) -> u16
+fn tag_value(outcome: ChunkOutcome, tag: OptU16) -> u16
     ensures { λ t. ⌜ t ≡ firstTag (tagsOf outcome tag) ⌝ }
 {
     match outcome {
-        Outcome::Finished => match tag {
+        ChunkOutcome::Finished => match tag {
             OptU16::Absent => 0,
             OptU16::Of(t) => t,
         },
-        Outcome::Waiting => 0,
-        Outcome::Started(_) => 0,
+        ChunkOutcome::Waiting => 0,
+        ChunkOutcome::Started(_) => 0,
     }
 }
 
@@ -110,18 +111,21 @@ fn put_null(block: &mut [u8], at: usize, w: usize)
     mac_writer::put_null(block, at);
 }
 
-// Sends the first `n` of the records, in order, and then the null PDU.
+// Sends `n` of the records, those at the places of `order`, and then the null PDU. They come from the places of `from`.
 fn send_all(
     block: &mut [u8],
     w: usize,
     store: &[u8],
     first: usize,
     records: [Record; PER_TIMESLOT],
+    order: [u8; PER_TIMESLOT],
     from: [u8; PER_TIMESLOT],
     n: usize,
 ) -> Progress
-    requires { ⌜ CanSend (length (now block)) w (now store) first records from n ⌝ }
-    ensures { λ p. ⌜ WrittenAs (bitsOf (now (block .entry))) (bitsOf (now (block .exit))) p (sentOf (now (store .entry)) first w records from n) ⌝ }
+    requires { ⌜ CanSend (length (now block)) w (now store) first (recordsAt order records) from n ⌝ }
+    requires { ⌜ ((i : ℕ) → i < n → getD order i 0 < perTimeslot) ⌝ }
+    ensures { λ p. ⌜ SentInto (bitsOf (now (block .entry))) (bitsOf (now (block .exit))) p
+        (sentOf (now (store .entry)) first w (recordsAt order records) from n) ⌝ }
 {
     let mut out = [Record::EMPTY; PER_TIMESLOT];
     let mut out_from = [NO_PLACE; PER_TIMESLOT];
@@ -131,10 +135,11 @@ fn send_all(
     let mut at = 0;
     let mut i = 0;
     while i < n {
-        let r = records[i];
+        let o = order[i] as usize;
+        let r = records[o];
         let place = from[i];
         let cell = first + place as usize % PER_TIMESLOT;
-        let chunk = next_chunk::get_next_chunk(block, at, w, store, cell, r);
+        let chunk = bs_frag_chunk::get_next_chunk(block, at, w, store, cell, r);
         let outcome = chunk.outcome;
         let tag = r.tag;
         out[left] = stayed(outcome, r);
@@ -155,20 +160,22 @@ fn send_all(
     }
 }
 
-// Builds a block of `w` bits of the first `n` of the records, in order; all its octets are written.
+// Builds a block of `w` bits of `n` of the records, those at the places of `order`; all its octets are written.
 pub fn build_records(
     block: &mut [u8],
     w: usize,
     store: &[u8],
     first: usize,
     records: [Record; PER_TIMESLOT],
+    order: [u8; PER_TIMESLOT],
     from: [u8; PER_TIMESLOT],
     n: usize,
 ) -> Progress
-    requires { ⌜ CanSend (length (now block)) w (now store) first records from n ⌝ }
-    ensures { λ p. ⌜ BuiltAs (length (now (block .entry))) (now (block .exit)) p (sentOf (now (store .entry)) first w records from n) ⌝ }
+    requires { ⌜ CanSend (length (now block)) w (now store) first (recordsAt order records) from n ⌝ }
+    requires { ⌜ ((i : ℕ) → i < n → getD order i 0 < perTimeslot) ⌝ }
+    ensures { λ p. ⌜ BuiltAs (length (now (block .entry))) (now (block .exit)) p (sentOf (now (store .entry)) first w (recordsAt order records) from n) ⌝ }
 {
     let octets = block.len();
-    sdu_store::zero_octets(block, 0, octets);
-    send_all(block, w, store, first, records, from, n)
+    dl_sdu_store::zero_octets(block, 0, octets);
+    send_all(block, w, store, first, records, order, from, n)
 }

@@ -133,7 +133,7 @@ fn four_on(s: Station) -> Station {
 // The station and its queue.
 struct Left {
     station: Station,
-    queue: [Record; 64],
+    queue: [Record; sizes::QUEUE_PLACES],
 }
 
 fn acked(l: Left, store: &[u8], t: u8, kind: u8, number: u32) -> Left {
@@ -172,13 +172,13 @@ fn begin() -> Left {
     let station = a.station;
     Left {
         station: station,
-        queue: [Record::EMPTY; 64],
+        queue: [Record::EMPTY; sizes::QUEUE_PLACES],
     }
 }
 
 fn main() {
-    let mut store = [0u8; 16384];
-    let mut block = [0u8; 34];
+    let mut store = [0u8; sizes::STORE_OCTETS];
+    let mut block = [0u8; sizes::BLOCK_OCTETS];
     let mut l = begin();
     l = acked(l, &store, 5, 0, 1);
     l = acked(l, &store, 1, 3, 1);

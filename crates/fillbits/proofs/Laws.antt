@@ -19,7 +19,7 @@ use lib.ListN.{length, take, drop, getD, set, replicate, length-append, length-t
 use lib.Seq.{take-suc, getD-drop, getD-take, getD-append-seam, getD-append-add}
 use Rattle.bitbuffer.specs.Bits.{bitsOf, part, written, AreBits, Wrote}
 use Rattle.bitbuffer.proofs.Laws.{bits-append, bits-take, bits-drop, part-written}
-use Rattle.bitbuffer.proofs.Octets.{part-split}
+use Rattle.bitbuffer.proofs.Octets.{part-split, zeros-are-bits}
 use Rattle.fillbits.specs.Fill.{toOctet, fillWanted, fillBits, fromLastSet, fillAtEnd, reply, fillReply}
 use Rattle.fillbits.specs.declared.FillRemoval.{FillRemoval}
 use Rattle.fillbits.specs.declared.FillRemoval.the-variants.{Bits, Refused}
@@ -117,7 +117,8 @@ module _ (l : List ℕ) (start end : ℕ) (bits : AreBits l) (fits : end ≤ len
       → (fillAtEnd l start end ≡ suc k) × FillAt l start end (suc k)
   unfolding fillAtEnd part run fillBits
   filled-run front k e =
-      let n : length front + suc k ≡ end - start = sym (length-append front (fillBits (suc k)) ∙ ap (λ (m : ℕ). length front + m) (length-fillBits (suc k))) ∙ ap length (sym e) ∙ run-length in
+      let n : length front + suc k ≡ end - start =
+      sym (length-append front (fillBits (suc k)) ∙ ap (λ (m : ℕ). length front + m) (length-fillBits (suc k))) ∙ ap length (sym e) ∙ run-length in
       let at : end - suc k ≡ start + length front = omega arith in (
         ap fromLastSet e ∙ fill-removed front (suc k) (omega arith),
         record {
@@ -280,18 +281,13 @@ pub part-set : (l : List ℕ) (start from at end n r : ℕ) → start ≤ from �
 part-set l start from at end n r h g e p q =
     later-set (part l start (from - start)) _ n e p ∙ ap fromLastSet (sym (parts l start from at end h g)) ∙ sym q
 
-zeros-bits : (j : ℕ) → AreBits (replicate j 0)
-unfolding AreBits
-zeros-bits zero = tt
-zeros-bits (suc j) = (omega arith, zeros-bits j)
-
 later-length : (l : List ℕ) (from at end : ℕ) → from ≤ at → at ≤ end → at ≤ length l → length (part l from (at - from) ++ replicate (end - at) 0) ≡ end - from
 unfolding part
 later-length l from at end g f k = rw (length-append, length-take, length-drop, length-replicate) (omega arith)
 
 later-bits : (l : List ℕ) (from at end : ℕ) → AreBits l → AreBits (part l from (at - from) ++ replicate (end - at) 0)
 unfolding part
-later-bits l from at end b = bits-append _ _ (bits-take (at - from) (drop from l) (bits-drop from l b)) (zeros-bits (end - at))
+later-bits l from at end b = bits-append _ _ (bits-take (at - from) (drop from l) (bits-drop from l b)) (zeros-are-bits (end - at))
 
 pub part-clear : (l : List ℕ) (start from at end r : ℕ) → AreBits l → start ≤ from → from ≤ at → at ≤ end → at ≤ length l
     → 0 ≡ fromLastSet (part l from (at - from) ++ replicate (end - at) 0)

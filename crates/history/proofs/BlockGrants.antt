@@ -8,7 +8,6 @@ use mathlib.Core.List.{List, [], _∷_, _++_, map, List·Memᴰ}
 use Prim.Native.Nat.{ℕ, zero, suc, _+_, _-_, _<_}
 use native.Mathlib.Omega.{arith}
 use native.Mathlib.Nat.{not-suc-le-zero, le-of-suc-le-suc}
-use lib.Dec.{eqb}
 use lib.ListN.{length, getD}
 use lib.Seq.{getD-set-same}
 use Rattle.sizes.specs.Sizes.{blockOctets}
@@ -37,15 +36,15 @@ use Rattle.sched_core.specs.Questions.{Memory, asksBlock}
 use Rattle.history.specs.Call.{Call, build, refused, block, noBlock, Stepped, stepped, unlessRefused}
 use Rattle.history.specs.Queues.{Queues, queueAt, withQueueAt, someQueued, canBuild}
 use Rattle.history.specs.UplinkModel.{modelVerdict}
-use Rattle.history.specs.Model.{NamedSdu, Model, became, counted, namedBuilt, built, modelStep, modelAt, queueNow, pdusBuilt, namesBuilt}
+use Rattle.history.specs.Model.{NamedSdu, Model, became, onlyCounted, namedBuilt, built, modelStep, modelAt, queueNow, pdusBuilt, namesBuilt}
 use Rattle.history.specs.Model.{pending, replaces}
 use Rattle.history.specs.Memory.{memoryAt}
 use Rattle.history.specs.Demand3.{GrantRead, Origin, DerivedAt, ItsGrant}
 use Rattle.history.proofs.Derived.{GrantOf, grant-of, derived}
-use Rattle.history.proofs.WholeSimulation.{sent, same-pdus, Whole, histories}
+use Rattle.history.proofs.WholeSimulation.{sent, same-pdus, SoundAndSame, histories}
 use Rattle.history.proofs.GrantNames.{Along, along-length, along-at, numberIn, grantIn, GrantIn, built-tied}
 use Rattle.history.proofs.NamedHistory.{Faithful, at-more, named-history}
-use Rattle.history.proofs.KeptNames.{build-keeps}
+use Rattle.history.proofs.KeptNames.{sent-or-pending}
 
 -- ---- the reader's list
 
@@ -118,7 +117,7 @@ module _ (x : TdmaTime) (v : Valid x) (before : List Call) (b : List ℕ) where
   block-built octets tags e = go (asksBlock b .holds) (canBuild (m .uplink .now) (m .queues)) e
     where
       step : Bool → Bool → Stepped Model
-      step right can = cond right (cond can done (stepped (counted m) noBlock)) (stepped (counted m) (refused (refusalNumber Refusal.Lengths)))
+      step right can = cond right (cond can done (stepped (onlyCounted m) noBlock)) (stepped (onlyCounted m) (refused (refusalNumber Refusal.Lengths)))
 
       go : (right can : Bool) → step right can .reply ≡ block octets tags
           → (can ≡ true) × (step right can .after ≡ done .after) × (octets ≡ blockOf blockOctets (blockBits pdus))
@@ -139,14 +138,14 @@ module _ (x : TdmaTime) (v : Valid x) (before : List Call) (b : List ℕ) where
       → ((y : Item NamedSdu) → List·Memᴰ y back → replaces y g ≡ false)
       → List·Memᴰ (some name) (namesBuilt m) ⊎ List·Memᴰ (some name) (map pending (queueNow (modelAt x (before ++ build b ∷ []))))
   unfolding namesBuilt
-  block-kept octets tags e front back g name q n k = rw (block-left octets tags e, q) (build-keeps front back g name n k)
+  block-kept octets tags e front back g name q n k = rw (block-left octets tags e, q) (sent-or-pending front back g name n k)
 
   -- what is read in it
   pub block-listed : (octets tags : List ℕ) → Replied octets tags → readBlock blockOctets octets ≡ reader.replyOf (reader.headers (placed 0 pdus))
   unfolding pdusBuilt
   block-listed octets tags e =
       let k : Memory = memoryAt x before in
-      let w : Whole k m = histories x v before in
+      let w : SoundAndSame k m = histories x v before in
       let ns : List ℕ = k .station .queued in
       let same : sent k m (w .sound) (w .same) .pdus ≡ pdus = same-pdus k m (w .sound) (w .same) in
       let inside : t - 1 < length ns = omega (arith, w .sound .counts) in

@@ -13,7 +13,7 @@ use Rattle.tdma_time.specs.Time.{clock, firstUsable}
 use Rattle.uplink.specs.Search.{Run}
 use Rattle.uplink.specs.Request.{Verdict, noRun, tooLate, grant, capacity, reservedBy, msHalfSlots}
 use Rattle.uplink.proofs.MsLaws.{ms-derives-exactly}
-use Rattle.history.specs.Call.{CapacityRequest, asked, request, granted, Stepped, unlessRefused}
+use Rattle.history.specs.Call.{CapacityRequest, requestOf, request, granted, Stepped, unlessRefused}
 use Rattle.history.specs.UplinkModel.{modelView, modelVerdict}
 use Rattle.history.specs.Model.{Model, requestAsked, reserved, requested, modelStep}
 use Rattle.sched_core.proofs.QuestionLaws.{timeslot-range}
@@ -24,24 +24,25 @@ use Rattle.sched_core.proofs.QuestionLaws.{timeslot-range}
 pub record GrantOf (a : CapacityRequest) (m : Model) (cap delay : ℕ) : Type 0 where
   pub in-range : (1 ≤ a .timeslot) × (a .timeslot ≤ timeslots)
   pub run : Run
-  pub verdict : modelVerdict (m .uplink) (asked a) ≡ grant run
+  pub verdict : modelVerdict (m .uplink) (requestOf a) ≡ grant run
   pub capacity-is : capacity (modelView (m .uplink .taken)) (a .code) (run .slots) ≡ cap
   pub delay-is : run .delay ≡ delay
-  pub reserved-is : reserved a m ≡ reservedBy (modelView (m .uplink .taken)) (a .code) (modelVerdict (m .uplink) (asked a))
+  pub reserved-is : reserved a m ≡ reservedBy (modelView (m .uplink .taken)) (a .code) (modelVerdict (m .uplink) (requestOf a))
 
 module _ (a : CapacityRequest) (m : Model) (cap delay : ℕ) (marker : OptU8) where
-  reserved-passed : AllYes (requestAsked a m) → reserved a m ≡ reservedBy (modelView (m .uplink .taken)) (a .code) (modelVerdict (m .uplink) (asked a))
+  reserved-passed : AllYes (requestAsked a m) → reserved a m ≡ reservedBy (modelView (m .uplink .taken)) (a .code) (modelVerdict (m .uplink) (requestOf a))
   unfolding reserved ask
-  reserved-passed q = yes-before (reservedBy (modelView (m .uplink .taken)) (a .code) (modelVerdict (m .uplink) (asked a))) (λ r. []) (requestAsked a m) [] q
+  reserved-passed q =
+      yes-before (reservedBy (modelView (m .uplink .taken)) (a .code) (modelVerdict (m .uplink) (requestOf a))) (λ r. []) (requestAsked a m) [] q
 
   pub grant-of : modelStep (request a) m .reply ≡ granted cap delay marker → GrantOf a m cap delay
   unfolding modelStep unlessRefused requested
   grant-of =
       ask-elim (λ (y : Stepped Model). y .reply ≡ granted cap delay marker → GrantOf a m cap delay) (requestAsked a m) _ _
       (λ r h. absurd (let z : _≡_ {A = ℕ} 0 1 = cc in omega arith))
-      (λ q h. by-verdict q (modelVerdict (m .uplink) (asked a)) refl h)
+      (λ q h. by-verdict q (modelVerdict (m .uplink) (requestOf a)) refl h)
     where
-      by-verdict : AllYes (requestAsked a m) → (w : Verdict) → modelVerdict (m .uplink) (asked a) ≡ w → requested a w m .reply ≡ granted cap delay marker
+      by-verdict : AllYes (requestAsked a m) → (w : Verdict) → modelVerdict (m .uplink) (requestOf a) ≡ w → requested a w m .reply ≡ granted cap delay marker
           → GrantOf a m cap delay
       by-verdict q noRun e h = absurd (let z : _≡_ {A = ℕ} 0 1 = cc in omega arith)
       by-verdict q tooLate e h = absurd (let z : _≡_ {A = ℕ} 0 1 = cc in omega arith)
@@ -62,6 +63,6 @@ module _ (a : CapacityRequest) (m : Model) (cap delay : ℕ) (marker : OptU8) wh
   derived h b =
       let o : GrantOf a m cap delay = grant-of h in
       let iff =
-      ms-derives-exactly (modelView (m .uplink .taken)) (m .uplink .now) (asked a) (o .in-range .0) (o .in-range .1) (o .run) (o .verdict) b in
+      ms-derives-exactly (modelView (m .uplink .taken)) (m .uplink .now) (requestOf a) (o .in-range .0) (o .in-range .1) (o .run) (o .verdict) b in
       let grants = ap₂ (λ (c d : ℕ). msHalfSlots (a .timeslot) c d b) (o .capacity-is) (o .delay-is) in
       (λ p. iff .0 (sym (o .reserved-is) ∙ p ∙ sym grants), λ p. o .reserved-is ∙ iff .1 p ∙ grants)

@@ -9,12 +9,12 @@ use Rattle.tdma_time.specs.Time.{Valid, cycle, clock}
 use Rattle.tdma_time.proofs.TimeLaws.{slotOf-below}
 use Rattle.uplink.specs.HalfSlot.{HalfSlot}
 use Rattle.history.specs.Call.{CapacityRequest, Call, request, run}
-use Rattle.history.specs.UplinkModel.{newUplink, takenBy}
+use Rattle.history.specs.UplinkModel.{newUplinkModel, takenBy}
 use Rattle.history.specs.Model.{Model, newModel, reserved, modelStep, modelAt}
 use Rattle.history.specs.Demand3.{farthest, slotsAdvanced, slotsAgreed}
 use Rattle.history.proofs.Steps.{run-append}
 use Rattle.history.proofs.ModelLaws.{held-not-free}
-use Rattle.history.proofs.ReservedLaws.{offset, request-now, Reserved, reserved-is}
+use Rattle.history.proofs.ReservedLaws.{offset, request-now, ReservedInModel, reserved-is}
 use Rattle.history.proofs.RunLaws.{run-now, keeps, within}
 
 -- one time, within 68 slots of n and of m slots later: the later 68 begin at or before it
@@ -23,7 +23,7 @@ overlap n k m j e h g l = omega arith
 
 -- the second cannot have what the first reserved
 clash : (a a′ : CapacityRequest) (m : Model) → m .uplink .now < cycle → (cs : List Call) → slotsAdvanced cs ≤ farthest → (y : HalfSlot)
-    → Reserved a m y → Reserved a′ (run modelStep cs (modelStep (request a) m .after)) y → ⊥
+    → ReservedInModel a m y → ReservedInModel a′ (run modelStep cs (modelStep (request a) m .after)) y → ⊥
 clash a a′ m v cs l y p q =
     let n : ℕ = m .uplink .now in
     let m′ : Model = modelStep (request a) m .after in
@@ -49,7 +49,7 @@ clash a a′ m v cs l y p q =
 
 pub disjoint : (x : TdmaTime) → Valid x → (before between : List Call) (a a′ : CapacityRequest) → slotsAdvanced between ≤ farthest
     → (y : HalfSlot) → List·Memᴰ y (reserved a (modelAt x before)) → List·Memᴰ y (reserved a′ (modelAt x (before ++ request a ∷ between))) → ⊥
-unfolding newModel newUplink run
+unfolding newModel newUplinkModel run
 disjoint x v before between a a′ l y p q =
     let m : Model = modelAt x before in
     clash a a′ m (run-now before (newModel x) (slotOf-below x v) .1) between l y (reserved-is a m y p)

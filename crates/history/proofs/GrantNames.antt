@@ -8,6 +8,7 @@ use Prim.Native.Nat.{ℕ, zero, suc, _+_, _-_, _*_, _/_, _<_}
 use native.Mathlib.Nat.{le-of-suc-le-suc, not-suc-le-zero}
 use lib.Dec.{leb, ltb}
 use lib.ListN.{length, getD}
+use Rattle.lists.proofs.Every.{All, all-append}
 use Rattle.sizes.specs.Sizes.{blockWidth}
 use Rattle.optional.specs.declared.OptU8.{OptU8}
 use Rattle.optional.specs.declared.OptU16.{OptU16}
@@ -19,14 +20,12 @@ use Rattle.dl_record.specs.declared.Record.{Record}
 use Rattle.dl_record.specs.Record.{addressKindOf}
 use Rattle.dl_queue.specs.Queue.{Item}
 use Rattle.dl_merge.specs.Merge.{mergeNamed}
-use Rattle.dl_merge.proofs.MergeLaws.{All}
 use Rattle.dl_merge.proofs.NameLaws.{Tied, merge-tied}
 use Rattle.dl_record.specs.Kind.{isStarted}
 use Rattle.bs_frag.specs.NextPdu.{fillFlag, headerOf, headerSize, Next, beginWith, begin, continue, next, endOctets}
-use Rattle.bs_frag.specs.declared.Outcome.{Outcome}
-use Rattle.bs_frag.specs.declared.Outcome.the-variants.{Finished, Waiting, Started}
-use Rattle.dl_send.specs.Send.{kept, nullIn, turn, sendAll, turns, readOff, roomAfter}
-use Rattle.dl_send.proofs.KeptLaws.{all-append}
+use Rattle.bs_frag.specs.declared.ChunkOutcome.{ChunkOutcome}
+use Rattle.bs_frag.specs.declared.ChunkOutcome.the-variants.{Finished, Waiting, Started}
+use Rattle.dl_send.specs.Send.{staying, nullIn, turn, sendAll, turns, readOff, roomAfter}
 use Rattle.dl_build.specs.Build.{inOrder, buildList}
 use Rattle.dl_build.proofs.OrderLaws.{order-all}
 use Rattle.history.specs.Model.{NamedSdu, namedSdu, namedBuilt, nameIn, namesIn}
@@ -161,7 +160,7 @@ module _ (R : ℕ → OptU8 → Option ℕ → Type 0) (bare : (n : ℕ) → R n
 module _ (R : ℕ → OptU8 → Option ℕ → Type 0) where
   -- ---- a list of records
 
-  kept-tied : (o : Outcome) (x : Item NamedSdu) → Tied R x → All (Tied R) (kept o x)
+  kept-tied : (o : ChunkOutcome) (x : Item NamedSdu) → Tied R x → All (Tied R) (staying o x)
   kept-tied Finished x k = tt
   kept-tied Waiting x k = (k, tt)
   kept-tied (Started n) x k = (k, tt)
@@ -171,7 +170,7 @@ module _ (R : ℕ → OptU8 → Option ℕ → Type 0) where
   left-tied room [] h = tt
   left-tied room (x ∷ xs) h =
       let s : Next = turn namedSdu room x in
-      all-append (Tied R) (kept (s .outcome) x) (sendAll namedSdu (s .room) xs .left) (kept-tied (s .outcome) x (h .0)) (left-tied (s .room) xs (h .1))
+      all-append (Tied R) (staying (s .outcome) x) (sendAll namedSdu (s .room) xs .left) (kept-tied (s .outcome) x (h .0)) (left-tied (s .room) xs (h .1))
 
   merged-tied : (xs : List (Item NamedSdu)) → All (Tied R) xs → All (Tied R) (inOrder (mergeNamed [] xs))
   merged-tied xs h = order-all (Tied R) (mergeNamed [] xs) (merge-tied R [] xs h)

@@ -1,5 +1,5 @@
 -- No grant gets lost in a build: merging keeps its name unless a grant queued behind it replaces it, and sending writes the name or leaves the record
--- waiting (`build-keeps`). Assumes nothing.
+-- waiting (`sent-or-pending`). Assumes nothing.
 use mathlib.Core.Path.{_≡_, refl, sym, ap, subst, _∙_}
 use mathlib.Core.Logic.{_⊎_, inl, inr, ⊎-elim}
 use mathlib.Core.Bool.{Bool, true, false, _&&_, _||_, cond}
@@ -9,6 +9,7 @@ use Prim.Native.Nat.{ℕ, _+_}
 use native.Mathlib.Omega.{arith}
 use lib.Dec.{eqb, leb, ltb}
 use borrow.Author.Tests.{eqb-true, eq-eqb}
+use Rattle.lists.proofs.Every.{All}
 use Rattle.sizes.specs.Sizes.{blockWidth}
 use Rattle.optional.proofs.Tests.{and-left, and-right}
 use Rattle.uplink.proofs.Basics.{not-both}
@@ -16,12 +17,11 @@ use Rattle.dl_record.specs.declared.Kind.{Kind}
 use Rattle.dl_record.specs.declared.Record.{Record}
 use Rattle.dl_record.specs.Kind.{isGrant, isGrantOrAck, isKept, isRecord, isStarted, isUnderway}
 use Rattle.dl_queue.specs.Queue.{Item, item}
-use Rattle.dl_merge.specs.Merge.{joined, takes, only, put, puts, merge, nameAfter, freshName, joinName, mergeNamed}
-use Rattle.dl_merge.proofs.MergeLaws.{All}
+use Rattle.dl_merge.specs.Merge.{joined, takesNumber, only, put, puts, merge, nameAfter, freshName, joinName, mergeNamed}
 use Rattle.bs_frag.specs.NextPdu.{headerSize, Next, beginWith, begin, next}
 use Rattle.bs_frag.proofs.Laws.{next-first}
-use Rattle.bs_frag.specs.declared.Outcome.the-variants.{Waiting}
-use Rattle.dl_send.specs.Send.{kept, turn, sendAll, turns, readOff, roomAfter}
+use Rattle.bs_frag.specs.declared.ChunkOutcome.the-variants.{Waiting}
+use Rattle.dl_send.specs.Send.{staying, turn, sendAll, turns, readOff, roomAfter}
 use Rattle.dl_build.specs.Build.{inOrder, buildList}
 use Rattle.history.proofs.GrantNames.{sentNames}
 use Rattle.history.specs.Model.{NamedSdu, namedSdu, namedBuilt, nameIn, pendingAs, pending, replaces}
@@ -119,9 +119,9 @@ module _ (number name : ℕ) where
   abbrev Passes : Kind → Item NamedSdu → Type 0
   Passes kind y = isRecord kind && isGrant (y .rec .kind) && eqb (y .rec .number) number ≡ false
 
-  joined-has : (kind : Kind) (g x : Item NamedSdu) → takes (g .rec .number) (x .rec) ≡ true → Passes kind g → Has kind number name x
+  joined-has : (kind : Kind) (g x : Item NamedSdu) → takesNumber (g .rec .number) (x .rec) ≡ true → Passes kind g → Has kind number name x
       → Has kind number name (item (joined (g .rec) (x .rec)) (joinName g (x .load)))
-  unfolding takes
+  unfolding takesNumber
   joined-has kind g x e p h = record { its-kind = h .its-kind; its-number = h .its-number; its-name = go (g .rec .kind) p }
     where
       of-record : isRecord kind ≡ true
@@ -141,9 +141,9 @@ module _ (number name : ℕ) where
       → Any (Has kind number name) (putNamed g xs)
   unfolding put
   put-keeps kind g p [] h = absurd h
-  put-keeps kind g p (x ∷ xs) h = go (λ k. put-keeps kind g p xs k) (takes (g .rec .number) (x .rec)) refl h
+  put-keeps kind g p (x ∷ xs) h = go (λ k. put-keeps kind g p xs k) (takesNumber (g .rec .number) (x .rec)) refl h
     where
-      go : (Any (Has kind number name) xs → Any (Has kind number name) (putNamed g xs)) → (b : Bool) → takes (g .rec .number) (x .rec) ≡ b
+      go : (Any (Has kind number name) xs → Any (Has kind number name) (putNamed g xs)) → (b : Bool) → takesNumber (g .rec .number) (x .rec) ≡ b
           → Has kind number name x ⊎ Any (Has kind number name) xs
           → Any (Has kind number name) (cond b (item (joined (g .rec) (x .rec)) (joinName g (x .load)) ∷ xs) (x ∷ putNamed g xs))
       go below true e (inl k) = inl (joined-has kind g x e p k)
@@ -159,7 +159,7 @@ module _ (number name : ℕ) where
 
   -- a grant goes into a record
   put-has : (g : Item NamedSdu) → Has Kind.Grant number name g → (xs : List (Item NamedSdu)) → Any (Has Kind.Record number name) (putNamed g xs)
-  unfolding put takes
+  unfolding put takesNumber
   put-has g h [] = inl (record { its-kind = refl; its-number = h .its-number; its-name = h .its-name })
   put-has g h (x ∷ xs) = go (put-has g h xs) (isRecord (x .rec .kind) && eqb (x .rec .number) (g .rec .number)) refl
     where
@@ -215,7 +215,7 @@ module _ (number name : ℕ) where
 
   one-sent : (s : Next) (x : Item NamedSdu) (names : List (Option ℕ)) (left : List (Item NamedSdu)) → x .rec .number ≡ number
       → x .load .name ≡ some name → Writes (x .load .name) s
-      → Fate (map (nameIn (x .load .name)) (s .pdus) ++ names) (kept (s .outcome) x ++ left)
+      → Fate (map (nameIn (x .load .name)) (s .pdus) ++ names) (staying (s .outcome) x ++ left)
   one-sent s x names left n e (inl m) = inl (Memᴰ·append-left names (Memᴰ·cast (sym e) m))
   one-sent s x names left n e (inr o) = inr (rw o (inl (record { its-kind = refl; its-number = n; its-name = e })))
 
@@ -228,7 +228,7 @@ module _ (number name : ℕ) where
   send-keeps kind b room (x ∷ xs) (inr h) =
       let s : Next = turn namedSdu room x in
       ⊎-elim (λ m. inl (Memᴰ·append-right (map (nameIn (x .load .name)) (s .pdus)) m))
-      (λ a. inr (any-right (Has Kind.Waiting number name) (kept (s .outcome) x) _ a))
+      (λ a. inr (any-right (Has Kind.Waiting number name) (staying (s .outcome) x) _ a))
       (send-keeps kind b (s .room) xs h)
 
   -- ---- a build
@@ -248,12 +248,12 @@ module _ (number name : ℕ) where
   left-pending (x ∷ xs) (inl h) = List·Memᴰ·head (sym (ap (λ (k : Kind). pendingAs k (x .load .name)) (h .its-kind) ∙ h .its-name))
   left-pending (x ∷ xs) (inr h) = List·Memᴰ·tail (left-pending xs h)
 
-pub build-keeps : (front back : List (Item NamedSdu)) (g : Item NamedSdu) (name : ℕ) → pending g ≡ some name
+pub sent-or-pending : (front back : List (Item NamedSdu)) (g : Item NamedSdu) (name : ℕ) → pending g ≡ some name
     → ((y : Item NamedSdu) → List·Memᴰ y back → replaces y g ≡ false)
     → List·Memᴰ (some name) (sentNames blockWidth (inOrder (mergeNamed [] (front ++ g ∷ back))))
     ⊎ List·Memᴰ (some name) (map pending (namedBuilt (front ++ g ∷ back) .left))
 unfolding namedBuilt buildList
-build-keeps front back g name e k =
+sent-or-pending front back g name e k =
     ⊎-elim inl (λ a. inr (left-pending (g .rec .number) name (namedBuilt (front ++ g ∷ back) .left) a))
     (order-keeps (g .rec .number) name (mergeNamed [] (front ++ g ∷ back)) (go (g .rec .kind) refl e k))
   where

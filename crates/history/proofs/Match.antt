@@ -7,9 +7,9 @@ use Prim.Native.Nat.{ℕ, _+_, _-_, _%_, _≤_, _<_}
 use native.Mathlib.Omega.{arith}
 use native.Mathlib.Decide.{ℕ-discrete}
 use lib.Dec.{eqb}
+use Rattle.lists.proofs.Every.{All}
 use Rattle.optional.specs.declared.OptU8.{OptU8}
 use Rattle.tdma_time.specs.Time.{cycle, clock}
-use Rattle.tdma_time.proofs.Basics.{All}
 use Rattle.uplink.specs.declared.Entry.{Entry}
 use Rattle.uplink.specs.HalfSlot.{Half, firstHalf, secondHalf, halvesAt, halvesOfSlots}
 use Rattle.uplink.specs.UplinkEntry.{emptyEntry, Table, FourRowsOfEighteen, emptyTable, entryAt, store, holder, tableView, withHalves, withMarker, reserve}
@@ -29,7 +29,8 @@ pub record Matched (n : ℕ) (t : Table) (xs : List Taken) : Type 0 where
   pub ahead : (c : ℕ) → n + slotsAgreed ≤ c → c < n + cycle → modelEntry xs c ≡ emptyEntry
 
 -- half by half
-pub same-halves : (n : ℕ) (t : Table) (xs : List Taken) → Matched n t xs → (c : ℕ) → n ≤ c → c < n + (slotsAgreed + 1) → (h : Half) → tableView t c h ≡ modelView xs c h
+pub same-halves : (n : ℕ) (t : Table) (xs : List Taken) → Matched n t xs → (c : ℕ) → n ≤ c → c < n + (slotsAgreed + 1) → (h : Half)
+    → tableView t c h ≡ modelView xs c h
 same-halves n t xs m c l g h = ap (λ (e : Entry). holder e h) (m .agree c l g) ∙ holder-entry xs c h
 
 -- ---- slots of the window
@@ -127,7 +128,8 @@ module _ (n : ℕ) (t : Table) (xs : List Taken) (valid : n < cycle) (m : Matche
 
       off : c ≢ n + (slotsAgreed + 1) → entryAt left c ≡ modelEntry (freed xs n) c
       off p =
-          store-other t _ emptyEntry (m .shape) c (λ q. apart-cell n c (n + (slotsAgreed + 1)) (omega arith) (omega arith) (omega arith) (omega arith) p (q ∙ emptied-cell n))
+          store-other t _ emptyEntry (m .shape) c (λ q. apart-cell n c (n + (slotsAgreed + 1)) (omega arith) (omega arith) (omega arith) (omega arith) p
+          (q ∙ emptied-cell n))
           ∙ m .agree c (omega arith) (omega arith)
           ∙ sym (entry-stays xs n c stays)
 

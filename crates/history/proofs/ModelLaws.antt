@@ -7,11 +7,12 @@ use Prim.Native.Nat.{ℕ}
 use native.Mathlib.Omega.{arith}
 use lib.Dec.{eqb}
 use borrow.Author.Tests.{eqb-true, eq-eqb, ne-eqb}
+use Rattle.lists.proofs.Every.{All, all-weaken}
 use Rattle.optional.specs.declared.OptU8.{OptU8}
 use Rattle.optional.specs.declared.OptU32.{OptU32}
 use Rattle.optional.proofs.Tests.{and-left, and-right}
 use Rattle.tdma_time.specs.Time.{clock}
-use Rattle.tdma_time.proofs.Basics.{either, All, all-map}
+use Rattle.tdma_time.proofs.Basics.{either}
 use Rattle.uplink.specs.HalfSlot.{Half, firstHalf, secondHalf, HalfSlot, halvesAt}
 use Rattle.uplink.proofs.Basics.{not-both}
 use Rattle.history.specs.UplinkModel.{Taken, sameHalf, takenBy, freed, takeHalves}
@@ -126,7 +127,7 @@ free-other xs t h w e y f = ⊎-elim clash (λ n. n) (either _)
 
 pub takes-stays : (ys : List HalfSlot) (who : ℕ) (marker : OptU8) (xs : List Taken) (t : ℕ) (h : Half) (w : ℕ) → All (Free xs) ys
     → takenBy xs t h ≡ OptU32.Of w → takenBy (takeHalves ys who marker xs) t h ≡ OptU32.Of w
-takes-stays ys who marker xs t h w f e = takes-other ys who marker xs t h (all-map (free-other xs t h w e) ys f) ∙ e
+takes-stays ys who marker xs t h w f e = takes-other ys who marker xs t h (all-weaken _ _ (free-other xs t h w e) ys f) ∙ e
 
 -- ---- what is held was taken now, or held before
 

@@ -8,6 +8,7 @@ use Prim.Native.Nat.{ℕ, zero, suc, _-_, _≤_}
 use native.Mathlib.Omega.{arith}
 use lib.ListN.{length, getD, set, length-append}
 use lib.Seq.{append-snoc}
+use Rattle.lists.proofs.Every.{All, all-weaken, all-append}
 use Rattle.optional.specs.declared.OptU8.{OptU8}
 use Rattle.optional.proofs.Tests.{and-right}
 use Rattle.tdma_time.specs.declared.TdmaTime.{TdmaTime}
@@ -19,17 +20,15 @@ use Rattle.uplink.proofs.Basics.{not-both}
 use Rattle.mac_pdus.specs.Legal.{absentU8, legalQueued, legalOffered}
 use Rattle.dl_record.specs.Record.{grantRecord, ackRecord, resourceOf}
 use Rattle.dl_queue.specs.Queue.{Item, item}
-use Rattle.dl_merge.proofs.MergeLaws.{All, all-weaken}
 use Rattle.dl_merge.proofs.NameLaws.{Tied}
-use Rattle.dl_send.proofs.KeptLaws.{all-append}
 use Rattle.questions.specs.Questions.{refusalNumber, ask}
 use Rattle.questions.proofs.AskLaws.{AllYes, yes-before}
 use Rattle.sched_core.proofs.QuestionLaws.{timeslot-range}
-use Rattle.history.specs.Call.{CapacityRequest, asked, RecordOffer, recordOf, Call, advance, request, enqueueAck, enqueueRecord, build, read}
+use Rattle.history.specs.Call.{CapacityRequest, requestOf, RecordOffer, recordOf, Call, advance, request, enqueueAck, enqueueRecord, build, read}
 use Rattle.history.specs.Call.{refused, granted, noBlock, Stepped, stepped, unlessRefused, run}
 use Rattle.history.specs.Queues.{Queues, noQueues, queueAt, appended, canBuild}
 use Rattle.history.specs.UplinkModel.{modelVerdict}
-use Rattle.history.specs.Model.{NamedSdu, named, bare, ofSdu, Model, newModel, counted, requestAsked, requested, built, modelStep, modelAt}
+use Rattle.history.specs.Model.{NamedSdu, named, bare, ofSdu, Model, newModel, onlyCounted, requestAsked, requested, built, modelStep, modelAt}
 use Rattle.history.specs.Demand3.{Origin}
 use Rattle.history.proofs.Steps.{run-more, unless-after}
 use Rattle.history.proofs.GrantNames.{built-left}
@@ -159,18 +158,18 @@ module _ (x : TdmaTime) (xs : List Call) (k : modelAt x xs .count ≡ length xs)
       }
 
   after-request : (a : CapacityRequest) → Everywhere x (xs ++ request a ∷ []) (m .queues) → AllYes (requestAsked a m)
-      → Everywhere x (xs ++ request a ∷ []) (requested a (modelVerdict (m .uplink) (asked a)) m .after .queues)
+      → Everywhere x (xs ++ request a ∷ []) (requested a (modelVerdict (m .uplink) (requestOf a)) m .after .queues)
   unfolding Everywhere modelStep unlessRefused ask requested
   after-request a e q =
-      go (modelVerdict (m .uplink) (asked a))
+      go (modelVerdict (m .uplink) (requestOf a))
       (λ g r.
       ap (λ (y : Stepped Model). y .reply)
-      (yes-before (requested a (modelVerdict (m .uplink) (asked a)) m) (λ x. stepped (counted m) (refused (refusalNumber x))) (requestAsked a m) [] q)
+      (yes-before (requested a (modelVerdict (m .uplink) (requestOf a)) m) (λ x. stepped (onlyCounted m) (refused (refusalNumber x))) (requestAsked a m) [] q)
       ∙ ap (λ (w : Verdict). requested a w m .reply) r) refl
     where
       go : (w : Verdict)
-          → ((g : Run) → modelVerdict (m .uplink) (asked a) ≡ grant g → modelStep (request a) m .reply ≡ requested a (grant g) m .reply)
-          → modelVerdict (m .uplink) (asked a) ≡ w → Everywhere x (xs ++ request a ∷ []) (requested a w m .after .queues)
+          → ((g : Run) → modelVerdict (m .uplink) (requestOf a) ≡ grant g → modelStep (request a) m .reply ≡ requested a (grant g) m .reply)
+          → modelVerdict (m .uplink) (requestOf a) ≡ w → Everywhere x (xs ++ request a ∷ []) (requested a w m .after .queues)
       go noRun f r = e
       go tooLate f r = e
       go (grant g) f r =
@@ -195,42 +194,44 @@ module _ (x : TdmaTime) (xs : List Call) (k : modelAt x xs .count ≡ length xs)
       t : ℕ
       t = timeslot (m .uplink .now)
 
-      go : (b : Bool) (y : Stepped Model) → Everywhere x ys (y .after .queues) → Everywhere x ys (cond b y (stepped (counted m) noBlock) .after .queues)
+      go : (b : Bool) (y : Stepped Model) → Everywhere x ys (y .after .queues) → Everywhere x ys (cond b y (stepped (onlyCounted m) noBlock) .after .queues)
       go true y h = h
       go false y h = e
 
   after-call : (c : Call) → Everywhere x (xs ++ c ∷ []) (m .queues) → Everywhere x (xs ++ c ∷ []) (modelStep c m .after .queues)
   unfolding modelStep Everywhere
   after-call advance e = e
-  after-call (request a) e = unless-after (λ (n : Model). Everywhere x (xs ++ request a ∷ []) (n .queues)) _ (counted m) _ e (after-request a e)
+  after-call (request a) e = unless-after (λ (n : Model). Everywhere x (xs ++ request a ∷ []) (n .queues)) _ (onlyCounted m) _ e (after-request a e)
   after-call (enqueueAck o) e =
-      unless-after (λ (n : Model). Everywhere x (xs ++ enqueueAck o ∷ []) (n .queues)) _ (counted m) _ e
-      (λ q. bare-joins (xs ++ enqueueAck o ∷ []) (o .timeslot) (item (ackRecord (o .kind) (o .number)) bare) (timeslot-range (o .timeslot) (q .0) .0) refl refl e)
+      unless-after (λ (n : Model). Everywhere x (xs ++ enqueueAck o ∷ []) (n .queues)) _ (onlyCounted m) _ e
+      (λ q. bare-joins (xs ++ enqueueAck o ∷ []) (o .timeslot) (item (ackRecord (o .kind) (o .number)) bare)
+      (timeslot-range (o .timeslot) (q .0) .0) refl refl e)
   after-call (enqueueRecord o) e =
-      unless-after (λ (n : Model). Everywhere x (xs ++ enqueueRecord o ∷ []) (n .queues)) _ (counted m) _ e
+      unless-after (λ (n : Model). Everywhere x (xs ++ enqueueRecord o ∷ []) (n .queues)) _ (onlyCounted m) _ e
       (λ q.
       bare-joins (xs ++ enqueueRecord o ∷ []) (o .timeslot) (item (recordOf o) (ofSdu (o .bits) (o .octets))) (timeslot-range (o .timeslot) (q .0) .0)
       (offer-bare o (q .1 .1 .0)) refl e)
-  after-call (build b) e = unless-after (λ (n : Model). Everywhere x (xs ++ build b ∷ []) (n .queues)) _ (counted m) _ e (λ q. after-build _ e)
-  after-call (read q) e = unless-after (λ (n : Model). Everywhere x (xs ++ read q ∷ []) (n .queues)) _ (counted m) _ e (λ k. e)
+  after-call (build b) e = unless-after (λ (n : Model). Everywhere x (xs ++ build b ∷ []) (n .queues)) _ (onlyCounted m) _ e (λ q. after-build _ e)
+  after-call (read q) e = unless-after (λ (n : Model). Everywhere x (xs ++ read q ∷ []) (n .queues)) _ (onlyCounted m) _ e (λ k. e)
 
 step-count : (c : Call) (m : Model) → modelStep c m .after .count ≡ suc (m .count)
 unfolding modelStep requested built
 step-count advance m = refl
-step-count (request a) m = unless-after (λ (n : Model). n .count ≡ suc (m .count)) _ (counted m) _ refl (λ e. go (modelVerdict (m .uplink) (asked a)))
+step-count (request a) m = unless-after (λ (n : Model). n .count ≡ suc (m .count)) _ (onlyCounted m) _ refl (λ e. go (modelVerdict (m .uplink) (requestOf a)))
   where
     go : (w : Verdict) → requested a w m .after .count ≡ suc (m .count)
     go noRun = refl
     go tooLate = refl
     go (grant g) = refl
-step-count (enqueueAck o) m = unless-after (λ (n : Model). n .count ≡ suc (m .count)) _ (counted m) _ refl (λ e. refl)
-step-count (enqueueRecord o) m = unless-after (λ (n : Model). n .count ≡ suc (m .count)) _ (counted m) _ refl (λ e. refl)
-step-count (build b) m = unless-after (λ (n : Model). n .count ≡ suc (m .count)) _ (counted m) _ refl (λ e. go (canBuild (m .uplink .now) (m .queues)) _ refl)
+step-count (enqueueAck o) m = unless-after (λ (n : Model). n .count ≡ suc (m .count)) _ (onlyCounted m) _ refl (λ e. refl)
+step-count (enqueueRecord o) m = unless-after (λ (n : Model). n .count ≡ suc (m .count)) _ (onlyCounted m) _ refl (λ e. refl)
+step-count (build b) m =
+    unless-after (λ (n : Model). n .count ≡ suc (m .count)) _ (onlyCounted m) _ refl (λ e. go (canBuild (m .uplink .now) (m .queues)) _ refl)
   where
-    go : (b : Bool) (y : Stepped Model) → y .after .count ≡ suc (m .count) → cond b y (stepped (counted m) noBlock) .after .count ≡ suc (m .count)
+    go : (b : Bool) (y : Stepped Model) → y .after .count ≡ suc (m .count) → cond b y (stepped (onlyCounted m) noBlock) .after .count ≡ suc (m .count)
     go true y h = h
     go false y h = refl
-step-count (read q) m = unless-after (λ (n : Model). n .count ≡ suc (m .count)) _ (counted m) _ refl (λ e. refl)
+step-count (read q) m = unless-after (λ (n : Model). n .count ≡ suc (m .count)) _ (onlyCounted m) _ refl (λ e. refl)
 
 named-more : (x : TdmaTime) (xs : List Call) (c : Call) → Named x xs → Named x (xs ++ c ∷ [])
 named-more x xs c i =

@@ -3,11 +3,12 @@ use mathlib.Core.Path.{_≡_, refl, sym, ap, ap₂, _∙_}
 use mathlib.Core.List.{List, [], _∷_, _++_, map, map-append}
 use Prim.Native.Nat.{ℕ, zero, suc, _-_}
 use lib.ListN.{length, set, length-map, List·getD-map}
+use Rattle.lists.proofs.Every.{all-every}
 use Rattle.sizes.specs.Sizes.{blockWidth}
 use Rattle.dl_record.specs.declared.Record.{Record}
 use Rattle.dl_queue.specs.Queue.{Item}
 use Rattle.dl_merge.specs.Merge.{merge, always, keep, mergeCells, mergeNamed}
-use Rattle.dl_merge.proofs.MergeLaws.{All, reload, sduInCell, merge-sdus, unnamed, merge-unnamed}
+use Rattle.dl_merge.proofs.MergeLaws.{reload, sduInCell, merge-sdus, unnamed, merge-unnamed}
 use Rattle.dl_send.specs.Send.{Sent, cellSdu}
 use Rattle.dl_send.proofs.MapLaws.{Steady, SameSdu, reloadSent}
 use Rattle.dl_build.specs.Build.{buildList}
@@ -21,10 +22,6 @@ map-set : {A B : Type 0} (f : A → B) (xs : List A) (i : ℕ) (a : A) → map f
 map-set f [] i a = refl
 map-set f (x ∷ xs) zero a = refl
 map-set f (x ∷ xs) (suc i) a = ap (λ l. f x ∷ l) (map-set f xs i a)
-
-all-every : {A : Type 0} (P : A → Type 0) → ((x : A) → P x) → (xs : List A) → All P xs
-all-every P h [] = tt
-all-every P h (x ∷ xs) = (h x, all-every P h xs)
 
 -- ---- loads mapped in queues
 

@@ -8,6 +8,7 @@ use lib.Dec.{ltb}
 use lib.ListN.{length, getD, take, List·getD-map}
 use lib.Seq.{take-at, length-take-le}
 use borrow.Author.Tests.{ltb-true}
+use Rattle.dl_queue.proofs.EnqueueLaws.{cell-joins, empty-joins}
 use Rattle.sizes.specs.Sizes.{perTimeslot, cellOctets, timeslotOctets}
 use Rattle.bitbuffer.specs.Bits.{bitsOf}
 use Rattle.bitbuffer.proofs.Laws.{length-bitsOf}
@@ -18,13 +19,10 @@ use Rattle.uplink.specs.Request.{Verdict, noRun, tooLate, grant, replyTo, answe
 use Rattle.dl_record.specs.declared.Record.{Record}
 use Rattle.dl_record.specs.Record.{ackRecord}
 use Rattle.dl_record.specs.Questions.{presentSdu}
-use Rattle.sdu_store.specs.Cells.{cellOf}
-use Rattle.sdu_store.proofs.CellBits.{length-cellOf, bits-cellOf}
+use Rattle.dl_sdu_store.specs.Cells.{cellOf}
+use Rattle.dl_sdu_store.proofs.CellBits.{length-cellOf, bits-cellOf}
 use Rattle.dl_queue.specs.Queue.{item, zeroCell, queuesOf, enqueued, withCell}
 use Rattle.dl_queue.proofs.QueueLaws.{counts-back}
-use Rattle.dl_queue.proofs.PushLaws.{queues-push}
-use Rattle.dl_queue.proofs.SetLaws.{zero-size}
-use Rattle.dl_queue.proofs.SoundLaws.{queue-at, unused-cell}
 use Rattle.dl_merge.proofs.MergeLaws.{reload, sduInCell, unnamed}
 use Rattle.questions.specs.declared.Refusal.{Refusal}
 use Rattle.questions.specs.Questions.{Question, ask}
@@ -38,11 +36,11 @@ use Rattle.sched_core.specs.Calls.{withRecord, withSdu, ackCall, tmaCall}
 use Rattle.sched_core.specs.Invariant.{SoundMemory}
 use Rattle.sched_core.proofs.QuestionLaws.{timeslot-range, sdu-range, memory-passes}
 use Rattle.sched_core.proofs.KeptLaws.{sound-yes}
-use Rattle.history.specs.Call.{CapacityRequest, asked, AckOffer, RecordOffer, recordOf, advance, request, enqueueAck, enqueueRecord}
+use Rattle.history.specs.Call.{CapacityRequest, requestOf, AckOffer, RecordOffer, recordOf, advance, request, enqueueAck, enqueueRecord}
 use Rattle.history.specs.Call.{done, Stepped, unlessRefused}
 use Rattle.history.specs.Queues.{Queues, queuedAt, appended}
 use Rattle.history.specs.UplinkModel.{modelView, modelVerdict}
-use Rattle.history.specs.Model.{NamedSdu, Model, became, bare, ofSdu, counted, requestAsked, requested, modelStep}
+use Rattle.history.specs.Model.{NamedSdu, Model, became, bare, ofSdu, onlyCounted, requestAsked, requested, modelStep}
 use Rattle.history.specs.Memory.{queueReply, requestReply, answered, memoryStep}
 use Rattle.history.proofs.Steps.{Agree}
 use Rattle.history.proofs.Simulation.{Alike, grant-alike, answer-reply, advance-alike}
@@ -85,7 +83,7 @@ module _ (m : Memory) (b : Model) (k : SoundMemory m) (a : Same m b) where
       ∙ same-count (listsOf m) (b .queues) (a .queues) t
 
   -- a call that changes nothing
-  pub stays : Same m (counted b)
+  pub stays : Same m (onlyCounted b)
   stays = record { uplink = up; queues = a .queues }
 
   -- ---- an advance
@@ -122,19 +120,17 @@ module _ (m : Memory) (b : Model) (k : SoundMemory m) (a : Same m b) where
     unfolding appended
     joins r c y l e =
         subst (λ (qs : Queues (List ℕ)). Held qs (appended (b .queues) t (item r y)))
-        (sym
-        (queues-push ns (m .records) (m .store) (t - 1) (getD ns (t - 1) 0) r c inside refl room (λ u h. queue-at ns (m .records) (m .store) (k .queue) u h .0)
-        places size l))
+        (sym (cell-joins ns (m .records) (m .store) (t - 1) inside room places size (k .queue) r c l))
         (appended-held (listsOf m) (b .queues) (a .queues) t (item r c) (item r y) e)
 
     -- without SDU: its cell is zero as it stands
     bare-joins : (r : Record) (y : NamedSdu) → reload sduInCell (item r zeroCell) ≡ reload unnamed (item r y)
         → Held (queuesWith r (m .store)) (appended (b .queues) t (item r y))
+    unfolding appended
     bare-joins r y e =
-        subst
-        (λ (st : List ℕ). Held (queuesWith r st) (appended (b .queues) t (item r y)))
-        (sym (unused-cell ns (m .records) (m .store) (t - 1) (getD ns (t - 1) 0) inside refl room size (k .octets) (k .queue)))
-        (joins r zeroCell y zero-size e)
+        subst (λ (qs : Queues (List ℕ)). Held qs (appended (b .queues) t (item r y)))
+        (sym (empty-joins ns (m .records) (m .store) (t - 1) inside room places size (k .queue) r (k .octets)))
+        (appended-held (listsOf m) (b .queues) (a .queues) t (item r zeroCell) (item r y) e)
 
   -- ---- a request
 
@@ -144,7 +140,7 @@ module _ (m : Memory) (b : Model) (k : SoundMemory m) (a : Same m b) where
 
     -- what the search answers
     abbrev given : CapAnswer
-    given = answer (m .station .uplink) (asked c)
+    given = answer (m .station .uplink) (requestOf c)
 
     abbrev answeredAs : CapReply → Outcome RequestReply
     answeredAs x = grantQueued m (c .timeslot) (c .kind) (c .number) given x
@@ -152,19 +148,19 @@ module _ (m : Memory) (b : Model) (k : SoundMemory m) (a : Same m b) where
     abbrev no : Refusal → Outcome RequestReply
     no r = outcome (RequestReply.Refused r) m
 
-    answered-agrees : legalTimeslot (c .timeslot) ≡ true → ltb queued perTimeslot ≡ true → (w : Verdict) → modelVerdict (b .uplink) (asked c) ≡ w
-        → Agree Same (answered requestReply (answeredAs (replyTo (modelView (b .uplink .taken)) (b .uplink .markers) (asked c) w))) (requested c w b)
+    answered-agrees : legalTimeslot (c .timeslot) ≡ true → ltb queued perTimeslot ≡ true → (w : Verdict) → modelVerdict (b .uplink) (requestOf c) ≡ w
+        → Agree Same (answered requestReply (answeredAs (replyTo (modelView (b .uplink .taken)) (b .uplink .markers) (requestOf c) w))) (requested c w b)
     unfolding grantQueued requested replyTo
     answered-agrees legal fits noRun e = record { after = stays; reply = refl }
     answered-agrees legal fits tooLate e = record { after = stays; reply = refl }
     answered-agrees legal fits (grant g) e =
-        record { after = record { uplink = grant-alike _ _ up (asked c) g e; queues = bare-joins (c .timeslot) legal fits _ _ refl }; reply = refl }
+        record { after = record { uplink = grant-alike _ _ up (requestOf c) g e; queues = bare-joins (c .timeslot) legal fits _ _ refl }; reply = refl }
 
     searched : legalTimeslot (c .timeslot) ≡ true → ltb queued perTimeslot ≡ true
-        → Agree Same (answered requestReply (answeredAs (given .reply))) (requested c (modelVerdict (b .uplink) (asked c)) b)
+        → Agree Same (answered requestReply (answeredAs (given .reply))) (requested c (modelVerdict (b .uplink) (requestOf c)) b)
     searched legal fits =
-        subst (λ (r : CapReply). Agree Same (answered requestReply (answeredAs r)) (requested c (modelVerdict (b .uplink) (asked c)) b))
-        (sym (answer-reply _ _ up (asked c) (modelVerdict (b .uplink) (asked c)) refl)) (answered-agrees legal fits _ refl)
+        subst (λ (r : CapReply). Agree Same (answered requestReply (answeredAs r)) (requested c (modelVerdict (b .uplink) (requestOf c)) b))
+        (sym (answer-reply _ _ up (requestOf c) (modelVerdict (b .uplink) (requestOf c)) refl)) (answered-agrees legal fits _ refl)
 
     -- its own questions decide, and the book counts what the station counts
     request-asks : requestCall m (c .timeslot) (c .code) (c .kind) (c .number) ≡ ask (requestAsked c b) (answeredAs (given .reply)) no

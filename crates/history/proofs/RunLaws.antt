@@ -10,8 +10,8 @@ use Rattle.tdma_time.specs.Time.{cycle, clock}
 use Rattle.uplink.specs.HalfSlot.{Half}
 use Rattle.history.specs.Call.{CapacityRequest, Call, advance, request, enqueueAck, enqueueRecord, build, read, noBlock, Stepped, stepped, run}
 use Rattle.history.specs.Queues.{canBuild}
-use Rattle.history.specs.UplinkModel.{UplinkModel, takenBy, modelView, advancedUplink}
-use Rattle.history.specs.Model.{Model, counted, built, modelStep}
+use Rattle.history.specs.UplinkModel.{UplinkModel, takenBy, modelView, advancedUplinkModel}
+use Rattle.history.specs.Model.{Model, onlyCounted, built, modelStep}
 use Rattle.history.specs.Demand3.{slotsIn, slotsAdvanced, slotsAgreed}
 use Rattle.history.proofs.Steps.{unless-after}
 use Rattle.history.proofs.ModelLaws.{freed-other}
@@ -23,7 +23,7 @@ build-leaves : (m : Model) → built m .after .uplink ≡ m .uplink
 unfolding built
 build-leaves m = go (canBuild (m .uplink .now) (m .queues)) _ refl
   where
-    go : (b : Bool) (x : Stepped Model) → x .after .uplink ≡ m .uplink → cond b x (stepped (counted m) noBlock) .after .uplink ≡ m .uplink
+    go : (b : Bool) (x : Stepped Model) → x .after .uplink ≡ m .uplink → cond b x (stepped (onlyCounted m) noBlock) .after .uplink ≡ m .uplink
     go true x e = e
     go false x e = refl
 
@@ -45,7 +45,7 @@ touch m (read q) = leaves refl (unless-after (λ (n : Model). n .uplink ≡ m .u
 module _ (m : Model) (v : m .uplink .now < cycle) where
   -- the time is as many slots on as the call advances
   pub step-now : (c : Call) → modelStep c m .after .uplink .now ≡ clock (m .uplink .now + slotsIn c)
-  unfolding modelStep advancedUplink
+  unfolding modelStep advancedUplinkModel
   step-now c = go (touch m c)
     where
       go : {c : Call} → Touch m c → modelStep c m .after .uplink .now ≡ clock (m .uplink .now + slotsIn c)
@@ -59,7 +59,7 @@ module _ (m : Model) (v : m .uplink .now < cycle) where
   -- what is held in a slot k after now stays held by a call that advances at most k
   step-keeps : (c : Call) (k : ℕ) → slotsIn c ≤ k → k < cycle → (h : Half) (w : ℕ) → modelView (m .uplink .taken) (m .uplink .now + k) h ≡ OptU32.Of w
       → modelView (modelStep c m .after .uplink .taken) (m .uplink .now + k) h ≡ OptU32.Of w
-  unfolding modelStep advancedUplink
+  unfolding modelStep advancedUplinkModel
   step-keeps c k l g h w e = go (touch m c) l
     where
       go : {c : Call} → Touch m c → slotsIn c ≤ k → modelView (modelStep c m .after .uplink .taken) (m .uplink .now + k) h ≡ OptU32.Of w

@@ -16,7 +16,7 @@ use Rattle.uplink.specs.Request.{Request, Verdict, noRun, tooLate, grant, verdi
 use Rattle.uplink.specs.Request.{countersAfter, given, answer}
 use Rattle.uplink.proofs.RequestLaws.{wanted-pos}
 use Rattle.uplink.proofs.VerdictLaws.{AgreeFrom, Granted, verdict-grant, granted-near, granted-length, verdict-agree, capacity-agree}
-use Rattle.history.specs.UplinkModel.{UplinkModel, newUplink, takeHalves, modelView, modelVerdict, advancedUplink, takenFor}
+use Rattle.history.specs.UplinkModel.{UplinkModel, newUplinkModel, takeHalves, modelView, modelVerdict, advancedUplinkModel, takenFor}
 use Rattle.history.proofs.Match.{Matched, same-halves, halves-some, reserve-matched, advance-matched, new-matched}
 
 -- time, counters and table are those of the model's uplink
@@ -89,8 +89,8 @@ module _ (s : Uplink) (u : UplinkModel) (a : Alike s u) where
   unfolding given
   answer-reply r w e = ap (λ (y : CapAnswer). y .reply) (answer-is r w e) ∙ same-reply r w e
 
-  pub advance-alike : Alike (advanced s) (advancedUplink u)
-  unfolding advancedUplink
+  pub advance-alike : Alike (advanced s) (advancedUplinkModel u)
+  unfolding advancedUplinkModel
   advance-alike =
       let next : slotOf (nextTime x) ≡ clock (u .now + 1) = slotOf-timeOf (slotOf x + 1) ∙ ap (λ (n : ℕ). clock (n + 1)) (a .now) in
       record {
@@ -100,6 +100,6 @@ module _ (s : Uplink) (u : UplinkModel) (a : Alike s u) where
         matched = rw next (advance-matched (u .now) tb (u .taken) below-cycle (a .matched));
       }
 
-pub new-alike : (x : TdmaTime) → Valid x → Alike (new x) (newUplink x)
-unfolding newUplink
+pub new-alike : (x : TdmaTime) → Valid x → Alike (new x) (newUplinkModel x)
+unfolding newUplinkModel
 new-alike x v = record { valid = v; now = refl; markers = refl; matched = new-matched (slotOf x) }

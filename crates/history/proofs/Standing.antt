@@ -10,12 +10,12 @@ use Rattle.tdma_time.specs.Time.{Valid, cycle, clock}
 use Rattle.tdma_time.proofs.TimeLaws.{slotOf-below}
 use Rattle.uplink.specs.HalfSlot.{Half, HalfSlot}
 use Rattle.history.specs.Call.{CapacityRequest, Call, advance, request, run}
-use Rattle.history.specs.UplinkModel.{UplinkModel, newUplink, takenBy, freed, advancedUplink}
+use Rattle.history.specs.UplinkModel.{UplinkModel, newUplinkModel, takenBy, freed, advancedUplinkModel}
 use Rattle.history.specs.Model.{Model, newModel, reserved, modelStep, modelAt}
 use Rattle.history.specs.Demand3.{slotsAdvanced, Standing}
 use Rattle.history.proofs.Steps.{run-append}
 use Rattle.history.proofs.ModelLaws.{held-not-free, freed-same, freed-other, halfSlot, takes-source}
-use Rattle.history.proofs.ReservedLaws.{offset, request-now, request-taken, Reserved, reserved-is}
+use Rattle.history.proofs.ReservedLaws.{offset, request-now, request-taken, ReservedInModel, reserved-is}
 use Rattle.history.proofs.RunLaws.{Touch, advances, requests, leaves, touch, step-below, run-now, keeps, within}
 
 -- a time is not passed in a list of calls from slot n on
@@ -62,7 +62,7 @@ module _ (t : ℕ) (h : Half) (w : ℕ) where
 
   after-call : (m : Model) (cs : List Call) → m .uplink .now < cycle → {c : Call} → Touch m c → takenBy (modelStep c m .after .uplink .taken) t h ≡ OptU32.Of w
       → NotPassed (modelStep c m .after .uplink .now) t cs → Source m (c ∷ cs) t h w
-  unfolding modelStep advancedUplink slotsAdvanced
+  unfolding modelStep advancedUplinkModel slotsAdvanced
   after-call m cs v advances o p = after-advance m cs v o p
   after-call m cs v (requests a) o p = after-request a m cs o p
   after-call m cs v (leaves none same) o p =
@@ -78,18 +78,18 @@ module _ (t : ℕ) (h : Half) (w : ℕ) where
 
 module _ (x : TdmaTime) (v : Valid x) where
   below : newModel x .uplink .now < cycle
-  unfolding newModel newUplink
+  unfolding newModel newUplinkModel
   below = slotOf-below x v
 
   pub taken-standing : (cs : List Call) (t : ℕ) (h : Half) (w : ℕ) → takenBy (modelAt x cs .uplink .taken) t h ≡ OptU32.Of w → Standing x cs (halfSlot t h) w
-  unfolding newModel newUplink takenBy
+  unfolding newModel newUplinkModel takenBy
   taken-standing cs t h w o = go (source t h w cs (newModel x) below o)
     where
       go : Source (newModel x) cs t h w → Standing x cs (halfSlot t h) w
       go (old e p) = absurd (held-not-free (sym e))
       go (fresh before since a cut num has p) =
           let n : ℕ = modelAt x before .uplink .now in
-          let q : Reserved a (modelAt x before) (halfSlot t h) = reserved-is a (modelAt x before) (halfSlot t h) has in
+          let q : ReservedInModel a (modelAt x before) (halfSlot t h) = reserved-is a (modelAt x before) (halfSlot t h) has in
           let (c, near, at) = q .place in
           let (k, ck, soon) = offset n c near in
           let there : t ≡ clock (n + k) = at ∙ ap clock (sym ck) in

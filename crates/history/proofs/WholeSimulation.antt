@@ -5,7 +5,7 @@ use mathlib.Core.Bool.{Bool, true, false, _&&_, cond}
 use mathlib.Core.List.{List, [], _∷_}
 use Prim.Native.Nat.{ℕ, _-_, _<_}
 use native.Mathlib.Omega.{arith}
-use lib.Dec.{eqb, ltb}
+use lib.Dec.{ltb}
 use lib.ListN.{length, getD}
 use borrow.Author.Tests.{lt-ltb}
 use Rattle.sizes.specs.Sizes.{blockWidth, blockOctets}
@@ -32,7 +32,7 @@ use Rattle.sched_core.proofs.KeptLaws.{every-call-keeps, sound-yes}
 use Rattle.history.specs.Call.{Call, advance, request, enqueueAck, enqueueRecord, build, read}
 use Rattle.history.specs.Call.{refused, block, noBlock, stepped, unlessRefused}
 use Rattle.history.specs.Queues.{Queues, queueAt, withQueueAt, someQueued, canBuild}
-use Rattle.history.specs.Model.{Model, newModel, became, counted, namedBuilt, queueNow, built, modelStep, modelAt}
+use Rattle.history.specs.Model.{Model, newModel, became, onlyCounted, namedBuilt, queueNow, built, modelStep, modelAt}
 use Rattle.history.specs.Memory.{answeredBuild, memoryStep, memoryAt}
 use Rattle.history.proofs.Steps.{Agree, run-agree}
 use Rattle.history.proofs.Simulation.{new-alike}
@@ -113,8 +113,8 @@ module _ (m : Memory) (b : Model) (k : SoundMemory m) (a : Same m b) where
           (cond can
           (became b (b .uplink) (withQueueAt (b .queues) t (namedBuilt (queueNow b) .left))
           (block (blockOf blockOctets (blockBits (namedBuilt (queueNow b) .pdus))) (namedBuilt (queueNow b) .tags)))
-          (stepped (counted b) noBlock))
-          (stepped (counted b) (refused (refusalNumber Refusal.Lengths))))
+          (stepped (onlyCounted b) noBlock))
+          (stepped (onlyCounted b) (refused (refusalNumber Refusal.Lengths))))
       go true true =
           record {
             after = record { uplink = a .uplink; queues = same-left };
@@ -131,12 +131,12 @@ module _ (m : Memory) (b : Model) (k : SoundMemory m) (a : Same m b) where
   agrees (enqueueAck o) = ack-agrees m b k a o
   agrees (enqueueRecord o) = rec-agrees m b k a o
   agrees (build l) = build-agrees l
-  agrees (read q) = unfold modelStep in read-agrees Same q m (counted b) (stays m b k a) (k .station)
+  agrees (read q) = unfold modelStep in read-agrees Same q m (onlyCounted b) (stays m b k a) (k .station)
 
 -- ---- a history
 
 -- a sound memory, alike to the model
-pub record Whole (m : Memory) (b : Model) : Type 0 where
+pub record SoundAndSame (m : Memory) (b : Model) : Type 0 where
   pub sound : SoundMemory m
   pub same : Same m b
 
@@ -149,7 +149,7 @@ step-sound (enqueueRecord o) m k = every-call-keeps .tma m _ _ _ _ _ _ _ k
 step-sound (build b) m k = every-call-keeps .build m b k
 step-sound (read q) m k = k
 
-whole-step : (c : Call) (m : Memory) (b : Model) → Whole m b → Agree Whole (memoryStep c m) (modelStep c b)
+whole-step : (c : Call) (m : Memory) (b : Model) → SoundAndSame m b → Agree SoundAndSame (memoryStep c m) (modelStep c b)
 whole-step c m b w =
     let x : Agree Same (memoryStep c m) (modelStep c b) = agrees m b (w .sound) (w .same) c in
     record { after = record { sound = step-sound c m (w .sound); same = x .after }; reply = x .reply }
@@ -159,9 +159,9 @@ unfolding newMemory newModel queuesOf queueOf
 new-same x v = record { uplink = new-alike x v; queues = refl }
 
 module _ (x : TdmaTime) (v : Valid x) (cs : List Call) where
-  pub histories : Whole (memoryAt x cs) (modelAt x cs)
+  pub histories : SoundAndSame (memoryAt x cs) (modelAt x cs)
   histories =
-      run-agree Whole memoryStep modelStep whole-step cs (newMemory x) (newModel x) (record { sound = every-call-keeps .new x v; same = new-same x v })
+      run-agree SoundAndSame memoryStep modelStep whole-step cs (newMemory x) (newModel x) (record { sound = every-call-keeps .new x v; same = new-same x v })
 
   pub same-reply : (c : Call) → memoryStep c (memoryAt x cs) .reply ≡ modelStep c (modelAt x cs) .reply
   same-reply c = whole-step c (memoryAt x cs) (modelAt x cs) histories .reply

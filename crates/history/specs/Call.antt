@@ -19,8 +19,8 @@ pub record CapacityRequest : Type 0 where
   pub number : ℕ
 
 -- what the search is asked
-abbrev pub asked : CapacityRequest → Request
-asked a = record { timeslot = a .timeslot; code = a .code; number = a .number }
+abbrev pub requestOf : CapacityRequest → Request
+requestOf a = record { timeslot = a .timeslot; code = a .code; number = a .number }
 
 -- "the queue call takes acks and records": an ack
 pub record AckOffer : Type 0 where

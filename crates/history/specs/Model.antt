@@ -1,7 +1,7 @@
 -- The reference model (document 01's book), whole: its uplink, and the queues with named grants. Assumes nothing.
 use mathlib.Core.Bool.{Bool, _&&_, cond}
 use mathlib.Core.Option.{Option, none, some}
-use mathlib.Core.List.{List, [], _∷_, map}
+use mathlib.Core.List.{List, [], map}
 use Prim.Native.Nat.{ℕ, suc}
 use lib.Dec.{eqb}
 use lib.ListN.{take}
@@ -23,10 +23,10 @@ use Rattle.dl_merge.specs.Merge.{Named, mergeNamed}
 use Rattle.dl_send.specs.Send.{Sent, blockOf, nullIn, Turn, turns, readOff}
 use Rattle.dl_build.specs.Build.{inOrder, buildList}
 use Rattle.sched_core.specs.Questions.{requestQuestions, ackQuestions, tmaQuestions, buildLent, timeQuestions}
-use Rattle.history.specs.Call.{CapacityRequest, asked, recordOf, timeRead, Call, advance, request, enqueueAck, enqueueRecord, build, read}
+use Rattle.history.specs.Call.{CapacityRequest, requestOf, recordOf, timeRead, Call, advance, request, enqueueAck, enqueueRecord, build, read}
 use Rattle.history.specs.Call.{done, refused, granted, block, noBlock, Reply, Stepped, stepped, unlessRefused, run}
 use Rattle.history.specs.Queues.{Queues, noQueues, queueAt, queuedAt, withQueueAt, appended, canBuild}
-use Rattle.history.specs.UplinkModel.{UplinkModel, newUplink, modelView, advancedUplink, modelVerdict, takenFor}
+use Rattle.history.specs.UplinkModel.{UplinkModel, newUplinkModel, modelView, advancedUplinkModel, modelVerdict, takenFor}
 
 -- an SDU's bits, and the name of the grant in the header, if it has one: a place in the history
 abbrev pub NamedSdu : Type 0
@@ -53,15 +53,15 @@ pub record Model : Type 0 where
 
 -- "It begins at the new station's time, markers at 4, no half-slot taken, nothing queued."
 unfoldable pub newModel : TdmaTime → Model
-newModel x = record { uplink = newUplink x; queues = noQueues; count = 0 }
+newModel x = record { uplink = newUplinkModel x; queues = noQueues; count = 0 }
 
 -- one call more: with this uplink, these queues and this reply
 abbrev pub became : Model → UplinkModel → Queues NamedSdu → Reply → Stepped Model
 became m u qs r = stepped (record { uplink = u; queues = qs; count = suc (m .count) }) r
 
 -- "a refused call, or one that only reads, changes nothing": it is counted
-abbrev pub counted : Model → Model
-counted m = record { uplink = m .uplink; queues = m .queues; count = suc (m .count) }
+abbrev pub onlyCounted : Model → Model
+onlyCounted m = record { uplink = m .uplink; queues = m .queues; count = suc (m .count) }
 
 -- ---- a request
 
@@ -71,18 +71,18 @@ requestAsked a m = requestQuestions (queuedAt (m .queues) (a .timeslot)) (a .tim
 
 -- "The half-slots it takes, in order, [..] are its reserved list": none where a question is answered no
 unfoldable pub reserved : CapacityRequest → Model → List HalfSlot
-reserved a m = ask (requestAsked a m) (reservedBy (modelView (m .uplink .taken)) (a .code) (modelVerdict (m .uplink) (asked a))) (λ r. [])
+reserved a m = ask (requestAsked a m) (reservedBy (modelView (m .uplink .taken)) (a .code) (modelVerdict (m .uplink) (requestOf a))) (λ r. [])
 
 -- "9. Does the run exist?" "10. At most 13 before it?" "Its grant, with the delay counted there and any marker drawn as above, is queued and
 -- named after the request": after its place in the history
 unfoldable pub requested : CapacityRequest → Verdict → Model → Stepped Model
-requested a noRun m = stepped (counted m) (refused (refusalNumber Refusal.NoRun))
-requested a tooLate m = stepped (counted m) (refused (refusalNumber Refusal.TooLate))
+requested a noRun m = stepped (onlyCounted m) (refused (refusalNumber Refusal.NoRun))
+requested a tooLate m = stepped (onlyCounted m) (refused (refusalNumber Refusal.TooLate))
 requested a (grant g) m =
     let cap = capacity (modelView (m .uplink .taken)) (a .code) (g .slots) in
-    let marker = markerOf (m .uplink .markers) (asked a) in
+    let marker = markerOf (m .uplink .markers) (requestOf a) in
     let its = item (grantRecord (a .kind) (a .number) (grantOctet cap (g .delay)) marker) (named (m .count)) in
-    became m (takenFor (asked a) g (m .uplink)) (appended (m .queues) (a .timeslot) its) (granted cap (g .delay) marker)
+    became m (takenFor (requestOf a) g (m .uplink)) (appended (m .queues) (a .timeslot) its) (granted cap (g .delay) marker)
 
 -- ---- a build
 
@@ -99,23 +99,23 @@ built m =
     let s : Sent NamedSdu = namedBuilt (queueNow m) in
     cond (canBuild (m .uplink .now) (m .queues))
     (became m (m .uplink) (withQueueAt (m .queues) (timeslot (m .uplink .now)) (s .left)) (block (blockOf blockOctets (blockBits (s .pdus))) (s .tags)))
-    (stepped (counted m) noBlock)
+    (stepped (onlyCounted m) noBlock)
 
 -- ---- a call
 
 -- "Questions about table or queue are asked of the book"; "Queueings and builds follow the two sections above"
 unfoldable pub modelStep : Call → Model → Stepped Model
-modelStep advance m = became m (advancedUplink (m .uplink)) (m .queues) done
+modelStep advance m = became m (advancedUplinkModel (m .uplink)) (m .queues) done
 modelStep (request a) m =
-    unlessRefused (requestAsked a m) (counted m) (requested a (modelVerdict (m .uplink) (asked a)) m)
+    unlessRefused (requestAsked a m) (onlyCounted m) (requested a (modelVerdict (m .uplink) (requestOf a)) m)
 modelStep (enqueueAck o) m =
-    unlessRefused (ackQuestions (queuedAt (m .queues) (o .timeslot)) (o .timeslot) (o .kind) (o .number)) (counted m)
+    unlessRefused (ackQuestions (queuedAt (m .queues) (o .timeslot)) (o .timeslot) (o .kind) (o .number)) (onlyCounted m)
     (became m (m .uplink) (appended (m .queues) (o .timeslot) (item (ackRecord (o .kind) (o .number)) bare)) done)
 modelStep (enqueueRecord o) m =
-    unlessRefused (tmaQuestions (queuedAt (m .queues) (o .timeslot)) (o .timeslot) (recordOf o) (o .octets)) (counted m)
+    unlessRefused (tmaQuestions (queuedAt (m .queues) (o .timeslot)) (o .timeslot) (recordOf o) (o .octets)) (onlyCounted m)
     (became m (m .uplink) (appended (m .queues) (o .timeslot) (item (recordOf o) (ofSdu (o .bits) (o .octets)))) done)
-modelStep (build b) m = unlessRefused (buildLent b) (counted m) (built m)
-modelStep (read q) m = unlessRefused (timeQuestions (timeRead q)) (counted m) (stepped (counted m) done)
+modelStep (build b) m = unlessRefused (buildLent b) (onlyCounted m) (built m)
+modelStep (read q) m = unlessRefused (timeQuestions (timeRead q)) (onlyCounted m) (stepped (onlyCounted m) done)
 
 -- the model after a list of calls on a new station at time x
 abbrev pub modelAt : TdmaTime → List Call → Model

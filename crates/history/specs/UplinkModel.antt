@@ -3,6 +3,8 @@ use mathlib.Core.Bool.{Bool, true, false, _&&_, cond}
 use mathlib.Core.List.{List, [], _∷_}
 use Prim.Native.Nat.{ℕ, _+_}
 use lib.Dec.{eqb}
+use lib.ListN.{replicate}
+use Rattle.sizes.specs.Sizes.{timeslots}
 use Rattle.optional.specs.declared.OptU8.{OptU8}
 use Rattle.optional.specs.declared.OptU32.{OptU32}
 use Rattle.tdma_time.specs.declared.TdmaTime.{TdmaTime}
@@ -26,8 +28,8 @@ pub record UplinkModel : Type 0 where
   pub taken : List Taken
 
 -- "It begins at the new station's time, markers at 4, no half-slot taken"
-unfoldable pub newUplink : TdmaTime → UplinkModel
-newUplink x = record { now = slotOf x; markers = 4 ∷ 4 ∷ 4 ∷ 4 ∷ []; taken = [] }
+unfoldable pub newUplinkModel : TdmaTime → UplinkModel
+newUplinkModel x = record { now = slotOf x; markers = replicate timeslots 4; taken = [] }
 
 -- ---- what is taken
 
@@ -69,8 +71,8 @@ takeHalves (y ∷ ys) who marker xs = takeHalves ys who marker (record { what = 
 -- ---- what an advance and a request make of it
 
 -- "An advance takes the next time and frees the half-slots of the slot left."
-unfoldable pub advancedUplink : UplinkModel → UplinkModel
-advancedUplink u = record { now = clock (u .now + 1); markers = u .markers; taken = freed (u .taken) (u .now) }
+unfoldable pub advancedUplinkModel : UplinkModel → UplinkModel
+advancedUplinkModel u = record { now = clock (u .now + 1); markers = u .markers; taken = freed (u .taken) (u .now) }
 
 -- "A request looks at its timeslot's 17 slots from the first at or after now, those of frame 18 left out. It takes the earliest n in
 -- succession with both halves free, or for half a slot the first with a free half": 9 and 10 are asked of the model

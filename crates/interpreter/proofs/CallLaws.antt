@@ -20,7 +20,8 @@ use Rattle.interpreter.specs.declared.calls.RequestLeft.{RequestLeft}
 use Rattle.interpreter.specs.declared.calls.QueueLeft.{QueueLeft}
 
 pub request-answered : (r : RequestLeft) (a : RequestAnswer) (rs : List Record) (st : List ℕ) (o : Outcome RequestReply)
-    → r ≡ record { reply = a .reply; station = a .station; records = rs } → outcome (a .reply) (memory (a .station) rs st) ≡ o → outcome (r .reply) (memory (r .station) (r .records) st) ≡ o
+    → r ≡ record { reply = a .reply; station = a .station; records = rs } → outcome (a .reply) (memory (a .station) rs st) ≡ o
+    → outcome (r .reply) (memory (r .station) (r .records) st) ≡ o
 request-answered r a rs st o e h = ap (λ (x : RequestLeft). outcome (x .reply) (memory (x .station) (x .records) st)) e ∙ h
 
 pub ack-queued : (r : QueueLeft) (a : Answer) (rs : List Record) (st : List ℕ) (o : Outcome Reply)
@@ -30,7 +31,8 @@ ack-queued r a rs st o e h = ap (λ (x : QueueLeft). outcome (x .reply) (memory 
 
 pub record-queued : (r : QueueLeft) (a : Answer) (rs : List Record) (st : List ℕ) (m : Memory) (t kind n : ℕ) (tag : OptU16) (header : QueuedHeader)
     (bits : ℕ) (sdu : List ℕ) → r ≡ record { reply = a .reply; station = a .station; records = rs } → header ≡ emptyHeader
-    → outcome (a .reply) (memory (a .station) rs st) ≡ tmaCall m t kind n tag header bits sdu → outcome (r .reply) (memory (r .station) (r .records) st) ≡ tmaCall m t kind n tag emptyHeader bits sdu
+    → outcome (a .reply) (memory (a .station) rs st) ≡ tmaCall m t kind n tag header bits sdu
+    → outcome (r .reply) (memory (r .station) (r .records) st) ≡ tmaCall m t kind n tag emptyHeader bits sdu
 record-queued r a rs st m t kind n tag header bits sdu e none h =
     ack-queued r a rs st _ e h ∙ ap (λ (x : QueuedHeader). tmaCall m t kind n tag x bits sdu) none
 
@@ -39,7 +41,17 @@ pub build-answered : (r : BuildDone) (a : BuildAnswer) (rs : List Record) (st bl
     → buildLeft a rs st block ≡ leftBy o → BuildAnswered o r st block
 build-answered r a rs st block o e h =
     record {
-      answer = e ∙ ap (λ (x : BuildLeft). record { reply = x .answer .reply; tags = x .answer .tags; «tag_count» = x .answer .«tag_count»; station = x .answer .station; records = x .queue }) h;
+      answer = e
+          ∙ ap
+          (λ (x : BuildLeft).
+          record {
+            reply = x .answer .reply;
+            tags = x .answer .tags;
+            «tag_count» = x .answer .«tag_count»;
+            station = x .answer .station;
+            records = x .queue;
+          })
+          h;
       store = ap (λ (x : BuildLeft). x .store) h;
       block = ap (λ (x : BuildLeft). x .block) h;
     }

@@ -12,7 +12,8 @@ use Rattle.optional.proofs.Tests.{and-left, and-right, and-intro}
 use Rattle.bitbuffer.specs.Bits.{part}
 use Rattle.sched_core.specs.Questions.{Memory}
 use Rattle.interpreter.specs.declared.Command.{Command}
-use Rattle.interpreter.specs.Slotrun.{Session, Step, step, newStep, requestStep, queueStep, staged, stageLine, timeOf, octet, twoOctets, fourOctets, stageKept, commandOf, isKnown, operandCount, isWhole, firstStep, behindFirst, Ran, ran, joined}
+use Rattle.interpreter.specs.Slotrun.{Session, Step, step, newStep, requestStep, queueStep, staged, stageLine, timeGiven, octet, twoOctets}
+use Rattle.interpreter.specs.Slotrun.{fourOctets, stageKept, commandOf, isKnown, operandCount, isWhole, firstStep, behindFirst, Ran, ran, printedBefore}
 use Rattle.interpreter.specs.Turns.{wholeCommands, turn}
 use Rattle.interpreter.proofs.RunLaws.{stopped, nothing-whole, shorter, one-command}
 
@@ -27,7 +28,7 @@ two-cut ops b i h = rw (octet-cut ops b i (omega arith), octet-cut ops b (i + 1)
 four-cut : (ops b : List ℕ) (i : ℕ) → i + 3 < length ops → fourOctets (ops ++ b) i ≡ fourOctets ops i
 four-cut ops b i h = rw (two-cut ops b i (omega arith), two-cut ops b (i + 2) (omega arith))
 
-time-cut : (ops b : List ℕ) → 5 ≤ length ops → timeOf (ops ++ b) ≡ timeOf ops
+time-cut : (ops b : List ℕ) → 5 ≤ length ops → timeGiven (ops ++ b) ≡ timeGiven ops
 time-cut ops b h = rw (two-cut ops b 0 (omega arith), octet-cut ops b 2 (omega arith), octet-cut ops b 3 (omega arith), octet-cut ops b 4 (omega arith))
 
 new-cut : (m : Memory) (ops b : List ℕ) → 5 ≤ length ops → newStep m (ops ++ b) ≡ newStep m ops
@@ -129,9 +130,9 @@ cut-before b s c ops w h =
     let x = step s (commandOf c) ops in
     let r = wholeCommands (x .session) (drop m ops) in
     one-command s c (ops ++ b) (whole-cut c ops b w)
-    ∙ ap (λ (y : Step). joined (y .line) (wholeCommands (y .session) (drop m (ops ++ b)))) (step-cut s (commandOf c) ops b (fits c ops w))
-    ∙ ap (λ (l : List ℕ). joined (x .line) (wholeCommands (x .session) l)) (drop-append-le m ops b (fits c ops w))
-    ∙ ap (joined (x .line)) h
+    ∙ ap (λ (y : Step). printedBefore (y .line) (wholeCommands (y .session) (drop m (ops ++ b)))) (step-cut s (commandOf c) ops b (fits c ops w))
+    ∙ ap (λ (l : List ℕ). printedBefore (x .line) (wholeCommands (x .session) l)) (drop-append-le m ops b (fits c ops w))
+    ∙ ap (printedBefore (x .line)) h
     ∙ ap (λ (t : List ℕ). ran (turn r b .session) t (turn r b .left))
     (sym (append-assoc (x .line) (r .printed) (wholeCommands (r .session) (r .left ++ b) .printed)))
     ∙ ap (λ (q : Ran). turn q b) (sym (one-command s c ops w))

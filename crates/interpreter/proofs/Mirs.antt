@@ -47,7 +47,7 @@ use Rattle.dl_record.proofs.Kind.Laws as dl_record-Kind-laws
 use Rattle.dl_record.proofs.QueuedHeader.Laws as dl_record-QueuedHeader-laws
 use Rattle.dl_record.proofs.Record.Laws as dl_record-Record-laws
 use Rattle.dl_merge.proofs.Merged.Laws as dl_merge-Merged-laws
-use Rattle.bs_frag.proofs.Outcome.Laws as bs_frag-Outcome-laws
+use Rattle.bs_frag.proofs.ChunkOutcome.Laws as bs_frag-ChunkOutcome-laws
 use Rattle.bs_frag.proofs.Chunk.Laws as bs_frag-Chunk-laws
 use Rattle.dl_send.proofs.Progress.Laws as dl_send-Progress-laws
 use Rattle.sched_core.proofs.Station.Laws as sched_core-Station-laws
@@ -59,7 +59,7 @@ use Rattle.sched_core.proofs.UsageReply.Laws as sched_core-UsageReply-laws
 use Rattle.sched_core.proofs.Answer.Laws as sched_core-Answer-laws
 use Rattle.sched_core.proofs.RequestAnswer.Laws as sched_core-RequestAnswer-laws
 use Rattle.bs_sched.proofs.BuildAnswer.Laws as bs_sched-BuildAnswer-laws
-use Rattle.bs_sched.proofs.Verdict.Laws as bs_sched-Verdict-laws
+use Rattle.bs_sched.proofs.Passage.Laws as bs_sched-Passage-laws
 
 abbrev pub slice : Ty → Ty
 slice = sliceTy
@@ -199,8 +199,8 @@ dl_record-Record = dl_record-Record-laws.mir
 abbrev pub dl_merge-Merged : Ty
 dl_merge-Merged = dl_merge-Merged-laws.mir
 
-abbrev pub bs_frag-Outcome : Ty
-bs_frag-Outcome = bs_frag-Outcome-laws.mir
+abbrev pub bs_frag-ChunkOutcome : Ty
+bs_frag-ChunkOutcome = bs_frag-ChunkOutcome-laws.mir
 
 abbrev pub bs_frag-Chunk : Ty
 bs_frag-Chunk = bs_frag-Chunk-laws.mir
@@ -235,5 +235,5 @@ sched_core-RequestAnswer = sched_core-RequestAnswer-laws.mir
 abbrev pub bs_sched-BuildAnswer : Ty
 bs_sched-BuildAnswer = bs_sched-BuildAnswer-laws.mir
 
-abbrev pub bs_sched-Verdict : Ty
-bs_sched-Verdict = bs_sched-Verdict-laws.mir
+abbrev pub bs_sched-Passage : Ty
+bs_sched-Passage = bs_sched-Passage-laws.mir

@@ -20,7 +20,8 @@ use Rattle.interpreter.specs.declared.Command.{Command}
 use Rattle.interpreter.specs.declared.RunAnswer.{RunAnswer}
 use Rattle.interpreter.specs.declared.Executed.{Executed}
 use Rattle.interpreter.specs.declared.Advanced.{Advanced}
-use Rattle.interpreter.specs.Slotrun.{Session, session, Step, step, commandOf, isKnown, operandCount, isWhole, firstStep, behindFirst, Ran, ran, joined, commands}
+use Rattle.interpreter.specs.Slotrun.{Session, session, Step, step, commandOf, isKnown, operandCount, isWhole, firstStep, behindFirst}
+use Rattle.interpreter.specs.Slotrun.{Ran, ran, printedBefore, commands}
 use Rattle.interpreter.specs.Steps.{Steps, Advances, Runs}
 use Rattle.interpreter.proofs.StepLaws.{advance-steps}
 
@@ -94,17 +95,17 @@ unfolding commands
 enough zero k s input h j = sym (stopped k s input (nothing-whole input h))
 enough (suc n) zero s input h j = stopped (suc n) s input (nothing-whole input j)
 enough (suc n) (suc k) s input h j =
-    ap (λ (r : Ran). cond (isWhole input) (joined (firstStep s input .line) r) (ran s [] input))
+    ap (λ (r : Ran). cond (isWhole input) (printedBefore (firstStep s input .line) r) (ran s [] input))
     (enough n k (firstStep s input .session) (behindFirst input) (shorter input n h) (shorter input k j))
 
 pub one-command : (s : Session) (c : ℕ) (ops : List ℕ) → isWhole (c ∷ ops) ≡ true
     → let x = step s (commandOf c) ops in let rest = drop (operandCount (commandOf c)) ops in
-    commands (length (c ∷ ops)) s (c ∷ ops) ≡ joined (x .line) (commands (length rest) (x .session) rest)
+    commands (length (c ∷ ops)) s (c ∷ ops) ≡ printedBefore (x .line) (commands (length rest) (x .session) rest)
 unfolding commands
 one-command s c ops h =
     let m = operandCount (commandOf c) in
     chosen (isWhole (c ∷ ops)) _ _ h
-    ∙ ap (joined (step s (commandOf c) ops .line)) (enough (length ops) (length (drop m ops)) (step s (commandOf c) ops .session) (drop m ops)
+    ∙ ap (printedBefore (step s (commandOf c) ops .line)) (enough (length ops) (length (drop m ops)) (step s (commandOf c) ops .session) (drop m ops)
     (omega (arith, length-drop m ops)) (omega arith))
 
 -- ---- the loop
@@ -113,7 +114,7 @@ one-command s c ops h =
 pub record Running (input : List ℕ) (s₀ s : Session) (out₀ out : List ℕ) (taken count : ℕ) : Type 0 where
   pub text : List ℕ
   pub wrote : Wrote out₀ 0 out count text
-  pub rest : commands (length input) s₀ input ≡ joined text (commands (length (drop taken input)) s (drop taken input))
+  pub rest : commands (length input) s₀ input ≡ printedBefore text (commands (length (drop taken input)) s (drop taken input))
   pub inside : taken ≤ length input
   pub room : count ≤ 173 * taken
 
@@ -167,15 +168,15 @@ running-step input s₀ s s' out₀ out out' taken count n m command x k whole i
     let short : operandCount (commandOf c) ≤ length ops = leb-true _ _ (and-right (isKnown (commandOf c)) _ w1) in
     let size : length ops ≡ length input - (taken + 1) = length-drop (taken + 1) input in
     let go : commands (length (drop taken input)) s (drop taken input)
-    ≡ joined (x .line) (commands (length (drop (taken + 1 + m) input)) s' (drop (taken + 1 + m) input)) =
+    ≡ printedBefore (x .line) (commands (length (drop (taken + 1 + m) input)) s' (drop (taken + 1 + m) input)) =
     ap (λ (l : List ℕ). commands (length l) s l) at ∙ one-command s c ops w1
-    ∙ ap (λ (l : List ℕ). joined (step s (commandOf c) ops .line) (commands (length l) (step s (commandOf c) ops .session) l)) behind
-    ∙ ap (λ (y : Step). joined (y .line) (commands (length (drop (taken + 1 + m) input)) (y .session) (drop (taken + 1 + m) input))) (sym known)
-    ∙ ap (λ (z : Session). joined (x .line) (commands (length (drop (taken + 1 + m) input)) z (drop (taken + 1 + m) input))) (sym after) in
+    ∙ ap (λ (l : List ℕ). printedBefore (step s (commandOf c) ops .line) (commands (length l) (step s (commandOf c) ops .session) l)) behind
+    ∙ ap (λ (y : Step). printedBefore (y .line) (commands (length (drop (taken + 1 + m) input)) (y .session) (drop (taken + 1 + m) input))) (sym known)
+    ∙ ap (λ (z : Session). printedBefore (x .line) (commands (length (drop (taken + 1 + m) input)) z (drop (taken + 1 + m) input))) (sym after) in
     record {
       text = k .text ++ x .line;
       wrote = then (k .wrote) w;
-      rest = k .rest ∙ ap (joined (k .text)) go
+      rest = k .rest ∙ ap (printedBefore (k .text)) go
           ∙ ap (λ (l : List ℕ). ran (commands (length (drop (taken + 1 + m) input)) s' (drop (taken + 1 + m) input) .session) l
           (commands (length (drop (taken + 1 + m) input)) s' (drop (taken + 1 + m) input) .left))
           (sym (append-assoc (k .text) (x .line) (commands (length (drop (taken + 1 + m) input)) s' (drop (taken + 1 + m) input) .printed)));
@@ -215,7 +216,7 @@ pub run-done : (input : List ℕ) (s₀ : Session) (out₀ out store stage : Lis
 run-done input s₀ out₀ out store stage r k cut =
     let s = session (memory (r .station) (r .queue) store) stage in
     let l = drop (r .taken) input in
-    let e : commands (length input) s₀ input ≡ ran s (k .text ++ []) l = k .rest ∙ ap (joined (k .text)) (stopped (length l) s l (sym cut)) in
+    let e : commands (length input) s₀ input ≡ ran s (k .text ++ []) l = k .rest ∙ ap (printedBefore (k .text)) (stopped (length l) s l (sym cut)) in
     record {
       session-after = ap (λ (x : Ran). x .session) (sym e);
       printed = subst (λ t. Wrote out₀ 0 out (r .count) t) (sym (append-nil (k .text)) ∙ ap (λ (x : Ran). x .printed) (sym e)) (k .wrote);

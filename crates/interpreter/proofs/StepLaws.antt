@@ -7,6 +7,7 @@ use native.Mathlib.Omega.{arith}
 use lib.ListN.{length, take, drop, replicate, length-replicate}
 use lib.Seq.{paste, take-all, drop-length}
 use borrow.Author.Tests.{le-leb, lt-leb}
+use Rattle.sizes.specs.Sizes.{timeslots, perTimeslot, queuePlaces, storeOctets, blockOctets}
 use Rattle.optional.specs.declared.OptU8.{OptU8}
 use Rattle.optional.specs.declared.OptU16.{OptU16}
 use Rattle.tdma_time.specs.declared.TdmaTime.{TdmaTime}
@@ -14,7 +15,7 @@ use Rattle.uplink.specs.UplinkEntry.{markerOrZero}
 use Rattle.bitbuffer.specs.Bits.{written, part, Wrote}
 use Rattle.dl_record.specs.declared.Record.{Record}
 use Rattle.dl_record.specs.Record.{emptyRecord, emptyHeader}
-use Rattle.dl_send.specs.Progress.{tagRow}
+use Rattle.dl_send.specs.Arrays.{tagRow}
 use Rattle.sched_core.specs.declared.Station.{Station}
 use Rattle.sched_core.specs.declared.Reply.{Reply}
 use Rattle.sched_core.specs.declared.Answer.{Answer}
@@ -33,7 +34,8 @@ use Rattle.interpreter.specs.declared.calls.QueueLeft.{QueueLeft}
 use Rattle.interpreter.specs.declared.Command.{Command}
 use Rattle.interpreter.specs.declared.Executed.{Executed}
 use Rattle.interpreter.specs.Text.{number, line}
-use Rattle.interpreter.specs.Slotrun.{Session, session, Step, stageKept, step, operandCount, octet, twoOctets, fourOctets, timeOf, newStep, advanceStep, requestStep, grantFields, staged, stageLine, queueStep, buildStep, blockFields}
+use Rattle.interpreter.specs.Slotrun.{Session, session, Step, stageKept, step, operandCount, octet, twoOctets, fourOctets, timeGiven}
+use Rattle.interpreter.specs.Slotrun.{newStep, advanceStep, requestStep, grantFields, staged, stageLine, queueStep, buildStep, blockFields}
 use Rattle.interpreter.specs.Steps.{BuildAnswered, Executes, Advances, Steps}
 use Rattle.interpreter.proofs.TextLaws.{nothing}
 use Rattle.interpreter.proofs.TagLaws.{few-tags}
@@ -51,30 +53,32 @@ new-station x = ask-elim (λ (a : Answer). a .station ≡ newStation x) (timeQue
 zeros : (n : ℕ) (l : List ℕ) → length l ≡ n → paste l 0 (replicate n 0) n ≡ replicate n 0
 zeros n l e =
     let all : 0 + n ≡ length l = omega arith in
-    ap (λ (k : List ℕ). take n (replicate n 0) ++ k) (ap (λ (k : ℕ). drop k l) all ∙ drop-length l) ∙ append-nil (take n (replicate n 0)) ∙ take-all n (replicate n 0) (omega (arith, length-replicate {A = ℕ} n 0))
+    ap (λ (k : List ℕ). take n (replicate n 0) ++ k) (ap (λ (k : ℕ). drop k l) all ∙ drop-length l)
+    ∙ append-nil (take n (replicate n 0))
+    ∙ take-all n (replicate n 0) (omega (arith, length-replicate {A = ℕ} n 0))
 
 module _ (s : Station) (rs : List Record) (st ops out out' : List ℕ) (a : Answer) (h n count : ℕ) (high : h ≡ twoOctets ops 0)
     (made : a ≡ newCall (record { h = h; m = octet ops 2; f = octet ops 3; t = octet ops 4 })) (num : n ≡ replyNumber (a .reply)) (few : count ≤ 8)
     (w : Wrote out 0 out' count (line 84 (number n))) where
-  called : a ≡ newCall (timeOf ops)
+  called : a ≡ newCall (timeGiven ops)
   called = made ∙ ap (λ (x : ℕ). newCall (record { h = x; m = octet ops 2; f = octet ops 3; t = octet ops 4 })) high
 
-  new-line : Wrote out 0 out' count (line 84 (number (replyNumber (newCall (timeOf ops) .reply))))
+  new-line : Wrote out 0 out' count (line 84 (number (replyNumber (newCall (timeGiven ops) .reply))))
   new-line = relined (ap (λ (k : ℕ). line 84 (number k)) num ∙ ap (λ (b : Answer). line 84 (number (replyNumber (b .reply)))) called) w
 
   pub new-refused : isDone (a .reply) ≡ false → Executes (newStep (memory s rs st) ops) (record { station = s; queue = rs; count = count }) st out out'
   unfolding newStep
   new-refused bad =
-      let d : isDone (newCall (timeOf ops) .reply) ≡ false = ap (λ (b : Answer). isDone (b .reply)) (sym called) ∙ bad in
+      let d : isDone (newCall (timeGiven ops) .reply) ≡ false = ap (λ (b : Answer). isDone (b .reply)) (sym called) ∙ bad in
       record { memory-after = rw d; line = new-line; most = omega arith }
 
-  pub new-done : (st' : List ℕ) → isDone (a .reply) ≡ true → length st ≡ 16384 → st' ≡ paste st 0 (replicate (length st) 0) (length st)
-      → Executes (newStep (memory s rs st) ops) (record { station = a .station; queue = replicate 64 emptyRecord; count = count }) st' out out'
+  pub new-done : (st' : List ℕ) → isDone (a .reply) ≡ true → length st ≡ storeOctets → st' ≡ paste st 0 (replicate (length st) 0) (length st)
+      → Executes (newStep (memory s rs st) ops) (record { station = a .station; queue = replicate queuePlaces emptyRecord; count = count }) st' out out'
   unfolding newStep newMemory
   new-done st' good size e =
-      let d : isDone (newCall (timeOf ops) .reply) ≡ true = ap (λ (b : Answer). isDone (b .reply)) (sym called) ∙ good in
-      let station : a .station ≡ newStation (timeOf ops) = ap (λ (b : Answer). b .station) called ∙ new-station (timeOf ops) in
-      let store : st' ≡ replicate 16384 0 = e ∙ zeros (length st) st refl ∙ ap (λ (k : ℕ). replicate k 0) size in
+      let d : isDone (newCall (timeGiven ops) .reply) ≡ true = ap (λ (b : Answer). isDone (b .reply)) (sym called) ∙ good in
+      let station : a .station ≡ newStation (timeGiven ops) = ap (λ (b : Answer). b .station) called ∙ new-station (timeGiven ops) in
+      let store : st' ≡ replicate storeOctets 0 = e ∙ zeros (length st) st refl ∙ ap (λ (k : ℕ). replicate k 0) size in
       record { memory-after = rw (d, station, store); line = new-line; most = omega arith }
 
 -- ---- 41 advance
@@ -93,7 +97,8 @@ advanced s out out' a n count made num few w rs store =
 
 pub requested : (m : Memory) (ops out out' st : List ℕ) (a : RequestLeft) (n count : ℕ) → n ≡ fourOctets ops 3
     → outcome (a .reply) (memory (a .station) (a .records) st) ≡ requestCall m (octet ops 0) (octet ops 1) (octet ops 2) n → count ≤ 173
-    → Wrote out 0 out' count (line 82 (grantFields (a .reply))) → Executes (requestStep m ops) (record { station = a .station; queue = a .records; count = count }) st out out'
+    → Wrote out 0 out' count (line 82 (grantFields (a .reply)))
+    → Executes (requestStep m ops) (record { station = a .station; queue = a .records; count = count }) st out out'
 unfolding requestStep
 requested m ops out out' st a n count num h few w =
     let e = h ∙ ap (λ (k : ℕ). requestCall m (octet ops 0) (octet ops 1) (octet ops 2) k) num in
@@ -106,7 +111,8 @@ requested m ops out out' st a n count num h few w =
 -- ---- 51 queue a record
 
 pub queued : (m : Memory) (stage ops out out' st : List ℕ) (a : QueueLeft) (n tag bits k count : ℕ) → n ≡ fourOctets ops 2 → tag ≡ twoOctets ops 6
-    → bits ≡ twoOctets ops 8 → outcome (a .reply) (memory (a .station) (a .records) st) ≡ tmaCall m (octet ops 0) (octet ops 1) n (OptU16.Of tag) emptyHeader bits stage
+    → bits ≡ twoOctets ops 8
+    → outcome (a .reply) (memory (a .station) (a .records) st) ≡ tmaCall m (octet ops 0) (octet ops 1) n (OptU16.Of tag) emptyHeader bits stage
     → k ≡ replyNumber (a .reply) → count ≤ 8 → Wrote out 0 out' count (line 81 (number k))
     → Executes (queueStep m stage ops) (record { station = a .station; queue = a .records; count = count }) st out out'
 unfolding queueStep
@@ -130,22 +136,25 @@ tags-taken zero (t ∷ ts) h = absurd (omega arith)
 tags-taken (suc k) [] h = refl
 tags-taken (suc k) (t ∷ ts) h = ap (λ (l : List ℕ). t ∷ l) (tags-taken k ts (omega arith))
 
-pub tag-count : (m : Memory) (block st block' : List ℕ) (a : BuildDone) → length (m .station .queued) ≡ 4 → BuildAnswered (buildCall m block) a st block'
-    → a .«tag_count» ≤ 16
-tag-count m block st block' a four h = subst (λ (n : ℕ). n ≤ 16) (sym (ap (λ (b : BuildDone). b .«tag_count») (h .answer))) (few-tags m block four)
+pub tag-count : (m : Memory) (block st block' : List ℕ) (a : BuildDone) → length (m .station .queued) ≡ timeslots
+    → BuildAnswered (buildCall m block) a st block' → a .«tag_count» ≤ perTimeslot
+tag-count m block st block' a four h =
+    subst (λ (n : ℕ). n ≤ perTimeslot) (sym (ap (λ (b : BuildDone). b .«tag_count») (h .answer))) (few-tags m block four)
 
-pub built : (m : Memory) (out out' st block' : List ℕ) (a : BuildDone) (count : ℕ) → length (m .station .queued) ≡ 4
-    → BuildAnswered (buildCall m (replicate 34 0)) a st block' → count ≤ 173
+pub built : (m : Memory) (out out' st block' : List ℕ) (a : BuildDone) (count : ℕ) → length (m .station .queued) ≡ timeslots
+    → BuildAnswered (buildCall m (replicate blockOctets 0)) a st block' → count ≤ 173
     → Wrote out 0 out' count (line 66 (blockFields (a .reply) block' (take (a .«tag_count») (a .tags))))
     → Executes (buildStep m) (record { station = a .station; queue = a .records; count = count }) st out out'
 unfolding buildStep
 built m out out' st block' a count four h few w =
-    let o = buildCall m (replicate 34 0) in
+    let o = buildCall m (replicate blockOctets 0) in
     record {
-      memory-after = ap (λ (b : BuildDone). memory (b .station) (b .records) st) (h .answer) ∙ ap (λ (l : List ℕ). memory (o .memory .station) (o .memory .records) l) (h .store);
+      memory-after = ap (λ (b : BuildDone). memory (b .station) (b .records) st) (h .answer)
+          ∙ ap (λ (l : List ℕ). memory (o .memory .station) (o .memory .records) l) (h .store);
       line = relined (ap (λ (b : BuildDone). line 66 (blockFields (b .reply) block' (take (b .«tag_count») (b .tags)))) (h .answer)
-          ∙ ap (λ (l : List ℕ). line 66 (blockFields (o .reply) l (take (length (o .tags)) (tagRow 16 (o .tags))))) (h .block)
-          ∙ ap (λ (l : List ℕ). line 66 (blockFields (o .reply) (o .block) l)) (tags-taken 16 (o .tags) (few-tags m (replicate 34 0) four))) w;
+          ∙ ap (λ (l : List ℕ). line 66 (blockFields (o .reply) l (take (length (o .tags)) (tagRow perTimeslot (o .tags))))) (h .block)
+          ∙ ap (λ (l : List ℕ). line 66 (blockFields (o .reply) (o .block) l))
+          (tags-taken perTimeslot (o .tags) (few-tags m (replicate blockOctets 0) four))) w;
       most = few;
     }
 
@@ -162,7 +171,8 @@ pub stage-filled : (stage stage' ops out out' text : List ℕ) (at count : ℕ) 
 unfolding staged stageLine
 stage-filled stage stage' ops out out' text at count small e1 e2 h few w =
     let e = le-leb (octet ops 0) 7 small in
-    let g : stage' ≡ written stage (32 * octet ops 0) (part ops 1 32) = h ∙ ap (λ (n : ℕ). written stage n text) e1 ∙ ap (written stage (32 * octet ops 0)) e2 in
+    let g : stage' ≡ written stage (32 * octet ops 0) (part ops 1 32) =
+    h ∙ ap (λ (n : ℕ). written stage n text) e1 ∙ ap (written stage (32 * octet ops 0)) e2 in
     (rw e g, omega arith, rw e w)
 
 -- ---- the lines of replies
@@ -172,7 +182,8 @@ pub grant-line : (out out' : List ℕ) (count : ℕ) (reply : RequestReply) (cap
     → Wrote out 0 out' count (line 82 (number 0 ++ number capacity ++ number delay ++ number k))
     → (count ≤ 173) × Wrote out 0 out' count (line 82 (grantFields reply))
 grant-line out out' count reply capacity delay k marker e num few w =
-    (omega arith, relined (ap (λ (x : ℕ). line 82 (number 0 ++ number capacity ++ number delay ++ number x)) num ∙ ap (λ (r : RequestReply). line 82 (grantFields r)) (sym e)) w)
+    let text = ap (λ (x : ℕ). line 82 (number 0 ++ number capacity ++ number delay ++ number x)) num in
+    (omega arith, relined (text ∙ ap (λ (r : RequestReply). line 82 (grantFields r)) (sym e)) w)
 
 pub refusal-line : (out out' : List ℕ) (count n : ℕ) (reply : RequestReply) (r : Refusal) → reply ≡ RequestReply.Refused r → n ≡ refusalNumber r → count ≤ 8
     → Wrote out 0 out' count (line 82 (number n)) → (count ≤ 173) × Wrote out 0 out' count (line 82 (grantFields reply))
@@ -180,7 +191,8 @@ refusal-line out out' count n reply r e num few w =
     (omega arith, relined (ap (λ (x : ℕ). line 82 (number x)) num ∙ ap (λ (x : RequestReply). line 82 (grantFields x)) (sym e)) w)
 
 pub block-line : (out out' block tags text : List ℕ) (count most : ℕ) (reply known : BuildReply) → reply ≡ known → count ≤ most → most ≤ 173
-    → text ≡ line 66 (blockFields known block tags) → Wrote out 0 out' count text → (count ≤ 173) × Wrote out 0 out' count (line 66 (blockFields reply block tags))
+    → text ≡ line 66 (blockFields known block tags) → Wrote out 0 out' count text
+    → (count ≤ 173) × Wrote out 0 out' count (line 66 (blockFields reply block tags))
 block-line out out' block tags text count most reply known e few fits h w =
     (omega arith, relined (h ∙ ap (λ (x : BuildReply). line 66 (blockFields x block tags)) (sym e)) w)
 
@@ -208,7 +220,8 @@ module _ (s : Session) (command : Command) (ops : List ℕ) (r : Executed) (st o
   unfolding step
   request-steps e h = kept-step s _ (requestStep (s .memory) ops) r st out out' (ap (λ (c : Command). step s c ops) e) h
 
-  pub queue-steps : command ≡ Command.Queue → Executes (queueStep (s .memory) (s .stage) ops) r st out out' → Steps (step s command ops) r st (s .stage) out out'
+  pub queue-steps : command ≡ Command.Queue → Executes (queueStep (s .memory) (s .stage) ops) r st out out'
+      → Steps (step s command ops) r st (s .stage) out out'
   unfolding step
   queue-steps e h = kept-step s _ (queueStep (s .memory) (s .stage) ops) r st out out' (ap (λ (c : Command). step s c ops) e) h
 

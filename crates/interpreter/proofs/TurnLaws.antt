@@ -8,7 +8,7 @@ use lib.Dec.{leb}
 use lib.ListN.{length}
 use borrow.Author.Tests.{leb-false}
 use Rattle.interpreter.specs.declared.Command.{Command}
-use Rattle.interpreter.specs.Slotrun.{operandCount, commandOf, isKnown, isWhole, Ran, ran, joined, ending, start, slotrun}
+use Rattle.interpreter.specs.Slotrun.{operandCount, commandOf, isKnown, isWhole, Ran, ran, printedBefore, ending, start, slotrun}
 use Rattle.interpreter.specs.Turns.{inputOf, wholeCommands, turn, turns, begun, isUnknown, atEnd, readingFrom, slotrunInParts}
 use Rattle.interpreter.proofs.RunLaws.{stopped}
 use Rattle.interpreter.proofs.CutLaws.{left-cut, cut-anywhere}
@@ -19,7 +19,7 @@ use Rattle.interpreter.proofs.CutLaws.{left-cut, cut-anywhere}
 turn-stops : (r : Ran) (next : List ℕ) → isWhole (r .left ++ next) ≡ false → turn r next ≡ ran (r .session) (r .printed) (r .left ++ next)
 turn-stops r next w =
     let l = r .left ++ next in
-    ap (joined (r .printed)) (stopped (length l) (r .session) l w) ∙ ap (λ (t : List ℕ). ran (r .session) t l) (append-nil (r .printed))
+    ap (printedBefore (r .printed)) (stopped (length l) (r .session) l w) ∙ ap (λ (t : List ℕ). ran (r .session) t l) (append-nil (r .printed))
 
 -- a turn with no octets
 pub turn-nothing : (r : Ran) → isWhole (r .left) ≡ false → turn r [] ≡ r
@@ -33,8 +33,8 @@ turn-turn r a b =
     let x = wholeCommands (r .session) (r .left ++ a) in
     let y = wholeCommands (x .session) (x .left ++ b) in
     ap (λ (t : List ℕ). ran (y .session) t (y .left)) (append-assoc (r .printed) (x .printed) (y .printed))
-    ∙ ap (joined (r .printed)) (sym (cut-anywhere (r .session) (r .left ++ a) b))
-    ∙ ap (λ (l : List ℕ). joined (r .printed) (wholeCommands (r .session) l)) (append-assoc (r .left) a b)
+    ∙ ap (printedBefore (r .printed)) (sym (cut-anywhere (r .session) (r .left ++ a) b))
+    ∙ ap (λ (l : List ℕ). printedBefore (r .printed) (wholeCommands (r .session) l)) (append-assoc (r .left) a b)
 
 -- any number of turns are one with the whole input
 turns-turn : (r : Ran) (parts : List (List ℕ)) → isWhole (r .left) ≡ false → turns r parts ≡ turn r (inputOf parts)

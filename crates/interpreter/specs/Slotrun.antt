@@ -4,6 +4,7 @@ use mathlib.Core.List.{List, [], _∷_, _++_}
 use Prim.Native.Nat.{ℕ, zero, suc, _+_, _*_}
 use lib.Dec.{eqb, leb}
 use lib.ListN.{length, getD, drop, replicate}
+use Rattle.sizes.specs.Sizes.{blockOctets}
 use Rattle.optional.specs.declared.OptU16.{OptU16}
 use Rattle.tdma_time.specs.declared.TdmaTime.{TdmaTime}
 use Rattle.uplink.specs.UplinkEntry.{markerOrZero}
@@ -33,8 +34,11 @@ abbrev pub firstTime : TdmaTime
 firstTime = record { h = 0; m = 1; f = 1; t = 1 }
 
 -- "A staged SDU is 256 octets, all zero at the start."
+abbrev pub stageOctets : ℕ
+stageOctets = 256
+
 abbrev pub start : Session
-start = session (newMemory firstTime) (replicate 256 0)
+start = session (newMemory firstTime) (replicate stageOctets 0)
 
 -- ---- commands
 
@@ -78,13 +82,13 @@ fourOctets ops i = 65536 * twoOctets ops i + twoOctets ops (i + 2)
 -- ---- what a command does and prints
 
 -- "54 new (h 2, m, f, t)"; "a 54 with a bad time prints 1". The outcome of a command is the line that it prints, and the memory after it.
-abbrev pub timeOf : List ℕ → TdmaTime
-timeOf ops = record { h = twoOctets ops 0; m = octet ops 2; f = octet ops 3; t = octet ops 4 }
+abbrev pub timeGiven : List ℕ → TdmaTime
+timeGiven ops = record { h = twoOctets ops 0; m = octet ops 2; f = octet ops 3; t = octet ops 4 }
 
 unfoldable pub newStep : Memory → List ℕ → Outcome (List ℕ)
 newStep m ops =
-    let reply = newCall (timeOf ops) .reply in
-    outcome (line 84 (number (replyNumber reply))) (cond (isDone reply) (newMemory (timeOf ops)) m)
+    let reply = newCall (timeGiven ops) .reply in
+    outcome (line 84 (number (replyNumber reply))) (cond (isDone reply) (newMemory (timeGiven ops)) m)
 
 -- "41 advance"
 unfoldable pub advanceStep : Memory → Outcome (List ℕ)
@@ -122,7 +126,7 @@ blockFields (BuildReply.Refused r) block tags = number (refusalNumber r)
 
 -- "42 build", into a block of zeros
 unfoldable pub buildStep : Memory → Outcome (List ℕ)
-buildStep m = let o = buildCall m (replicate 34 0) in outcome (line 66 (blockFields (o .reply) (o .block) (o .tags))) (o .memory)
+buildStep m = let o = buildCall m (replicate blockOctets 0) in outcome (line 66 (blockFields (o .reply) (o .block) (o .tags))) (o .memory)
 
 -- what a command comes to: the session after it, and the line that it prints
 pub record Step : Type 0 where
@@ -168,8 +172,8 @@ abbrev pub ran : Session → List ℕ → List ℕ → Ran
 ran s printed left = record { session = s; printed = printed; left = left }
 
 -- a run with a text printed before it
-abbrev pub joined : List ℕ → Ran → Ran
-joined text r = ran (r .session) (text ++ r .printed) (r .left)
+abbrev pub printedBefore : List ℕ → Ran → Ran
+printedBefore text r = ran (r .session) (text ++ r .printed) (r .left)
 
 -- the commands at the front of the octets, up to n of them
 unfoldable pub commands : ℕ → Session → List ℕ → Ran

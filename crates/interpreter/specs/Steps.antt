@@ -6,7 +6,7 @@ use lib.ListN.{length, drop}
 use Rattle.bitbuffer.specs.Bits.{Wrote}
 use Rattle.sizes.specs.Sizes.{perTimeslot}
 use Rattle.dl_record.specs.declared.Record.{Record}
-use Rattle.dl_send.specs.Progress.{tagRow}
+use Rattle.dl_send.specs.Arrays.{tagRow}
 use Rattle.sched_core.specs.declared.Station.{Station}
 use Rattle.sched_core.specs.Questions.{memory}
 use Rattle.sched_core.specs.Calls.{Outcome, BuildOutcome}
@@ -44,6 +44,13 @@ pub record Runs (x : Ran) (r : RunAnswer) (input store' stage' out out' : List �
 
 -- what a build by value answers and leaves: sixteen tags, zeros behind those that come back, and the caller's buffers
 pub record BuildAnswered (o : BuildOutcome) (a : BuildDone) (store' block' : List ℕ) : Type 0 where
-  pub answer : a ≡ record { reply = o .reply; tags = tagRow perTimeslot (o .tags); «tag_count» = length (o .tags); station = o .memory .station; records = o .memory .records }
+  pub answer : a
+      ≡ record {
+        reply = o .reply;
+        tags = tagRow perTimeslot (o .tags);
+        «tag_count» = length (o .tags);
+        station = o .memory .station;
+        records = o .memory .records;
+      }
   pub store : store' ≡ o .memory .store
   pub block : block' ≡ o .block

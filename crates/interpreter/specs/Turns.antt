@@ -4,7 +4,7 @@ use mathlib.Core.Bool.{Bool, false, not, cond}
 use mathlib.Core.List.{List, [], _∷_, _++_}
 use Prim.Native.Nat.{ℕ}
 use lib.ListN.{length}
-use Rattle.interpreter.specs.Slotrun.{Session, commandOf, isKnown, start, Ran, ran, joined, commands, ending}
+use Rattle.interpreter.specs.Slotrun.{Session, commandOf, isKnown, start, Ran, ran, printedBefore, commands, ending}
 
 -- the parts, one behind the other: the input
 unfoldable pub inputOf : List (List ℕ) → List ℕ
@@ -17,7 +17,7 @@ wholeCommands s input = commands (length input) s input
 
 -- A turn: the next part is put behind the octets that are left, and the commands that are whole then are done.
 abbrev pub turn : Ran → List ℕ → Ran
-turn r next = joined (r .printed) (wholeCommands (r .session) (r .left ++ next))
+turn r next = printedBefore (r .printed) (wholeCommands (r .session) (r .left ++ next))
 
 -- the parts, turn by turn
 unfoldable pub turns : Ran → List (List ℕ) → Ran

@@ -40,7 +40,7 @@ pub struct BuildDone {
 }
 
 // An answer with the queue after the call.
-fn request_left(a: RequestAnswer, records: [Record; 64]) -> RequestLeft
+fn request_left(a: RequestAnswer, records: [Record; sizes::QUEUE_PLACES]) -> RequestLeft
     ensures { λ r. ⌜ r ≡ record { reply = a .reply; station = a .station; records = records } ⌝ }
 {
     let reply = a.reply;
@@ -52,7 +52,7 @@ fn request_left(a: RequestAnswer, records: [Record; 64]) -> RequestLeft
     }
 }
 
-fn queue_left(a: Answer, records: [Record; 64]) -> QueueLeft
+fn queue_left(a: Answer, records: [Record; sizes::QUEUE_PLACES]) -> QueueLeft
     ensures { λ r. ⌜ r ≡ record { reply = a .reply; station = a .station; records = records } ⌝ }
 {
     let reply = a.reply;
@@ -65,7 +65,13 @@ fn queue_left(a: Answer, records: [Record; 64]) -> QueueLeft
 }
 
 fn build_left(a: BuildAnswer, records: [Record; sizes::QUEUE_PLACES]) -> BuildDone
-    ensures { λ r. ⌜ r ≡ record { reply = a .reply; tags = a .tags; «tag_count» = a .«tag_count»; station = a .station; records = records } ⌝ }
+    ensures { λ r. ⌜ r ≡ record {
+      reply = a .reply;
+      tags = a .tags;
+      «tag_count» = a .«tag_count»;
+      station = a .station;
+      records = records;
+    } ⌝ }
 {
     let reply = a.reply;
     let tags = a.tags;
@@ -90,7 +96,7 @@ fn empty_header() -> QueuedHeader
 // A request for capacity.
 pub fn request(
     s: Station,
-    records: [Record; 64],
+    records: [Record; sizes::QUEUE_PLACES],
     store: &[u8],
     timeslot: u8,
     code: u8,
@@ -108,7 +114,7 @@ pub fn request(
 // An acknowledgement of a random access is queued.
 pub fn queue_ack(
     s: Station,
-    records: [Record; 64],
+    records: [Record; sizes::QUEUE_PLACES],
     store: &[u8],
     timeslot: u8,
     kind: u8,
@@ -125,7 +131,7 @@ pub fn queue_ack(
 // A record is queued with its SDU: a tag, and no other header part.
 pub fn queue_record(
     s: Station,
-    records: [Record; 64],
+    records: [Record; sizes::QUEUE_PLACES],
     store: &mut [u8],
     timeslot: u8,
     kind: u8,
@@ -155,7 +161,12 @@ pub fn queue_record(
 }
 
 // The block of the current slot is built.
-pub fn build(s: Station, records: [Record; 64], store: &mut [u8], block: &mut [u8]) -> BuildDone
+pub fn build(
+    s: Station,
+    records: [Record; sizes::QUEUE_PLACES],
+    store: &mut [u8],
+    block: &mut [u8],
+) -> BuildDone
     ensures { λ r. ⌜ BuildAnswered (buildCall (memory s records (now (store .entry))) (now (block .entry))) r (now (store .exit)) (now (block .exit)) ⌝ }
 {
     let mut queue = records;

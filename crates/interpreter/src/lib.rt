@@ -7,16 +7,20 @@ ghost use mathlib.Core.Path.{_≡_};
 ghost use mathlib.Core.Bool.{true};
 ghost use Prim.Native.Nat.{_+_, _*_, _^_, _<_, _≤_};
 ghost use lib.ListN.{length, drop};
+ghost use Rattle.sizes.specs.Sizes.{storeOctets};
 ghost use Rattle.questions.specs.Questions.{refusalNumber};
 ghost use Rattle.sched_core.specs.Calls.{replyNumber};
 ghost use Rattle.sched_core.specs.Questions.{memory};
 ghost use Rattle.interpreter.specs.declared.Command.{Command};
-ghost use Rattle.interpreter.specs.Slotrun.{commandOf, isKnown, operandCount, twoOctets, fourOctets, session, isWhole, commands};
+ghost use Rattle.interpreter.specs.Slotrun.{stageOctets, commandOf, isKnown, operandCount, twoOctets, fourOctets, session, isWhole, commands};
 ghost use Rattle.interpreter.specs.Steps.{Runs};
 
 pub mod calls;
 pub mod steps;
 pub mod text;
+
+// The octets of the staged SDU.
+pub const STAGE_OCTETS: usize = 256;
 
 // The commands.
 pub enum Command {
@@ -32,7 +36,7 @@ pub enum Command {
 // What a command leaves: the station and its queue, and how many octets it printed.
 pub struct Executed {
     pub station: Station,
-    pub queue: [Record; 64],
+    pub queue: [Record; sizes::QUEUE_PLACES],
     pub count: usize,
 }
 
@@ -45,7 +49,7 @@ pub struct Advanced {
 // What a run leaves: the station and its queue, how many octets it took, and how many it printed.
 pub struct RunAnswer {
     pub station: Station,
-    pub queue: [Record; 64],
+    pub queue: [Record; sizes::QUEUE_PLACES],
     pub taken: usize,
     pub count: usize,
 }
@@ -184,14 +188,16 @@ fn is_whole(input: &[u8], at: usize) -> bool
 // most frequent command, has a short way, on which the queue is not copied.
 pub fn run(
     station: Station,
-    queue: [Record; 64],
+    queue: [Record; sizes::QUEUE_PLACES],
     store: &mut [u8],
     stage: &mut [u8],
     input: &[u8],
     out: &mut [u8],
 ) -> RunAnswer
-    requires { ⌜ (length (now store) ≡ 16384) × (length (now stage) ≡ 256) × (173 * length (now input) ≤ length (now out)) × (length (now out) < 2 ^ 64) ⌝ }
-    ensures { λ r. ⌜ Runs (commands (length (now (input .entry))) (session (memory station queue (now (store .entry))) (now (stage .entry))) (now (input .entry)))
+    requires { ⌜ (length (now store) ≡ storeOctets) × (length (now stage) ≡ stageOctets)
+        × (173 * length (now input) ≤ length (now out)) × (length (now out) < 2 ^ 64) ⌝ }
+    ensures { λ r. ⌜ Runs
+        (commands (length (now (input .entry))) (session (memory station queue (now (store .entry))) (now (stage .entry))) (now (input .entry)))
         r (now (input .entry)) (now (store .exit)) (now (stage .exit)) (now (out .entry)) (now (out .exit)) ⌝ }
 {
     let mut here = station;

@@ -11,11 +11,13 @@ use tdma_time::TdmaTime;
 ghost use mathlib.Core.Path.{_≡_};
 ghost use Prim.Native.Nat.{_≤_};
 ghost use lib.ListN.{length, take};
+ghost use Rattle.sizes.specs.Sizes.{perTimeslot, storeOctets, blockOctets};
 ghost use Rattle.bitbuffer.specs.Bits.{Wrote};
 ghost use Rattle.sched_core.specs.Questions.{memory};
 ghost use Rattle.sched_core.specs.Invariant.{isDone};
 ghost use Rattle.interpreter.specs.Text.{line};
-ghost use Rattle.interpreter.specs.Slotrun.{operandCount, grantFields, blockFields, newStep, requestStep, staged, stageLine, queueStep, buildStep, session, step};
+ghost use Rattle.interpreter.specs.Slotrun.{stageOctets, operandCount, grantFields, blockFields, session, step};
+ghost use Rattle.interpreter.specs.Slotrun.{newStep, requestStep, staged, stageLine, queueStep, buildStep};
 ghost use Rattle.interpreter.specs.Steps.{Executes, Advances, Steps};
 
 fn is_done(r: Reply) -> bool
@@ -30,13 +32,14 @@ fn is_done(r: Reply) -> bool
 // A new station: an empty queue and store, if the time is sound.
 fn new_step(
     station: Station,
-    queue: [Record; 64],
+    queue: [Record; sizes::QUEUE_PLACES],
     store: &mut [u8],
     operands: &[u8],
     out: &mut [u8],
 ) -> Executed
-    requires { ⌜ (length (now store) ≡ 16384) × (5 ≤ length (now operands)) × (173 ≤ length (now out)) ⌝ }
-    ensures { λ r. ⌜ Executes (newStep (memory station queue (now (store .entry))) (now (operands .entry))) r (now (store .exit)) (now (out .entry)) (now (out .exit)) ⌝ }
+    requires { ⌜ (length (now store) ≡ storeOctets) × (5 ≤ length (now operands)) × (173 ≤ length (now out)) ⌝ }
+    ensures { λ r. ⌜ Executes (newStep (memory station queue (now (store .entry))) (now (operands .entry)))
+        r (now (store .exit)) (now (out .entry)) (now (out .exit)) ⌝ }
 {
     let h = crate::two_octets(operands, 0);
     let m = operands[2];
@@ -59,11 +62,11 @@ fn new_step(
         };
     }
     let n = store.len();
-    sdu_store::zero_octets(store, 0, n);
+    dl_sdu_store::zero_octets(store, 0, n);
     let next = a.station;
     Executed {
         station: next,
-        queue: [Record::EMPTY; 64],
+        queue: [Record::EMPTY; sizes::QUEUE_PLACES],
         count: count,
     }
 }
@@ -101,13 +104,14 @@ fn put_request(out: &mut [u8], reply: RequestReply) -> usize
 // A request for capacity.
 fn request_step(
     station: Station,
-    queue: [Record; 64],
+    queue: [Record; sizes::QUEUE_PLACES],
     store: &[u8],
     operands: &[u8],
     out: &mut [u8],
 ) -> Executed
     requires { ⌜ (7 ≤ length (now operands)) × (173 ≤ length (now out)) ⌝ }
-    ensures { λ r. ⌜ Executes (requestStep (memory station queue (now (store .entry))) (now (operands .entry))) r (now (store .entry)) (now (out .entry)) (now (out .exit)) ⌝ }
+    ensures { λ r. ⌜ Executes (requestStep (memory station queue (now (store .entry))) (now (operands .entry)))
+        r (now (store .entry)) (now (out .entry)) (now (out .exit)) ⌝ }
 {
     let timeslot = operands[0];
     let code = operands[1];
@@ -127,8 +131,9 @@ fn request_step(
 
 // A part of the stage is filled.
 fn stage_step(stage: &mut [u8], operands: &[u8], out: &mut [u8]) -> usize
-    requires { ⌜ (length (now stage) ≡ 256) × (33 ≤ length (now operands)) × (173 ≤ length (now out)) ⌝ }
-    ensures { λ r. ⌜ (now (stage .exit) ≡ staged (now (stage .entry)) (now (operands .entry))) × (r ≤ 173) × Wrote (now (out .entry)) 0 (now (out .exit)) r (stageLine (now (operands .entry))) ⌝ }
+    requires { ⌜ (length (now stage) ≡ stageOctets) × (33 ≤ length (now operands)) × (173 ≤ length (now out)) ⌝ }
+    ensures { λ r. ⌜ (now (stage .exit) ≡ staged (now (stage .entry)) (now (operands .entry))) × (r ≤ 173)
+        × Wrote (now (out .entry)) 0 (now (out .exit)) r (stageLine (now (operands .entry))) ⌝ }
 {
     let index = operands[0];
     if 7 < index {
@@ -142,14 +147,15 @@ fn stage_step(stage: &mut [u8], operands: &[u8], out: &mut [u8]) -> usize
 // A record is queued with the staged SDU.
 fn queue_step(
     station: Station,
-    queue: [Record; 64],
+    queue: [Record; sizes::QUEUE_PLACES],
     store: &mut [u8],
     stage: &[u8],
     operands: &[u8],
     out: &mut [u8],
 ) -> Executed
     requires { ⌜ (10 ≤ length (now operands)) × (173 ≤ length (now out)) ⌝ }
-    ensures { λ r. ⌜ Executes (queueStep (memory station queue (now (store .entry))) (now (stage .entry)) (now (operands .entry))) r (now (store .exit)) (now (out .entry)) (now (out .exit)) ⌝ }
+    ensures { λ r. ⌜ Executes (queueStep (memory station queue (now (store .entry))) (now (stage .entry)) (now (operands .entry)))
+        r (now (store .exit)) (now (out .entry)) (now (out .exit)) ⌝ }
 {
     let timeslot = operands[0];
     let kind = operands[1];
@@ -183,10 +189,10 @@ fn put_build(
     out: &mut [u8],
     reply: BuildReply,
     block: &[u8],
-    tags: [u16; 16],
+    tags: [u16; sizes::PER_TIMESLOT],
     count: usize,
 ) -> usize
-    requires { ⌜ (173 ≤ length (now out)) × (length (now block) ≡ 34) × (count ≤ 16) ⌝ }
+    requires { ⌜ (173 ≤ length (now out)) × (length (now block) ≡ blockOctets) × (count ≤ perTimeslot) ⌝ }
     ensures { λ r. ⌜ (r ≤ 173) × Wrote (now (out .entry)) 0 (now (out .exit)) r (line 66 (blockFields reply (now (block .entry)) (take count tags))) ⌝ }
 {
     match reply {
@@ -197,11 +203,16 @@ fn put_build(
 }
 
 // A block is built.
-fn build_step(station: Station, queue: [Record; 64], store: &mut [u8], out: &mut [u8]) -> Executed
+fn build_step(
+    station: Station,
+    queue: [Record; sizes::QUEUE_PLACES],
+    store: &mut [u8],
+    out: &mut [u8],
+) -> Executed
     requires { ⌜ 173 ≤ length (now out) ⌝ }
     ensures { λ r. ⌜ Executes (buildStep (memory station queue (now (store .entry)))) r (now (store .exit)) (now (out .entry)) (now (out .exit)) ⌝ }
 {
-    let mut block = [0u8; 34];
+    let mut block = [0u8; sizes::BLOCK_OCTETS];
     let a = crate::calls::build(station, queue, store, &mut block);
     let reply = a.reply;
     let tags = a.tags;
@@ -219,15 +230,17 @@ fn build_step(station: Station, queue: [Record; 64], store: &mut [u8], out: &mut
 // One command.
 pub fn execute(
     station: Station,
-    queue: [Record; 64],
+    queue: [Record; sizes::QUEUE_PLACES],
     store: &mut [u8],
     stage: &mut [u8],
     command: Command,
     operands: &[u8],
     out: &mut [u8],
 ) -> Executed
-    requires { ⌜ (length (now store) ≡ 16384) × (length (now stage) ≡ 256) × (operandCount command ≤ length (now operands)) × (173 ≤ length (now out)) ⌝ }
-    ensures { λ r. ⌜ Steps (step (session (memory station queue (now (store .entry))) (now (stage .entry))) command (now (operands .entry))) r (now (store .exit)) (now (stage .exit)) (now (out .entry)) (now (out .exit)) ⌝ }
+    requires { ⌜ (length (now store) ≡ storeOctets) × (length (now stage) ≡ stageOctets)
+        × (operandCount command ≤ length (now operands)) × (173 ≤ length (now out)) ⌝ }
+    ensures { λ r. ⌜ Steps (step (session (memory station queue (now (store .entry))) (now (stage .entry))) command (now (operands .entry)))
+        r (now (store .exit)) (now (stage .exit)) (now (out .entry)) (now (out .exit)) ⌝ }
 {
     match command {
         Command::New => new_step(station, queue, store, operands, out),

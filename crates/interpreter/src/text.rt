@@ -4,6 +4,7 @@ ghost use mathlib.Core.List.{[], _∷_, _++_};
 ghost use Prim.Native.Nat.{_+_, _*_, _<_, _≤_};
 ghost use lib.ListN.{length, take};
 ghost use Rattle.io.specs.Digits.{glyph, digits};
+ghost use Rattle.sizes.specs.Sizes.{perTimeslot, blockOctets};
 ghost use Rattle.bitbuffer.specs.Bits.{Wrote};
 ghost use Rattle.interpreter.specs.Text.{number, numbers, hex, line};
 
@@ -41,8 +42,8 @@ fn put_number(out: &mut [u8], at: usize, n: u16) -> usize
 }
 
 // Fields in decimal: the first `count`.
-fn put_numbers(out: &mut [u8], at: usize, ns: [u16; 16], count: usize) -> usize
-    requires { ⌜ (at + 6 * count ≤ length (now out)) × (count ≤ 16) ⌝ }
+fn put_numbers(out: &mut [u8], at: usize, ns: [u16; sizes::PER_TIMESLOT], count: usize) -> usize
+    requires { ⌜ (at + 6 * count ≤ length (now out)) × (count ≤ perTimeslot) ⌝ }
     ensures { λ r. ⌜ (r ≤ at + 6 * count) × Wrote (now (out .entry)) at (now (out .exit)) r (numbers (take count ns)) ⌝ }
 {
     let mut next = at;
@@ -116,9 +117,15 @@ pub fn put_grant(out: &mut [u8], capacity: u8, delay: u8, marker: u8) -> usize
 }
 
 // The line of a block and tags.
-pub fn put_block(out: &mut [u8], block: &[u8], tags: [u16; 16], count: usize) -> usize
-    requires { ⌜ (173 ≤ length (now out)) × (length (now block) ≡ 34) × (count ≤ 16) ⌝ }
-    ensures { λ r. ⌜ (r ≤ 173) × Wrote (now (out .entry)) 0 (now (out .exit)) r (line 66 (number 0 ++ 32 ∷ hex (now (block .entry)) ++ numbers (take count tags))) ⌝ }
+pub fn put_block(
+    out: &mut [u8],
+    block: &[u8],
+    tags: [u16; sizes::PER_TIMESLOT],
+    count: usize,
+) -> usize
+    requires { ⌜ (173 ≤ length (now out)) × (length (now block) ≡ blockOctets) × (count ≤ perTimeslot) ⌝ }
+    ensures { λ r. ⌜ (r ≤ 173)
+        × Wrote (now (out .entry)) 0 (now (out .exit)) r (line 66 (number 0 ++ 32 ∷ hex (now (block .entry)) ++ numbers (take count tags))) ⌝ }
 {
     let a = put(out, 0, b'B');
     let b = put_number(out, a, 0);

@@ -7,7 +7,7 @@ use optional::OptU8;
 use optional::OptU16;
 ghost use mathlib.Core.Path.{_≡_};
 ghost use Rattle.mac_pdus.specs.Legal.{absentU8, absentU16, absentChanAlloc, optBelow, labelFits, hasAddress, legalFrame18, legalChanAlloc, legalOptChanAlloc};
-ghost use Rattle.mac_pdus.specs.Legal.{withinWidths, allAbsent, legalParts, legalFields, loneParts, legalLone, queuedKind, legalQueued, legalOffered};
+ghost use Rattle.mac_pdus.specs.Legal.{withinWidths, allAbsent, legalParts, legalFields, partsToWrite, legalToWrite, queuedKind, legalQueued, legalOffered};
 
 pub fn absent_u8(o: OptU8) -> bool
     ensures { λ r. ⌜ r ≡ absentU8 o ⌝ }
@@ -95,7 +95,8 @@ fn legal_chan_alloc(c: ChanAllocElement) -> bool
         & legal_frame18(c.mon_pattern, f)
 }
 
-fn legal_opt_chan_alloc(o: OptChanAlloc) -> bool
+// Whether a channel allocation is absent or legal.
+pub fn legal_opt_chan_alloc(o: OptChanAlloc) -> bool
     ensures { λ r. ⌜ r ≡ legalOptChanAlloc o ⌝ }
 {
     match o {
@@ -165,9 +166,9 @@ fn legal_fields(h: MacResource) -> bool
     within_widths(h) & legal_opt_chan_alloc(alloc) & legal_parts(h)
 }
 
-// Whether label and marker go with the kind of address in the lone writer.
-fn lone_parts(kind: AddressKind, label: OptU16, marker: OptU8) -> bool
-    ensures { λ r. ⌜ r ≡ loneParts kind label marker ⌝ }
+// Whether label and marker go with the kind of address in the header writer.
+fn parts_to_write(kind: AddressKind, label: OptU16, marker: OptU8) -> bool
+    ensures { λ r. ⌜ r ≡ partsToWrite kind label marker ⌝ }
 {
     match kind {
         AddressKind::Absent => true,
@@ -179,14 +180,14 @@ fn lone_parts(kind: AddressKind, label: OptU16, marker: OptU8) -> bool
     }
 }
 
-// Question 6 for the lone writer.
-pub fn legal_lone(h: MacResource) -> bool
-    ensures { λ r. ⌜ r ≡ legalLone h ⌝ }
+// Question 6 for the header writer.
+pub fn legal_to_write(h: MacResource) -> bool
+    ensures { λ r. ⌜ r ≡ legalToWrite h ⌝ }
 {
     let kind = h.address_kind;
     let label = h.event_label;
     let marker = h.usage_marker;
-    legal_fields(h) & (0 < h.length_ind) & lone_parts(kind, label, marker)
+    legal_fields(h) & (0 < h.length_ind) & parts_to_write(kind, label, marker)
 }
 
 // Whether a queued record can have this kind of address.
@@ -204,7 +205,7 @@ fn queued_kind(k: AddressKind) -> bool
 }
 
 // Question 6 for a queued record.
-pub fn legal_queued(h: MacResource) -> bool
+fn legal_queued(h: MacResource) -> bool
     ensures { λ r. ⌜ r ≡ legalQueued h ⌝ }
 {
     let kind = h.address_kind;

@@ -1,4 +1,4 @@
-// A header as it is offered and as it stands on the air, and back; which headers read from a block the lone writer would take.
+// A header as it is offered and as it stands on the air, and back; which headers read from a block the header writer would take.
 use mac_pdus::Address;
 use mac_pdus::AddressKind;
 use mac_pdus::MacResource;
@@ -6,7 +6,7 @@ use mac_pdus::ResourceHeader;
 use optional::OptU8;
 use optional::OptU16;
 ghost use mathlib.Core.Path.{_≡_};
-ghost use Rattle.mac_pdus.specs.Legal.{ssiOnAir, smiOnAir, labelOnAir, addressOnAir, onAir, kindOf, numberOf, labelOf, markerOf, offered, loneTakes};
+ghost use Rattle.mac_pdus.specs.Legal.{ssiOnAir, smiOnAir, labelOnAir, addressOnAir, onAir, kindOf, numberOf, labelOf, usageMarkerOf, offered, writerTakes};
 
 fn ssi_on_air(n: u32, label: OptU16, marker: OptU8) -> Address
     ensures { λ r. ⌜ r ≡ ssiOnAir n label marker ⌝ }
@@ -122,7 +122,7 @@ fn label_of(a: Address) -> OptU16
 }
 
 fn marker_of(a: Address) -> OptU8
-    ensures { λ r. ⌜ r ≡ markerOf a ⌝ }
+    ensures { λ r. ⌜ r ≡ usageMarkerOf a ⌝ }
 {
     match a {
         Address::Null => OptU8::Absent,
@@ -164,10 +164,10 @@ fn offered(r: ResourceHeader) -> MacResource
     }
 }
 
-// Whether the lone writer would take the header.
-pub fn lone_takes(r: ResourceHeader) -> bool
-    ensures { λ b. ⌜ b ≡ loneTakes r ⌝ }
+// Whether the header writer would take the header.
+pub fn writer_takes(r: ResourceHeader) -> bool
+    ensures { λ b. ⌜ b ≡ writerTakes r ⌝ }
 {
     let h = offered(r);
-    mac_legal::legal_lone(h)
+    mac_legal::legal_to_write(h)
 }

@@ -24,14 +24,20 @@ and4 a1 a2 a3 a4 h =
     let p = and3 a1 a2 a3 (q4 .0) in
     (p .0, p .1, p .2, q4 .1)
 
+pub and6 : (a1 a2 a3 a4 a5 a6 : Bool) → a1 && a2 && a3 && a4 && a5 && a6 ≡ true
+    → (a1 ≡ true) × (a2 ≡ true) × (a3 ≡ true) × (a4 ≡ true) × (a5 ≡ true) × (a6 ≡ true)
+and6 a1 a2 a3 a4 a5 a6 h =
+    let q6 = and2 (a1 && a2 && a3 && a4 && a5) a6 h in
+    let q5 = and2 (a1 && a2 && a3 && a4) a5 (q6 .0) in
+    let p = and4 a1 a2 a3 a4 (q5 .0) in
+    (p .0, p .1, p .2, p .3, q5 .1, q6 .1)
+
 pub and7 : (a1 a2 a3 a4 a5 a6 a7 : Bool) → a1 && a2 && a3 && a4 && a5 && a6 && a7 ≡ true
     → (a1 ≡ true) × (a2 ≡ true) × (a3 ≡ true) × (a4 ≡ true) × (a5 ≡ true) × (a6 ≡ true) × (a7 ≡ true)
 and7 a1 a2 a3 a4 a5 a6 a7 h =
     let q7 = and2 (a1 && a2 && a3 && a4 && a5 && a6) a7 h in
-    let q6 = and2 (a1 && a2 && a3 && a4 && a5) a6 (q7 .0) in
-    let q5 = and2 (a1 && a2 && a3 && a4) a5 (q6 .0) in
-    let p = and4 a1 a2 a3 a4 (q5 .0) in
-    (p .0, p .1, p .2, p .3, q5 .1, q6 .1, q7 .1)
+    let p = and6 a1 a2 a3 a4 a5 a6 (q7 .0) in
+    (p .0, p .1, p .2, p .3, p .4, p .5, q7 .1)
 
 pub and10 : (a1 a2 a3 a4 a5 a6 a7 a8 a9 a10 : Bool) → a1 && a2 && a3 && a4 && a5 && a6 && a7 && a8 && a9 && a10 ≡ true
     → (a1 ≡ true) × (a2 ≡ true) × (a3 ≡ true) × (a4 ≡ true) × (a5 ≡ true) × (a6 ≡ true) × (a7 ≡ true) × (a8 ≡ true) × (a9 ≡ true) × (a10 ≡ true)

@@ -15,8 +15,9 @@ use Rattle.mac_pdus.specs.declared.ResourceHeader.{ResourceHeader}
 use Rattle.mac_pdus.specs.declared.MacResource.{MacResource}
 use Rattle.mac_pdus.specs.Headers.{addressType}
 use Rattle.mac_pdus.specs.Within.{OptWithin, AddressWithin, Frame18Within, ChanAllocWithin, OptChanAllocWithin, NullWithin, ResourceWithin}
-use Rattle.mac_pdus.specs.Legal.{fits, absentU8, absentU16, absentChanAlloc, optFits, labelFits, hasAddress, legalFrame18, legalChanAlloc, legalOptChanAlloc, withinWidths, allAbsent, legalParts, legalFields, loneParts, legalLone}
-use Rattle.mac_pdus.specs.Legal.{addressOnAir, onAir, kindOf, numberOf, labelOf, markerOf, offered, readKind, asRead, loneTakes}
+use Rattle.mac_pdus.specs.Legal.{fits, absentU8, absentU16, absentChanAlloc, optFits, labelFits, hasAddress, legalFrame18, legalChanAlloc}
+use Rattle.mac_pdus.specs.Legal.{legalOptChanAlloc, withinWidths, allAbsent, legalParts, legalFields, partsToWrite, legalToWrite}
+use Rattle.mac_pdus.specs.Legal.{addressOnAir, onAir, kindOf, numberOf, labelOf, usageMarkerOf, offered, readKind, asRead, writerTakes}
 use Rattle.mac_pdus.proofs.Conjunctions.{false-not-true, and2, and3, and4, and7, and10}
 
 -- ---- the parts of question 6
@@ -32,15 +33,15 @@ fields h e =
     let p = and3 (withinWidths h) (legalOptChanAlloc (h .«chan_alloc_element»)) (legalParts h) e in
     record { widths = p .0; alloc = p .1; parts = p .2 }
 
-pub record Lone (h : MacResource) : Type 0 where
+pub record ToWrite (h : MacResource) : Type 0 where
   pub fields : legalFields h ≡ true
   pub length : 0 < h .«length_ind»
-  pub parts : loneParts (h .«address_kind») (h .«event_label») (h .«usage_marker») ≡ true
+  pub parts : partsToWrite (h .«address_kind») (h .«event_label») (h .«usage_marker») ≡ true
 
-pub lone : (h : MacResource) → legalLone h ≡ true → Lone h
-unfolding legalLone
-lone h e =
-    let p = and3 (legalFields h) (ltb 0 (h .«length_ind»)) (loneParts (h .«address_kind») (h .«event_label») (h .«usage_marker»)) e in
+pub to-write : (h : MacResource) → legalToWrite h ≡ true → ToWrite h
+unfolding legalToWrite
+to-write h e =
+    let p = and3 (legalFields h) (ltb 0 (h .«length_ind»)) (partsToWrite (h .«address_kind») (h .«event_label») (h .«usage_marker»)) e in
     record { fields = p .0; length = ltb-true 0 (h .«length_ind») (p .1); parts = p .2 }
 
 pub record Parts (h : MacResource) : Type 0 where
@@ -116,11 +117,11 @@ address-within AddressKind.Smi n (OptU16.Of e) m hn hl hm = (hn, label-within e 
 
 -- ---- the null
 
-is-absent : (o : OptU8) → absentU8 o ≡ true → o ≡ OptU8.Absent
+pub is-absent : (o : OptU8) → absentU8 o ≡ true → o ≡ OptU8.Absent
 is-absent OptU8.Absent h = refl
 is-absent (OptU8.Of v) h = false-not-true h
 
-no-chan-alloc : (a : OptChanAlloc) → absentChanAlloc a ≡ true → a ≡ OptChanAlloc.Absent
+pub no-chan-alloc : (a : OptChanAlloc) → absentChanAlloc a ≡ true → a ≡ OptChanAlloc.Absent
 no-chan-alloc OptChanAlloc.Absent h = refl
 no-chan-alloc (OptChanAlloc.Of c) h = false-not-true h
 
@@ -176,7 +177,7 @@ legal-within h e =
 
 -- ---- what is on the air, offered and written again, is the same
 
-address-again : (a : Address) → addressOnAir (kindOf a) (numberOf a) (labelOf a) (markerOf a) ≡ a
+address-again : (a : Address) → addressOnAir (kindOf a) (numberOf a) (labelOf a) (usageMarkerOf a) ≡ a
 unfolding addressOnAir
 address-again Address.Null = refl
 address-again (Address.Ssi n) = refl
@@ -202,20 +203,20 @@ on-air-again r =
       «chan_alloc_element» = r .«chan_alloc_element»;
     }) (address-again (r .address))
 
-pub taken-within : (r : ResourceHeader) → loneTakes r ≡ true → ResourceWithin r
-unfolding loneTakes
-taken-within r h = subst ResourceWithin (on-air-again r) (legal-within (offered r) (lone (offered r) h .fields))
+pub taken-within : (r : ResourceHeader) → writerTakes r ≡ true → ResourceWithin r
+unfolding writerTakes
+taken-within r h = subst ResourceWithin (on-air-again r) (legal-within (offered r) (to-write (offered r) h .fields))
 
--- ---- what the lone writer takes comes back: GSSI and ISSI as SSI, all else as it was
+-- ---- what the header writer takes comes back: GSSI and ISSI as SSI, all else as it was
 
 pub record SameAddress (k : AddressKind) (n : ℕ) (l : OptU16) (m : OptU8) : Type 0 where
   pub kind : kindOf (addressOnAir k n l m) ≡ readKind k
   pub number : numberOf (addressOnAir k n l m) ≡ n
   pub label : labelOf (addressOnAir k n l m) ≡ l
-  pub marker : markerOf (addressOnAir k n l m) ≡ m
+  pub marker : usageMarkerOf (addressOnAir k n l m) ≡ m
 
 same-address : (k : AddressKind) (n : ℕ) (l : OptU16) (m : OptU8) → hasAddress k || eqb n 0 ≡ true → absentU8 m || hasAddress k && absentU16 l ≡ true
-    → loneParts k l m ≡ true → SameAddress k n l m
+    → partsToWrite k l m ≡ true → SameAddress k n l m
 unfolding addressOnAir
 same-address AddressKind.Absent n l (OptU8.Of v) hn hm hp = false-not-true hm
 same-address AddressKind.Absent n OptU16.Absent OptU8.Absent hn hm hp = record { kind = refl; number = sym (eqb-true n 0 hn); label = refl; marker = refl }
@@ -239,10 +240,10 @@ same-address AddressKind.Smi n OptU16.Absent OptU8.Absent hn hm hp = record { ki
 same-address AddressKind.Smi n (OptU16.Of e) OptU8.Absent hn hm hp = record { kind = refl; number = refl; label = refl; marker = refl }
 same-address AddressKind.Smi n l (OptU8.Of v) hn hm hp = false-not-true hp
 
-pub offered-again : (h : MacResource) → legalLone h ≡ true → offered (onAir h) ≡ asRead h
+pub offered-again : (h : MacResource) → legalToWrite h ≡ true → offered (onAir h) ≡ asRead h
 unfolding onAir offered asRead
 offered-again h e =
-    let p = lone h e in
+    let p = to-write h e in
     let q = parts h (fields h (p .fields) .parts) in
     let s = same-address (h .«address_kind») (h .number) (h .«event_label») (h .«usage_marker») (q .number) (q .marker) (p .parts) in
     rw (s .kind, s .number, s .label, s .marker)
@@ -255,7 +256,7 @@ read-address AddressKind.Issi = refl
 read-address AddressKind.Ussi = refl
 read-address AddressKind.Smi = refl
 
-read-parts : (k : AddressKind) (l : OptU16) (m : OptU8) → loneParts (readKind k) l m ≡ loneParts k l m
+read-parts : (k : AddressKind) (l : OptU16) (m : OptU8) → partsToWrite (readKind k) l m ≡ partsToWrite k l m
 read-parts AddressKind.Absent l m = refl
 read-parts AddressKind.Ssi l m = refl
 read-parts AddressKind.Gssi l m = refl
@@ -263,11 +264,11 @@ read-parts AddressKind.Issi l m = refl
 read-parts AddressKind.Ussi l m = refl
 read-parts AddressKind.Smi l m = refl
 
-as-read-legal : (h : MacResource) → legalLone (asRead h) ≡ legalLone h
-unfolding legalLone legalFields withinWidths legalParts allAbsent asRead
+as-read-legal : (h : MacResource) → legalToWrite (asRead h) ≡ legalToWrite h
+unfolding legalToWrite legalFields withinWidths legalParts allAbsent asRead
 as-read-legal h = rw (read-address (h .«address_kind»), read-parts (h .«address_kind») (h .«event_label») (h .«usage_marker»))
 
--- what the lone writer takes, the reader takes
-pub taken-on-air : (h : MacResource) → legalLone h ≡ true → loneTakes (onAir h) ≡ true
-unfolding loneTakes
-taken-on-air h e = ap legalLone (offered-again h e) ∙ as-read-legal h ∙ e
+-- what the header writer takes, the reader takes
+pub taken-on-air : (h : MacResource) → legalToWrite h ≡ true → writerTakes (onAir h) ≡ true
+unfolding writerTakes
+taken-on-air h e = ap legalToWrite (offered-again h e) ∙ as-read-legal h ∙ e

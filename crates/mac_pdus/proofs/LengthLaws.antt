@@ -11,7 +11,8 @@ use Rattle.mac_pdus.specs.declared.OptChanAlloc.{OptChanAlloc}
 use Rattle.mac_pdus.specs.declared.ResourceHeader.{ResourceHeader}
 use Rattle.mac_pdus.specs.declared.Address.{Address}
 use Rattle.mac_pdus.specs.declared.Address.the-variants.{Null, Ssi, EventLabel, Ussi, Smi, SsiEventLabel, SsiUsageMarker, SmiEventLabel}
-use Rattle.mac_pdus.specs.Headers.{ifZero, addressType, optBits, addressBits, frame18Bits, chanAllocBits, optChanAllocBits, elementsBits, fixedBits, resourceBits, optLength, addressLength, chanAllocLength, optChanAllocLength, headerLength}
+use Rattle.mac_pdus.specs.Headers.{ifZero, addressType, optBits, addressBits, frame18Bits, chanAllocBits, optChanAllocBits, elementsBits, fixedBits}
+use Rattle.mac_pdus.specs.Headers.{resourceBits, optLength, addressLength, chanAllocLength, optChanAllocLength, headerLength}
 
 pub if-not-zero {ℓ} : {X : Type ℓ} (n : ℕ) (x y : X) → (n ≡ 0 → ⊥) → ifZero n x y ≡ y
 if-not-zero zero x y h = absurd (h refl)

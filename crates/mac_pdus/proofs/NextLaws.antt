@@ -12,8 +12,10 @@ use Rattle.mac_pdus.specs.declared.ChanAllocRead.{ChanAllocRead}
 use Rattle.mac_pdus.specs.declared.OptChanAlloc.{OptChanAlloc}
 use Rattle.mac_pdus.specs.declared.OptChanAllocRead.{OptChanAllocRead}
 use Rattle.mac_pdus.specs.declared.ElementsRead.{ElementsRead}
-use Rattle.mac_pdus.specs.Headers.{ifZero, addressType, optAt, addressOf, addressAt, chanAllocAt, optChanAllocAt, elementsAt, optLength, addressLength, chanAllocLength, optChanAllocLength, headerLength}
-use Rattle.mac_pdus.proofs.ReadLaws.{optRead, addressRead, chanAllocRead, optChanAllocRead, elementsRead, chan-alloc-run, elements-then, resourceParts, resourceNext}
+use Rattle.mac_pdus.specs.Headers.{ifZero, addressType, optAt, addressOf, addressAt, chanAllocAt, optChanAllocAt, elementsAt, optLength, addressLength}
+use Rattle.mac_pdus.specs.Headers.{chanAllocLength, optChanAllocLength, headerLength}
+use Rattle.mac_pdus.proofs.ReadLaws.{optRead, addressRead, chanAllocRead, optChanAllocRead, elementsRead, chan-alloc-run, elements-then, resourceParts}
+use Rattle.mac_pdus.proofs.ReadLaws.{resourceNext}
 
 module _ (l : List ℕ) where
   opt-next : (w at : ℕ) → optRead w l at .next ≡ at + optLength w (optRead w l at .m)

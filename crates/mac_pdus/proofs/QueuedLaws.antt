@@ -1,4 +1,4 @@
--- A queued header, given its fill bit and its length, is one that the lone writer takes; it has 43 to 88 bits. Assumes nothing.
+-- A queued header, given its fill bit and its length, is one that the header writer takes; it has 43 to 88 bits. Assumes nothing.
 use mathlib.Core.Path.{_≡_, refl}
 use mathlib.Core.Bool.{Bool, true, false, _||_}
 use Prim.Native.Nat.{ℕ, _<_, _≤_}
@@ -8,9 +8,9 @@ use Rattle.optional.specs.declared.OptU8.{OptU8}
 use Rattle.optional.specs.declared.OptU16.{OptU16}
 use Rattle.mac_pdus.specs.declared.AddressKind.{AddressKind}
 use Rattle.mac_pdus.specs.declared.MacResource.{MacResource}
-use Rattle.mac_pdus.specs.declared.Address.{Address}
 use Rattle.mac_pdus.specs.Headers.{headerLength}
-use Rattle.mac_pdus.specs.Legal.{fits, absentU8, absentU16, optFits, labelFits, hasAddress, withinWidths, legalParts, legalFields, loneParts, legalLone, queuedKind, legalQueued, withLength, addressOnAir, onAir}
+use Rattle.mac_pdus.specs.Legal.{fits, absentU8, absentU16, optFits, labelFits, hasAddress, withinWidths, legalParts, legalFields, partsToWrite}
+use Rattle.mac_pdus.specs.Legal.{legalToWrite, queuedKind, legalQueued, withLength, addressOnAir, onAir}
 use Rattle.mac_pdus.proofs.Conjunctions.{false-not-true, and3, and10}
 use Rattle.mac_pdus.proofs.LengthLaws.{Queued, ssi, marked, queued-length}
 use Rattle.mac_pdus.proofs.LegalLaws.{fields, parts}
@@ -34,7 +34,7 @@ queued-address AddressKind.Issi h = refl
 queued-address AddressKind.Ussi h = refl
 queued-address AddressKind.Smi h = refl
 
-queued-parts : (k : AddressKind) (l : OptU16) (m : OptU8) → queuedKind k ≡ true → loneParts k l m ≡ true
+queued-parts : (k : AddressKind) (l : OptU16) (m : OptU8) → queuedKind k ≡ true → partsToWrite k l m ≡ true
 queued-parts AddressKind.Absent l m h = refl
 queued-parts AddressKind.Ssi l m h = refl
 queued-parts AddressKind.Gssi l m h = refl
@@ -64,9 +64,9 @@ parts-kept h f n a l e =
     rw (a, q, or-absent (absentU8 (h .«usage_marker»)) (absentU16 (h .«event_label»)) l)
 
 -- what the builder writes for a queued header is legal
-pub queued-lone : (h : MacResource) (f n : ℕ) → legalQueued h ≡ true → f < 2 → 0 < n → n < 64 → legalLone (withLength h f n) ≡ true
-unfolding legalLone legalFields
-queued-lone h f n e hf h0 hn =
+pub queued-to-write : (h : MacResource) (f n : ℕ) → legalQueued h ≡ true → f < 2 → 0 < n → n < 64 → legalToWrite (withLength h f n) ≡ true
+unfolding legalToWrite legalFields
+queued-to-write h f n e hf h0 hn =
     let q = queued h e in
     let s = fields h (q .fields) in
     let a = queued-address (h .«address_kind») (q .kind) in

@@ -12,7 +12,8 @@ use Rattle.mac_pdus.specs.declared.Address.the-variants.{Null, Ssi, Even
 use Rattle.mac_pdus.specs.declared.ChanAllocElement.{ChanAllocElement}
 use Rattle.mac_pdus.specs.declared.OptChanAlloc.{OptChanAlloc}
 use Rattle.mac_pdus.specs.declared.ResourceHeader.{ResourceHeader}
-use Rattle.mac_pdus.specs.Headers.{addressType, elementsBits, elementsAt, frame18At, frame18Bits, optBits, optAt, addressBits, addressAt, chanAllocBits, chanAllocAt, optChanAllocBits, optChanAllocAt, fixedBits, resourceBits, resourceAt, headerLength}
+use Rattle.mac_pdus.specs.Headers.{addressType, elementsBits, elementsAt, frame18At, frame18Bits, optBits, optAt, addressBits, addressAt, chanAllocBits}
+use Rattle.mac_pdus.specs.Headers.{chanAllocAt, optChanAllocBits, optChanAllocAt, fixedBits, resourceBits, resourceAt, headerLength}
 use Rattle.mac_pdus.proofs.ReadLaws.{resourceParts, resource-parts}
 use Rattle.mac_pdus.proofs.NextLaws.{resource-next}
 use Rattle.mac_pdus.specs.Within.{Frame18Within, NullWithin, OptWithin, AddressWithin, ChanAllocWithin, OptChanAllocWithin, ResourceWithin}
@@ -107,10 +108,6 @@ resource-back r h l at rest k P e go =
     address-back (r .address) (h .address) l a₆ _ _ P e₆ λ a₇ e₇.
     elements-back (addressType (r .address)) (r .«power_control_element») (r .«slot_granting_element») (r .«chan_alloc_element»)
     (h .«power_control_element») (h .«slot_granting_element») (h .«chan_alloc_element») (h .null) l a₇ _ _ P e₇ go
-
--- the header at the front of a run, with what follows left for the next reader
-pub read-back : (r : ResourceHeader) (rest : List ℕ) → ResourceWithin r → resourceAt (resourceBits r ++ rest) 0 (λ h at. h) ≡ r
-read-back r rest h = resource-back r h (resourceBits r ++ rest) 0 rest (λ h at. h) (λ x. x ≡ r) refl (λ a e. refl)
 
 -- the header that was written into a run, and the position after it
 parts-back : (l : List ℕ) (at : ℕ) (r : ResourceHeader) → ResourceWithin r → at + length (resourceBits r) ≤ length l

@@ -94,17 +94,17 @@ unfoldable pub legalFields : MacResource → Bool
 legalFields h = withinWidths h && legalOptChanAlloc (h .«chan_alloc_element») && legalParts h
 
 -- "also takes USSI, without label or marker, and SMI, without marker"
-abbrev pub loneParts : AddressKind → OptU16 → OptU8 → Bool
-loneParts AddressKind.Absent label marker = true
-loneParts AddressKind.Ssi label marker = true
-loneParts AddressKind.Gssi label marker = true
-loneParts AddressKind.Issi label marker = true
-loneParts AddressKind.Ussi label marker = absentU16 label && absentU8 marker
-loneParts AddressKind.Smi label marker = absentU8 marker
+abbrev pub partsToWrite : AddressKind → OptU16 → OptU8 → Bool
+partsToWrite AddressKind.Absent label marker = true
+partsToWrite AddressKind.Ssi label marker = true
+partsToWrite AddressKind.Gssi label marker = true
+partsToWrite AddressKind.Issi label marker = true
+partsToWrite AddressKind.Ussi label marker = absentU16 label && absentU8 marker
+partsToWrite AddressKind.Smi label marker = absentU8 marker
 
 -- "The lone writer wants a length above 0, and also takes USSI, .. and SMI"
-unfoldable pub legalLone : MacResource → Bool
-legalLone h = legalFields h && ltb 0 (h .«length_ind») && loneParts (h .«address_kind») (h .«event_label») (h .«usage_marker»)
+unfoldable pub legalToWrite : MacResource → Bool
+legalToWrite h = legalFields h && ltb 0 (h .«length_ind») && partsToWrite (h .«address_kind») (h .«event_label») (h .«usage_marker»)
 
 -- "address kind (0 SSI, 1 GSSI, 2 ISSI)"
 abbrev pub queuedKind : AddressKind → Bool
@@ -212,15 +212,15 @@ labelOf (Address.SsiEventLabel n e) = OptU16.Of e
 labelOf (Address.SsiUsageMarker n m) = OptU16.Absent
 labelOf (Address.SmiEventLabel n e) = OptU16.Of e
 
-abbrev pub markerOf : Address → OptU8
-markerOf Address.Null = OptU8.Absent
-markerOf (Address.Ssi n) = OptU8.Absent
-markerOf (Address.EventLabel e) = OptU8.Absent
-markerOf (Address.Ussi n) = OptU8.Absent
-markerOf (Address.Smi n) = OptU8.Absent
-markerOf (Address.SsiEventLabel n e) = OptU8.Absent
-markerOf (Address.SsiUsageMarker n m) = OptU8.Of m
-markerOf (Address.SmiEventLabel n e) = OptU8.Absent
+abbrev pub usageMarkerOf : Address → OptU8
+usageMarkerOf Address.Null = OptU8.Absent
+usageMarkerOf (Address.Ssi n) = OptU8.Absent
+usageMarkerOf (Address.EventLabel e) = OptU8.Absent
+usageMarkerOf (Address.Ussi n) = OptU8.Absent
+usageMarkerOf (Address.Smi n) = OptU8.Absent
+usageMarkerOf (Address.SsiEventLabel n e) = OptU8.Absent
+usageMarkerOf (Address.SsiUsageMarker n m) = OptU8.Of m
+usageMarkerOf (Address.SmiEventLabel n e) = OptU8.Absent
 
 -- a header of the air as a caller offers it
 unfoldable pub offered : ResourceHeader → MacResource
@@ -234,7 +234,7 @@ offered r =
       «address_kind» = kindOf (r .address);
       number = numberOf (r .address);
       «event_label» = labelOf (r .address);
-      «usage_marker» = markerOf (r .address);
+      «usage_marker» = usageMarkerOf (r .address);
       «power_control_element» = r .«power_control_element»;
       «slot_granting_element» = r .«slot_granting_element»;
       «chan_alloc_element» = r .«chan_alloc_element»;
@@ -267,5 +267,5 @@ asRead h =
     }
 
 -- "a header the lone writer would take" (question 12)
-unfoldable pub loneTakes : ResourceHeader → Bool
-loneTakes r = legalLone (offered r)
+unfoldable pub writerTakes : ResourceHeader → Bool
+writerTakes r = legalToWrite (offered r)

@@ -1,9 +1,9 @@
 -- Document 01's example block and the null PDU, read by the definition. Assumes nothing.
 use mathlib.Core.Path.{_≡_, refl}
-use mathlib.Core.List.{List, [], _∷_, _++_}
+use mathlib.Core.List.{List, [], _∷_}
 use Prim.Native.Nat.{ℕ}
 use lib.ListN.{replicate}
-use Rattle.questions.specs.declared.Refusal.{Refusal}
+use Rattle.sizes.specs.Sizes.{blockOctets}
 use Rattle.questions.specs.Questions.{ask}
 use Rattle.bitbuffer.specs.Bits.{valueBits, bitsValue, bitsOf, part, field}
 use Rattle.optional.specs.declared.OptU8.{OptU8}
@@ -12,8 +12,8 @@ use Rattle.mac_pdus.specs.declared.OptChanAlloc.{OptChanAlloc}
 use Rattle.mac_pdus.specs.declared.ResourceHeader.{ResourceHeader}
 use Rattle.mac_pdus.specs.declared.PduHeader.{PduHeader}
 use Rattle.mac_pdus.specs.Headers.{addressType, optAt, addressAt, optChanAllocAt, elementsAt, resourceAt, nullHeader}
-use Rattle.mac_pdus.specs.Legal.{withinWidths, allAbsent, legalParts, legalFields, legalLone, offered, loneTakes}
-use Rattle.mac_reader.specs.Reader.{octetsInside, wellPlaced, resourceStep, fragmentAt, pduAt, headers, readPdus, blockPdus, noHeaders, replyOf, readBlock}
+use Rattle.mac_pdus.specs.Legal.{withinWidths, allAbsent, legalParts, legalFields, legalToWrite, offered, writerTakes}
+use Rattle.mac_reader.specs.Reader.{octetsInside, wellPlaced, resourceStep, fragmentAt, pduAt, headers, readPdus, blockPdus, replyOf, readBlock}
 
 -- "20390000014410001000..": the example's block
 pub example-block : List ℕ
@@ -35,16 +35,14 @@ granted =
     }
 
 -- and the null behind it
-pub example-read : readBlock 34 example-block ≡ replyOf (headers (record { at = 0; header = PduHeader.Resource granted } ∷ (record { at = 56; header = PduHeader.Resource nullHeader } ∷ [])))
-unfolding readBlock ask blockPdus readPdus pduAt resourceStep wellPlaced octetsInside fragmentAt resourceAt addressAt optAt optChanAllocAt elementsAt addressType loneTakes offered legalLone legalFields withinWidths legalParts allAbsent field part bitsValue bitsOf valueBits example-block granted
+pub example-read : readBlock blockOctets example-block
+    ≡ replyOf (headers (record { at = 0; header = PduHeader.Resource granted } ∷ (record { at = 56; header = PduHeader.Resource nullHeader } ∷ [])))
+unfolding readBlock ask blockPdus readPdus pduAt resourceStep wellPlaced octetsInside fragmentAt resourceAt addressAt optAt optChanAllocAt elementsAt
+    addressType writerTakes offered legalToWrite legalFields withinWidths legalParts allAbsent field part bitsValue bitsOf valueBits example-block granted
 example-read = refl
 
 -- the null PDU published in the source, in a block of 124 bits; what stands behind it is not read
 pub published-null : readBlock 16 (0 ∷ 0x10 ∷ 0x80 ∷ replicate 13 0) ≡ replyOf (headers (record { at = 0; header = PduHeader.Resource nullHeader } ∷ []))
-unfolding readBlock ask blockPdus readPdus pduAt resourceStep wellPlaced octetsInside fragmentAt resourceAt addressAt optAt optChanAllocAt elementsAt addressType loneTakes offered legalLone legalFields withinWidths legalParts allAbsent field part bitsValue bitsOf valueBits
+unfolding readBlock ask blockPdus readPdus pduAt resourceStep wellPlaced octetsInside fragmentAt resourceAt addressAt optAt optChanAllocAt elementsAt
+    addressType writerTakes offered legalToWrite legalFields withinWidths legalParts allAbsent field part bitsValue bitsOf valueBits
 published-null = refl
-
--- a bit that has to be zero
-pub last-bits : readBlock 34 (replicate 33 0 ++ (1 ∷ [])) ≡ noHeaders Refusal.Malformed
-unfolding readBlock ask
-last-bits = refl

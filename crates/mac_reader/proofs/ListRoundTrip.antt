@@ -20,11 +20,13 @@ use Rattle.mac_reader.specs.declared.PduStep.the-variants.{Last, More}
 use Rattle.mac_pdus.specs.declared.MacFragDl.{MacFragDl}
 use Rattle.mac_pdus.specs.declared.MacEndDl.{MacEndDl}
 use Rattle.mac_pdus.specs.Within.{ResourceWithin, EndWithin}
-use Rattle.mac_pdus.specs.Legal.{withinWidths, allAbsent, legalParts, legalFields, legalLone, offered, loneTakes}
+use Rattle.mac_pdus.specs.Legal.{withinWidths, allAbsent, legalParts, legalFields, legalToWrite, offered, writerTakes}
 use Rattle.mac_pdus.proofs.LegalLaws.{taken-within}
-use Rattle.mac_reader.specs.Reader.{octetsInside, headerEnd, startsFragment, wellPlaced, resourceStep, endStep, endAt, fragmentAt, pduAt, headers, before, readPdus}
+use Rattle.mac_reader.specs.Reader.{octetsInside, headerEnd, startsFragment, wellPlaced, resourceStep, endStep, endAt, fragmentAt, pduAt, headers, before}
+use Rattle.mac_reader.specs.Reader.{readPdus}
 use Rattle.mac_reader.proofs.Steps.{at-end, last-read, more-read}
-use Rattle.mac_reader.specs.PduList.{Pdu, whole, first, frag, final, null, header, body, pduBits, blockBits, placed, WholeFits, FirstFits, FragFits, FinalFits, Fits}
+use Rattle.mac_reader.specs.PduList.{Pdu, whole, first, frag, final, null, header, body, pduBits, blockBits, placed, WholeFits, FirstFits, FragFits}
+use Rattle.mac_reader.specs.PduList.{FinalFits, Fits}
 
 -- ---- one PDU
 
@@ -111,8 +113,8 @@ first-step w at head size r h k =
           (r .«length_ind») 63 (h .code),
     )
 
-null-taken : loneTakes nullHeader ≡ true
-unfolding loneTakes offered legalLone legalFields withinWidths legalParts allAbsent
+null-taken : writerTakes nullHeader ≡ true
+unfolding writerTakes offered legalToWrite legalFields withinWidths legalParts allAbsent
 null-taken = refl
 
 null-inside : (w at : ℕ) → at + 16 ≤ w → at + 16 ≤ headerEnd w (at + 16)

@@ -9,6 +9,7 @@ use native.Mathlib.Omega.{arith}
 use lib.ListN.{length, getD, take, drop, set, replicate, length-append}
 use lib.Seq.{append-snoc, set-at, take-all, paste-suc}
 use lib.Dec.{ltb, leb, eqb}
+use Rattle.sizes.specs.Sizes.{blockWidth, blockOctets}
 use Rattle.questions.specs.declared.Refusal.{Refusal}
 use Rattle.bitbuffer.specs.Bits.{bitsValue, part, field}
 use Rattle.mac_pdus.specs.declared.ResourceHeader.{ResourceHeader}
@@ -20,9 +21,10 @@ use Rattle.mac_reader.specs.declared.PduStep.the-variants.{Malformed, La
 use Rattle.mac_reader.specs.declared.PlacedHeader.{PlacedHeader}
 use Rattle.mac_reader.specs.declared.BlockHeaders.{BlockHeaders}
 use Rattle.mac_pdus.specs.declared.MacEndDl.{MacEndDl}
-use Rattle.mac_pdus.specs.Legal.{loneTakes}
+use Rattle.mac_pdus.specs.Legal.{writerTakes}
 use Rattle.mac_pdus.proofs.Conjunctions.{and2, and3}
-use Rattle.mac_reader.specs.Reader.{octetsInside, headerEnd, startsFragment, stopsAfter, wellPlaced, resourceStep, endStep, endAt, fragmentAt, ofType, pduAt, Reading, refused, headers, before, onStep, readPdus, noHeader, noHeaders, replyOf}
+use Rattle.mac_reader.specs.Reader.{octetsInside, headerEnd, startsFragment, stopsAfter, wellPlaced, resourceStep, endStep, endAt, fragmentAt, ofType}
+use Rattle.mac_reader.specs.Reader.{pduAt, Listing, refused, headers, before, onStep, readPdus, noHeader, noHeaders, replyOf, mostPdus}
 use Rattle.mac_reader.specs.declared.ReadOutcome.{ReadOutcome}
 use Rattle.mac_reader.proofs.Steps.{at-end, last-read, more-read, refused-read, none-left, Octets, octets-true, or-false, neither}
 
@@ -31,7 +33,7 @@ use Rattle.mac_reader.proofs.Steps.{at-end, last-read, more-read, refus
 abbrev pub Onward : ℕ → ℕ → PduStep → Type 0
 Onward w at Malformed = Unit
 Onward w at (Last h) = Unit
-Onward w at (More h next) = (at + 16 ≤ next) × (next ≤ w)
+Onward w at (More h next) = (at + mostPdus ≤ next) × (next ≤ w)
 
 octets-on : (w at len : ℕ) (h : PduHeader) → Octets w at len → Onward w at (More h (at + 8 * len))
 octets-on w at len h o = (omega arith, omega arith)
@@ -51,7 +53,7 @@ resource-on w at r after = cond-on w at (wellPlaced w at r after) _ λ e. go (st
     go false q e =
         let inside = octetsInside w at (r .«length_ind») in
         let limit = leb after (headerEnd w (at + 8 * r .«length_ind»)) in
-        let p = and3 (loneTakes r) (leb after w) (startsFragment r || inside && limit) e in
+        let p = and3 (writerTakes r) (leb after w) (startsFragment r || inside && limit) e in
         let o = or-false (startsFragment r) (inside && limit) (neither (eqb (addressType (r .address)) 0) (eqb (r .«length_ind») 63) q) (p .2) in
         octets-on w at (r .«length_ind») (PduHeader.Resource r) (octets-true w at (r .«length_ind») (and2 inside limit o .0))
 
@@ -59,7 +61,8 @@ end-on : (w at : ℕ) (m : MacEndDl) (x y : ℕ) → Onward w at (endStep w at m
 unfolding endStep
 end-on w at m x y =
     cond-on w at (eqb x 0 && eqb y 0 && octetsInside w at (m .«length_ind»)) _ λ e.
-    octets-on w at (m .«length_ind») (PduHeader.End m) (octets-true w at (m .«length_ind») (and3 (eqb x 0) (eqb y 0) (octetsInside w at (m .«length_ind»)) e .2))
+    octets-on w at (m .«length_ind») (PduHeader.End m) (octets-true w at (m .«length_ind»)
+    (and3 (eqb x 0) (eqb y 0) (octetsInside w at (m .«length_ind»)) e .2))
 
 fragment-on : (w : ℕ) (l : List ℕ) (start at : ℕ) → Onward w start (fragmentAt w l start at)
 unfolding fragmentAt endAt field
@@ -71,7 +74,8 @@ fragment-on w l start at = go (bitsValue (part l at 1))
 
 type-on : (t w : ℕ) (l : List ℕ) (start at : ℕ) → Onward w start (ofType t w l start at)
 type-on zero w l start at =
-    subst (Onward w start) (resource-parts l start (λ r after. resourceStep w start r after)) (resource-on w start (resourceParts l start) (resourceNext l start))
+    subst (Onward w start) (resource-parts l start (λ r after. resourceStep w start r after))
+    (resource-on w start (resourceParts l start) (resourceNext l start))
 type-on (suc zero) w l start at = fragment-on w l start at
 type-on (suc (suc t)) w l start at = tt
 
@@ -84,70 +88,73 @@ more-on w l at next h e = subst (Onward w at) e (pdu-on w l at) .1
 
 -- ---- the loop that reads
 
-abbrev pub joined : List PlacedHeader → Reading → Reading
-joined ds refused = refused
-joined ds (headers ps) = headers (ds ++ ps)
+abbrev pub listedAfter : List PlacedHeader → Listing → Listing
+listedAfter ds refused = refused
+listedAfter ds (headers ps) = headers (ds ++ ps)
 
 -- what is read when `n` PDUs are: those in the array's front, and what is left to read from `at` on gives the whole
 pub record Got (w : ℕ) (l : List ℕ) (pdus : List PlacedHeader) (n at : ℕ) : Type 0 where
   pub ds : List PlacedHeader
   pub size : length ds ≡ n
-  pub holds : pdus ≡ ds ++ replicate (16 - n) noHeader
-  pub few : n ≤ 16
+  pub holds : pdus ≡ ds ++ replicate (mostPdus - n) noHeader
+  pub few : n ≤ mostPdus
   pub inside : at ≤ w
-  pub left : readPdus 16 w l 0 ≡ joined ds (readPdus (16 - n) w l at)
+  pub left : readPdus mostPdus w l 0 ≡ listedAfter ds (readPdus (mostPdus - n) w l at)
 
-joined-nil : (r : Reading) → r ≡ joined [] r
-joined-nil refused = refl
-joined-nil (headers ps) = refl
+listed-after-none : (r : Listing) → r ≡ listedAfter [] r
+listed-after-none refused = refl
+listed-after-none (headers ps) = refl
 
-joined-snoc : (ds : List PlacedHeader) (p : PlacedHeader) (r : Reading) → joined ds (before p r) ≡ joined (ds ++ (p ∷ [])) r
-joined-snoc ds p refused = refl
-joined-snoc ds p (headers ps) = ap headers (sym (append-snoc ds p ps))
+listed-after-one : (ds : List PlacedHeader) (p : PlacedHeader) (r : Listing) → listedAfter ds (before p r) ≡ listedAfter (ds ++ (p ∷ [])) r
+listed-after-one ds p refused = refl
+listed-after-one ds p (headers ps) = ap headers (sym (append-snoc ds p ps))
 
-pub got-start : (w : ℕ) (l : List ℕ) → Got w l (replicate 16 noHeader) 0 0
-got-start w l = record { ds = []; size = refl; holds = refl; few = omega arith; inside = omega arith; left = joined-nil (readPdus 16 w l 0) }
+pub got-start : (w : ℕ) (l : List ℕ) → Got w l (replicate mostPdus noHeader) 0 0
+got-start w l = record { ds = []; size = refl; holds = refl; few = omega arith; inside = omega arith; left = listed-after-none (readPdus mostPdus w l 0) }
 
 -- the reply, once all is read
-reply : (ds pdus : List PlacedHeader) (n : ℕ) → length ds ≡ n → pdus ≡ ds ++ replicate (16 - n) noHeader → _≡_ {A = BlockHeaders} (record { outcome = ReadOutcome.Listed; count = n; headers = pdus }) (replyOf (headers ds))
+reply : (ds pdus : List PlacedHeader) (n : ℕ) → length ds ≡ n → pdus ≡ ds ++ replicate (mostPdus - n) noHeader
+    → _≡_ {A = BlockHeaders} (record { outcome = ReadOutcome.Listed; count = n; headers = pdus }) (replyOf (headers ds))
 reply ds pdus n s h = rw (h, ← s)
 
 module _ (w : ℕ) (l : List ℕ) (pdus : List PlacedHeader) (n at : ℕ) (g : Got w l pdus n at) where
-  less : n < 16 → 16 - n ≡ suc (16 - (n + 1))
+  less : n < mostPdus → mostPdus - n ≡ suc (mostPdus - (n + 1))
   less h = omega arith
 
-  pub got-end : w < at + 16 → _≡_ {A = BlockHeaders} (record { outcome = ReadOutcome.Listed; count = n; headers = pdus }) (replyOf (readPdus 16 w l 0))
+  pub got-end : w < at + 16 → _≡_ {A = BlockHeaders} (record { outcome = ReadOutcome.Listed; count = n; headers = pdus }) (replyOf (readPdus mostPdus w l 0))
   got-end h =
       reply (g .ds) pdus n (g .size) (g .holds)
-      ∙ ap replyOf (ap headers (sym (append-nil (g .ds))) ∙ ap (joined (g .ds)) (sym (at-end (16 - n) w l at h)) ∙ sym (g .left))
+      ∙ ap replyOf (ap headers (sym (append-nil (g .ds))) ∙ ap (listedAfter (g .ds)) (sym (at-end (mostPdus - n) w l at h)) ∙ sym (g .left))
 
-  pub got-full : 16 ≤ n → _≡_ {A = BlockHeaders} (record { outcome = ReadOutcome.Listed; count = n; headers = pdus }) (replyOf (readPdus 16 w l 0))
+  pub got-full : mostPdus ≤ n → _≡_ {A = BlockHeaders} (record { outcome = ReadOutcome.Listed; count = n; headers = pdus }) (replyOf (readPdus mostPdus w l 0))
   got-full h =
       reply (g .ds) pdus n (g .size) (g .holds)
-      ∙ ap replyOf (ap headers (sym (append-nil (g .ds))) ∙ ap (joined (g .ds)) (sym (none-left (16 - n) w l at (omega arith))) ∙ sym (g .left))
+      ∙ ap replyOf (ap headers (sym (append-nil (g .ds))) ∙ ap (listedAfter (g .ds)) (sym (none-left (mostPdus - n) w l at (omega arith))) ∙ sym (g .left))
 
-  pub got-refused : n < 16 → at + 16 ≤ w → pduAt w l at ≡ Malformed → noHeaders Refusal.Malformed ≡ replyOf (readPdus 16 w l 0)
+  pub got-refused : n < mostPdus → at + 16 ≤ w → pduAt w l at ≡ Malformed → noHeaders Refusal.Malformed ≡ replyOf (readPdus mostPdus w l 0)
   got-refused k h e =
-      ap replyOf (ap (joined (g .ds)) (sym (ap (λ (m : ℕ). readPdus m w l at) (less k) ∙ refused-read (16 - (n + 1)) w l at h e)) ∙ sym (g .left))
+      ap replyOf (ap (listedAfter (g .ds)) (sym (ap (λ (m : ℕ). readPdus m w l at) (less k) ∙ refused-read (mostPdus - (n + 1)) w l at h e)) ∙ sym (g .left))
 
   -- the array, with one more
-  stored : n < 16 → (p : PlacedHeader) → set pdus n p ≡ (g .ds ++ (p ∷ [])) ++ replicate (16 - (n + 1)) noHeader
+  stored : n < mostPdus → (p : PlacedHeader) → set pdus n p ≡ (g .ds ++ (p ∷ [])) ++ replicate (mostPdus - (n + 1)) noHeader
   stored k p =
       ap (λ (x : List PlacedHeader). set x n p) (g .holds ∙ ap (λ (m : ℕ). g .ds ++ replicate m noHeader) (less k))
-      ∙ set-at (g .ds) noHeader (replicate (16 - (n + 1)) noHeader) p n (g .size)
-      ∙ sym (append-snoc (g .ds) p (replicate (16 - (n + 1)) noHeader))
+      ∙ set-at (g .ds) noHeader (replicate (mostPdus - (n + 1)) noHeader) p n (g .size)
+      ∙ sym (append-snoc (g .ds) p (replicate (mostPdus - (n + 1)) noHeader))
 
   counted : (p : PlacedHeader) → length (g .ds ++ (p ∷ [])) ≡ n + 1
   counted p = length-append (g .ds) (p ∷ []) ∙ ap (λ (m : ℕ). m + 1) (g .size)
 
-  pub got-last : (h : PduHeader) → n < 16 → at + 16 ≤ w → pduAt w l at ≡ Last h
-      → _≡_ {A = BlockHeaders} (record { outcome = ReadOutcome.Listed; count = n + 1; headers = set pdus n (record { at = at; header = h }) }) (replyOf (readPdus 16 w l 0))
+  pub got-last : (h : PduHeader) → n < mostPdus → at + 16 ≤ w → pduAt w l at ≡ Last h
+      → _≡_ {A = BlockHeaders} (record { outcome = ReadOutcome.Listed; count = n + 1; headers = set pdus n (record { at = at; header = h }) })
+      (replyOf (readPdus mostPdus w l 0))
   got-last h k i e =
       let p : PlacedHeader = record { at = at; header = h } in
       reply (g .ds ++ (p ∷ [])) (set pdus n p) (n + 1) (counted p) (stored k p)
-      ∙ ap replyOf (ap (joined (g .ds)) (sym (ap (λ (m : ℕ). readPdus m w l at) (less k) ∙ last-read (16 - (n + 1)) w l at h i e)) ∙ sym (g .left))
+      ∙ ap replyOf (ap (listedAfter (g .ds)) (sym (ap (λ (m : ℕ). readPdus m w l at) (less k) ∙ last-read (mostPdus - (n + 1)) w l at h i e)) ∙ sym (g .left))
 
-  pub got-more : (h : PduHeader) (next : ℕ) → n < 16 → at + 16 ≤ w → pduAt w l at ≡ More h next → Got w l (set pdus n (record { at = at; header = h })) (n + 1) next
+  pub got-more : (h : PduHeader) (next : ℕ) → n < mostPdus → at + 16 ≤ w → pduAt w l at ≡ More h next
+      → Got w l (set pdus n (record { at = at; header = h })) (n + 1) next
   got-more h next k i e =
       let p : PlacedHeader = record { at = at; header = h } in
       record {
@@ -157,8 +164,8 @@ module _ (w : ℕ) (l : List ℕ) (pdus : List PlacedHeader) (n at : ℕ) (g : G
         few = omega arith;
         inside = more-on w l at next h e;
         left =
-            g .left ∙ ap (joined (g .ds)) (ap (λ (m : ℕ). readPdus m w l at) (less k) ∙ more-read (16 - (n + 1)) w l at next h i e)
-            ∙ joined-snoc (g .ds) p (readPdus (16 - (n + 1)) w l next);
+            g .left ∙ ap (listedAfter (g .ds)) (ap (λ (m : ℕ). readPdus m w l at) (less k) ∙ more-read (mostPdus - (n + 1)) w l at next h i e)
+            ∙ listed-after-one (g .ds) p (readPdus (mostPdus - (n + 1)) w l next);
       }
 
 -- ---- the copy
@@ -166,14 +173,15 @@ module _ (w : ℕ) (l : List ℕ) (pdus : List PlacedHeader) (n at : ℕ) (g : G
 pub copy-more : (s d : List ℕ) (i : ℕ) → i < length s → i < length d → set (take i s ++ drop i d) i (getD s i 0) ≡ take (i + 1) s ++ drop (i + 1) d
 copy-more s d i hs hd = rw add-one (simp zero-add at (paste-suc d 0 s i 0 (rw zero-add hd) hs))
 
-pub copied : (s pad : List ℕ) (i : ℕ) → length s ≡ 34 → i ≤ 34 → 34 ≤ i → pad ≡ take i s ++ drop i (replicate 48 0) → pad ≡ s ++ replicate 14 0
+pub copied : (s pad : List ℕ) (i : ℕ) → length s ≡ blockOctets → i ≤ blockOctets → blockOctets ≤ i → pad ≡ take i s ++ drop i (replicate (blockOctets + 14) 0)
+    → pad ≡ s ++ replicate 14 0
 copied s pad i n a b e =
-    let q : i ≡ 34 = omega arith in
-    e ∙ ap (λ (k : ℕ). take k s ++ drop k (replicate 48 0)) q ∙ ap (λ (r : List ℕ). r ++ replicate 14 0) (take-all 34 s (omega arith))
+    let q : i ≡ blockOctets = omega arith in
+    e ∙ ap (λ (k : ℕ). take k s ++ drop k (replicate (blockOctets + 14) 0)) q ∙ ap (λ (r : List ℕ). r ++ replicate 14 0) (take-all blockOctets s (omega arith))
 
 -- ---- sixteen are enough: each PDU that is not the last takes 16 bits or more
 
-same-step : (s : PduStep) (w at : ℕ) (j k : ℕ → Reading) → Onward w at s → ((next : ℕ) → at + 16 ≤ next → j next ≡ k next) → onStep s at j ≡ onStep s at k
+same-step : (s : PduStep) (w at : ℕ) (j k : ℕ → Listing) → Onward w at s → ((next : ℕ) → at + mostPdus ≤ next → j next ≡ k next) → onStep s at j ≡ onStep s at k
 same-step Malformed w at j k o h = refl
 same-step (Last x) w at j k o h = refl
 same-step (More x next) w at j k o h = ap (before (record { at = at; header = x })) (h next (o .0))
@@ -183,9 +191,10 @@ unfolding readPdus
 enough zero m w l at h = rw zero-add (sym (at-end m w l at (omega arith)))
 enough (suc n) m w l at h =
     rw suc-add
-    (ap (λ (x : Reading). cond (ltb w (at + 16)) (headers []) x)
-    (same-step (pduAt w l at) w at (λ next. readPdus n w l next) (λ next. readPdus (n + m) w l next) (pdu-on w l at) (λ next k. enough n m w l next (omega arith))))
+    (ap (λ (x : Listing). cond (ltb w (at + 16)) (headers []) x)
+    (same-step (pduAt w l at) w at (λ next. readPdus n w l next) (λ next. readPdus (n + m) w l next) (pdu-on w l at)
+    (λ next k. enough n m w l next (omega arith))))
 
--- so the reader's list of 16 cuts nothing off
-pub sixteen : (m : ℕ) (l : List ℕ) → readPdus 16 268 l 0 ≡ readPdus (16 + m) 268 l 0
-sixteen m l = enough 16 m 268 l 0 (omega arith)
+-- so the reader's list cuts nothing off
+pub sixteen : (m : ℕ) (l : List ℕ) → readPdus mostPdus blockWidth l 0 ≡ readPdus (mostPdus + m) blockWidth l 0
+sixteen m l = enough mostPdus m blockWidth l 0 (omega arith)

@@ -8,10 +8,11 @@ use lib.Dec.{eqb}
 use Rattle.questions.specs.declared.Refusal.{Refusal}
 use Rattle.questions.specs.Questions.{ask, askedNumber, refusalNumber}
 use Rattle.mac_reader.specs.declared.BlockHeaders.{BlockHeaders}
-use Rattle.mac_reader.specs.Reader.{Reading, refused, headers, blockPdus, outcomeNumber, noHeaders, replyOf, lastFourZero, isList, readQuestions, readBlock, ReadAs}
+use Rattle.mac_reader.specs.Reader.{Listing, refused, headers, blockPdus, outcomeNumber, noHeaders, replyOf, lastFourZero, isList, readQuestions}
+use Rattle.mac_reader.specs.Reader.{readBlock, ReadAs}
 
 -- a block whose PDUs are not a list is refused, whoever asks for that
-pub listed-or-not : (r : Reading) → replyOf r ≡ cond (isList r) (replyOf r) (noHeaders Refusal.Malformed)
+pub listed-or-not : (r : Listing) → replyOf r ≡ cond (isList r) (replyOf r) (noHeaders Refusal.Malformed)
 listed-or-not refused = refl
 listed-or-not (headers ps) = refl
 
@@ -19,7 +20,7 @@ block-number : (o : ℕ) (s : List ℕ) → outcomeNumber (readBlock o s .outcom
 unfolding readBlock ask
 block-number o s = go (eqb (length s) o) (lastFourZero o s) (blockPdus o s)
   where
-    go : (a b : Bool) (r : Reading)
+    go : (a b : Bool) (r : Listing)
         → outcomeNumber (cond a (cond (b && isList r) (replyOf r) (noHeaders Refusal.Malformed)) (noHeaders Refusal.Lengths) .outcome)
         ≡ cond a (cond (b && isList r) 0 (refusalNumber Refusal.Malformed)) (refusalNumber Refusal.Lengths)
     go true true refused = refl

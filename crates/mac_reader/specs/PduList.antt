@@ -10,7 +10,7 @@ use Rattle.mac_pdus.specs.declared.MacFragDl.{MacFragDl}
 use Rattle.mac_pdus.specs.declared.MacEndDl.{MacEndDl}
 use Rattle.mac_pdus.specs.declared.PduHeader.{PduHeader}
 use Rattle.mac_pdus.specs.Headers.{addressType, headerBits, nullHeader}
-use Rattle.mac_pdus.specs.Legal.{loneTakes}
+use Rattle.mac_pdus.specs.Legal.{writerTakes}
 use Rattle.mac_reader.specs.declared.PlacedHeader.{PlacedHeader}
 
 -- a PDU: its header, and the bits behind it, SDU and fill
@@ -49,7 +49,7 @@ placed at (p ∷ ps) = record { at = at; header = header p } ∷ placed (at + le
 
 -- a legal MAC-RESOURCE with an address or a label
 pub record Addressed (r : ResourceHeader) : Type 0 where
-  pub taken : loneTakes r ≡ true
+  pub taken : writerTakes r ≡ true
   pub address : 0 < addressType (r .address)
 
 -- "Whole PDU: filled .. to the octet, or to the block's end if that is nearer. Length code: whole octets, rounded down."

@@ -12,7 +12,7 @@ use Rattle.mac_pdus.specs.declared.ResourceHeader.{ResourceHeader}
 use Rattle.mac_pdus.specs.declared.MacEndDl.{MacEndDl}
 use Rattle.mac_pdus.specs.declared.PduHeader.{PduHeader}
 use Rattle.mac_pdus.specs.Headers.{ifZero, addressType, resourceAt}
-use Rattle.mac_pdus.specs.Legal.{loneTakes}
+use Rattle.mac_pdus.specs.Legal.{writerTakes}
 use Rattle.mac_reader.specs.declared.PduStep.{PduStep}
 use Rattle.mac_reader.specs.declared.PduStep.the-variants.{Malformed, Last, More}
 use Rattle.mac_reader.specs.declared.PlacedHeader.{PlacedHeader}
@@ -38,7 +38,7 @@ startsFragment r = not (eqb (addressType (r .address)) 0) && eqb (r .«length_in
 -- block, header inside its PDU but for those four bits"
 unfoldable pub wellPlaced : ℕ → ℕ → ResourceHeader → ℕ → Bool
 wellPlaced w at r after =
-    loneTakes r && leb after w
+    writerTakes r && leb after w
     && (startsFragment r || octetsInside w at (r .«length_ind») && leb after (headerEnd w (at + 8 * r .«length_ind»)))
 
 -- "stops after a null, a code 63 or a MAC-FRAG"
@@ -79,27 +79,31 @@ pduAt w l start = field l start 2 λ t at. ofType t w l start at
 
 -- ---- the list of headers
 
-pub data Reading : Type 0 where
-  refused : Reading
-  headers : List PlacedHeader → Reading
+pub data Listing : Type 0 where
+  refused : Listing
+  headers : List PlacedHeader → Listing
 
-abbrev pub before : PlacedHeader → Reading → Reading
+abbrev pub before : PlacedHeader → Listing → Listing
 before p refused = refused
 before p (headers ps) = headers (p ∷ ps)
 
-abbrev pub onStep : PduStep → ℕ → (ℕ → Reading) → Reading
+abbrev pub onStep : PduStep → ℕ → (ℕ → Listing) → Listing
 onStep Malformed at k = refused
 onStep (Last h) at k = headers (record { at = at; header = h } ∷ [])
 onStep (More h next) at k = before (record { at = at; header = h }) (k next)
 
 -- the PDUs from `at` on, at most `n`; "stops .. under 16 bits left"
-unfoldable pub readPdus : ℕ → ℕ → List ℕ → ℕ → Reading
+unfoldable pub readPdus : ℕ → ℕ → List ℕ → ℕ → Listing
 readPdus zero w l at = headers []
 readPdus (suc n) w l at = cond (ltb w (at + 16)) (headers []) (onStep (pduAt w l at) at (λ next. readPdus n w l next))
 
+-- a block holds no more PDUs than this: each but the last takes 16 bits or more (`sixteen`)
+abbrev pub mostPdus : ℕ
+mostPdus = 16
+
 -- the PDUs of a block of `o` octets, 8 * o - 4 bits and four more. Behind it stand zeros; no header that reaches into them is taken
-unfoldable pub blockPdus : ℕ → List ℕ → Reading
-blockPdus o s = readPdus 16 (8 * o - 4) (bitsOf (s ++ replicate 14 0)) 0
+unfoldable pub blockPdus : ℕ → List ℕ → Listing
+blockPdus o s = readPdus mostPdus (8 * o - 4) (bitsOf (s ++ replicate 14 0)) 0
 
 -- ---- the reply
 
@@ -114,17 +118,17 @@ noHeader = record { at = 0; header = PduHeader.Frag (record { «fill_bits» = 0 
 
 -- "On a no, the number is the whole reply"
 abbrev pub noHeaders : Refusal → BlockHeaders
-noHeaders r = record { outcome = ReadOutcome.Refused r; count = 0; headers = replicate 16 noHeader }
+noHeaders r = record { outcome = ReadOutcome.Refused r; count = 0; headers = replicate mostPdus noHeader }
 
-abbrev pub replyOf : Reading → BlockHeaders
+abbrev pub replyOf : Listing → BlockHeaders
 replyOf refused = noHeaders Refusal.Malformed
-replyOf (headers ps) = record { outcome = ReadOutcome.Listed; count = length ps; headers = ps ++ replicate (16 - length ps) noHeader }
+replyOf (headers ps) = record { outcome = ReadOutcome.Listed; count = length ps; headers = ps ++ replicate (mostPdus - length ps) noHeader }
 
 -- "the block's last four bits zero"
 abbrev pub lastFourZero : ℕ → List ℕ → Bool
 lastFourZero o s = eqb (getD s (o - 1) 0 % 16) 0
 
-abbrev pub isList : Reading → Bool
+abbrev pub isList : Listing → Bool
 isList refused = false
 isList (headers ps) = true
 

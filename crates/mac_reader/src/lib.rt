@@ -3,14 +3,20 @@ ghost use mathlib.Core.Path.{_≡_};
 ghost use Prim.Native.Nat.{_+_, _*_, _<_, _≤_, _^_};
 ghost use mathlib.Core.List.{_++_};
 ghost use lib.ListN.{length, replicate};
+ghost use Rattle.sizes.specs.Sizes.{blockOctets};
 ghost use Rattle.bitbuffer.specs.Bits.{bitsOf};
-ghost use Rattle.mac_reader.specs.Reader.{octetsInside, headerEnd, startsFragment, stopsAfter, wellPlaced, resourceStep, endStep, endAt, fragmentAt, pduAt};
-ghost use Rattle.mac_reader.specs.Reader.{readPdus, noHeaders, replyOf, outcomeNumber, ReadAs};
+ghost use Rattle.mac_reader.specs.Reader.{octetsInside, headerEnd, startsFragment, stopsAfter, wellPlaced, resourceStep, endStep, endAt};
+ghost use Rattle.mac_reader.specs.Reader.{fragmentAt, pduAt, readPdus, mostPdus, noHeaders, replyOf, outcomeNumber, ReadAs};
 use mac_pdus::MacEndDl;
 use mac_pdus::MacFragDl;
 use mac_pdus::PduHeader;
 use mac_pdus::ResourceHeader;
 use questions::Refusal;
+use sizes::BLOCK_OCTETS;
+use sizes::BLOCK_WIDTH;
+
+// The most PDUs that a block holds.
+pub const MOST_PDUS: usize = 16;
 
 // A header and the bit position where it stands.
 pub struct PlacedHeader {
@@ -28,7 +34,7 @@ pub enum ReadOutcome {
 pub struct BlockHeaders {
     pub outcome: ReadOutcome,
     pub count: usize,
-    pub headers: [PlacedHeader; 16],
+    pub headers: [PlacedHeader; MOST_PDUS],
 }
 
 // What stands at a position of a block: nothing that may stand there, a PDU after which the reader stops, or one with the position of the next.
@@ -90,7 +96,7 @@ fn well_placed(w: usize, at: usize, r: ResourceHeader, after: usize) -> bool
 {
     let len = r.length_ind;
     let limit = header_end(w, at + 8 * (len as usize));
-    let taken = mac_on_air::lone_takes(r);
+    let taken = mac_on_air::writer_takes(r);
     let starts = starts_fragment(r);
     let inside = octets_inside(w, at, len);
     taken & (after <= w) & (starts | (inside & (after <= limit)))
@@ -170,7 +176,7 @@ fn read_pdu(s: &[u8], w: usize, at: usize) -> PduStep
 {
     let t = bitbuffer::read_bits(s, at, 2);
     if t == 0 {
-        let read = resource_reader::read_resource(s, at);
+        let read = mac_resource_reader::read_resource(s, at);
         let r = read.r;
         let after = read.next;
         return resource_step(w, at, r, after);
@@ -189,7 +195,7 @@ fn no_headers(refusal: Refusal) -> BlockHeaders
         at: 0,
         header: PduHeader::Frag(MacFragDl { fill_bits: 0 }),
     };
-    let headers = [none; 16];
+    let headers = [none; MOST_PDUS];
     BlockHeaders {
         outcome: ReadOutcome::Refused(refusal),
         count: 0,
@@ -200,16 +206,16 @@ fn no_headers(refusal: Refusal) -> BlockHeaders
 // Lists the headers of the PDUs in the first `w` bits, at most 16.
 fn read_list(s: &[u8], w: usize) -> BlockHeaders
     requires { ⌜ (w + 76 ≤ 8 * length (now s)) × (8 * length (now s) + 4096 < 2 ^ 64) ⌝ }
-    ensures { λ r. ⌜ r ≡ replyOf (readPdus 16 w (bitsOf (now (s .entry))) 0) ⌝ }
+    ensures { λ r. ⌜ r ≡ replyOf (readPdus mostPdus w (bitsOf (now (s .entry))) 0) ⌝ }
 {
     let none = PlacedHeader {
         at: 0,
         header: PduHeader::Frag(MacFragDl { fill_bits: 0 }),
     };
-    let mut headers = [none; 16];
+    let mut headers = [none; MOST_PDUS];
     let mut n: usize = 0;
     let mut at: usize = 0;
-    while n < 16 {
+    while n < MOST_PDUS {
         if w < at + 16 {
             return BlockHeaders {
                 outcome: ReadOutcome::Listed,
@@ -245,29 +251,29 @@ fn read_list(s: &[u8], w: usize) -> BlockHeaders
 }
 
 // The block with zeros behind it.
-fn padded(block: &[u8]) -> [u8; 48]
-    requires { ⌜ length (now block) ≡ 34 ⌝ }
+fn padded(block: &[u8]) -> [u8; BLOCK_OCTETS + 14]
+    requires { ⌜ length (now block) ≡ blockOctets ⌝ }
     ensures { λ r. ⌜ r ≡ now (block .entry) ++ replicate 14 0 ⌝ }
 {
-    let mut pad = [0u8; 48];
+    let mut pad = [0u8; BLOCK_OCTETS + 14];
     let mut i = 0;
-    while i < 34 {
+    while i < BLOCK_OCTETS {
         pad[i] = block[i];
         i += 1;
     }
     pad
 }
 
-// Reads a block of 34 octets: the headers of its PDUs with their bit positions, or a refusal.
+// Reads a block: the headers of its PDUs with their bit positions, or a refusal.
 pub fn read_block(block: &[u8]) -> BlockHeaders
-    ensures { λ r. ⌜ ReadAs 34 (now (block .entry)) r ⌝ }
+    ensures { λ r. ⌜ ReadAs blockOctets (now (block .entry)) r ⌝ }
 {
-    if block.len() != 34 {
+    if block.len() != BLOCK_OCTETS {
         return no_headers(Refusal::Lengths);
     }
-    if block[33] % 16 != 0 {
+    if block[BLOCK_OCTETS - 1] % 16 != 0 {
         return no_headers(Refusal::Malformed);
     }
     let pad = padded(block);
-    read_list(&pad, 268)
+    read_list(&pad, BLOCK_WIDTH)
 }

@@ -1,4 +1,4 @@
--- THE ROUND TRIP of one header: what the lone writer wrote is read as the header that was offered, GSSI and ISSI as SSI. Assumes nothing.
+-- THE ROUND TRIP of one header: what the header writer wrote is read as the header that was offered, GSSI and ISSI as SSI. Assumes nothing.
 use mathlib.Core.Path.{_≡_, sym, ap, _∙_}
 use mathlib.Core.Bool.{true}
 use mathlib.Core.List.{List}
@@ -10,9 +10,9 @@ use Rattle.bitbuffer.proofs.Laws.{length-bitsOf}
 use Rattle.mac_pdus.specs.declared.ResourceHeader.{ResourceHeader}
 use Rattle.mac_pdus.specs.declared.MacResource.{MacResource}
 use Rattle.mac_pdus.specs.Headers.{resourceAt, headerLength}
-use Rattle.mac_pdus.specs.Legal.{onAir, offered, asRead, loneTakes}
+use Rattle.mac_pdus.specs.Legal.{onAir, offered, asRead, writerTakes}
 use Rattle.mac_pdus.proofs.LengthLaws.{header-size}
-use Rattle.mac_pdus.proofs.LegalLaws.{legal-within, lone, offered-again, taken-on-air}
+use Rattle.mac_pdus.proofs.LegalLaws.{legal-within, to-write, offered-again, taken-on-air}
 use Rattle.mac_pdus.proofs.RoundTrip.{header-back}
 use Rattle.mac_writer.specs.declared.WriteReply.{WriteReply}
 use Rattle.mac_writer.specs.Writer.{WrittenAs}
@@ -25,7 +25,7 @@ pub record ReadsBack (t : List ℕ) (at : ℕ) (h : MacResource) (next : ℕ) : 
   -- which is the header that was offered, with GSSI and ISSI as SSI
   pub same : offered (onAir h) ≡ asRead h
   -- and which the block reader takes for a header
-  pub taken : loneTakes (onAir h) ≡ true
+  pub taken : writerTakes (onAir h) ≡ true
 
 pub written-reads-back : (s t : List ℕ) (at : ℕ) (h : MacResource) (next : ℕ) → WrittenAs s at h (WriteReply.Next next) t → ReadsBack t at h next
 written-reads-back s t at h next w =
@@ -36,7 +36,7 @@ written-reads-back s t at h next w =
     record {
       header = λ {X} f.
           ap (λ (l : List ℕ). resourceAt l at f) (w .bits)
-          ∙ header-back (bitsOf s) at (onAir h) f (legal-within h (lone h (k .legal) .fields)) (omega (arith, r .inside, n, m))
+          ∙ header-back (bitsOf s) at (onAir h) f (legal-within h (to-write h (k .legal) .fields)) (omega (arith, r .inside, n, m))
           ∙ ap (f (onAir h)) (sym (k .ends));
       same = offered-again h (k .legal);
       taken = taken-on-air h (k .legal);

@@ -1,6 +1,6 @@
--- The lone writer's reply, case by case. Assumes nothing.
+-- The header writer's reply, case by case. Assumes nothing.
 use mathlib.Core.Path.{_≡_, refl, sym, ap, _∙_, subst}
-use mathlib.Core.Bool.{Bool, true, false, cond}
+use mathlib.Core.Bool.{Bool, true, false}
 use mathlib.Core.List.{List}
 use Prim.Native.Nat.{ℕ, _+_, _-_, _*_, _/_, _%_, _^_, _<_, _≤_}
 use native.Mathlib.Omega.{arith}
@@ -8,19 +8,19 @@ use lib.ListN.{length}
 use lib.Dec.{ltb, leb}
 use borrow.Author.Tests.{ltb-true, leb-true, leb-false, lt-ltb, le-ltb, le-leb, lt-leb}
 use Rattle.questions.specs.declared.Refusal.{Refusal}
-use Rattle.questions.specs.Questions.{ask, askedNumber}
+use Rattle.questions.specs.Questions.{askedNumber}
 use Rattle.questions.proofs.AskLaws.{first-no, every-yes, ask-map, ask-elim}
 use Rattle.bitbuffer.specs.Bits.{bitsOf, written, Wrote}
 use Rattle.mac_pdus.specs.declared.MacResource.{MacResource}
 use Rattle.mac_pdus.specs.declared.ResourceHeader.{ResourceHeader}
 use Rattle.mac_pdus.specs.Within.{ResourceWithin}
-use Rattle.mac_pdus.proofs.LegalLaws.{legal-within, lone}
+use Rattle.mac_pdus.proofs.LegalLaws.{legal-within, to-write}
 use Rattle.mac_pdus.specs.Headers.{resourceBits, headerLength}
-use Rattle.mac_pdus.specs.Legal.{legalLone, onAir}
+use Rattle.mac_pdus.specs.Legal.{legalToWrite, onAir}
 use Rattle.mac_pdus.proofs.Conjunctions.{and2}
 use Rattle.mac_pdus.proofs.LengthLaws.{header-size}
 use Rattle.mac_writer.specs.declared.WriteReply.{WriteReply}
-use Rattle.mac_writer.specs.Writer.{replyNumber, roomFor, writeQuestions, writeReply, bitsAfter, WrittenAs}
+use Rattle.mac_writer.specs.Writer.{writeNumber, roomFor, writeQuestions, writeReply, bitsAfter, WrittenAs}
 
 -- ---- question 11
 
@@ -51,30 +51,32 @@ room-test octets at n h k =
 
 -- ---- the reply
 
-reply-number : (octets at : ℕ) (h : MacResource) → replyNumber (writeReply octets at h) ≡ askedNumber (writeQuestions octets at h)
+reply-number : (octets at : ℕ) (h : MacResource) → writeNumber (writeReply octets at h) ≡ askedNumber (writeQuestions octets at h)
 unfolding writeReply
-reply-number octets at h = ask-map replyNumber (writeQuestions octets at h) _ _
+reply-number octets at h = ask-map writeNumber (writeQuestions octets at h) _ _
 
 as-written : (s t : List ℕ) (at : ℕ) (h : MacResource) (reply : WriteReply) → reply ≡ writeReply (length s) at h → bitsOf t ≡ bitsAfter (bitsOf s) at h reply
     → WrittenAs s at h reply t
-as-written s t at h reply e b = record { number = ap replyNumber e ∙ reply-number (length s) at h; replies = e; bits = b }
+as-written s t at h reply e b = record { number = ap writeNumber e ∙ reply-number (length s) at h; replies = e; bits = b }
 
 pub refused-address : (s : List ℕ) (at : ℕ) (h : MacResource) → 16777216 ≤ h .number → WrittenAs s at h (WriteReply.Refused Refusal.Address) s
 unfolding writeReply
 refused-address s at h k = as-written s s at h _ (first-no _ _ 0 (writeQuestions (length s) at h) tt (le-ltb (h .number) 16777216 k)) refl
 
-pub refused-header : (s : List ℕ) (at : ℕ) (h : MacResource) → h .number < 16777216 → legalLone h ≡ false → WrittenAs s at h (WriteReply.Refused Refusal.Header) s
+pub refused-header : (s : List ℕ) (at : ℕ) (h : MacResource) → h .number < 16777216 → legalToWrite h ≡ false
+    → WrittenAs s at h (WriteReply.Refused Refusal.Header) s
 unfolding writeReply
 refused-header s at h k l = as-written s s at h _ (first-no _ _ 1 (writeQuestions (length s) at h) (tt, lt-ltb (h .number) 16777216 k) l) refl
 
-pub refused-room : (s : List ℕ) (at : ℕ) (h : MacResource) (r : ResourceHeader) (n : ℕ) → h .number < 16777216 → legalLone h ≡ true → r ≡ onAir h → n ≡ headerLength r
+pub refused-room : (s : List ℕ) (at : ℕ) (h : MacResource) (r : ResourceHeader) (n : ℕ) → h .number < 16777216 → legalToWrite h ≡ true → r ≡ onAir h
+    → n ≡ headerLength r
     → roomFor (length s) at n ≡ false → WrittenAs s at h (WriteReply.Refused Refusal.NoRoom) s
 unfolding writeReply
 refused-room s at h r n k l er en lacks =
     let room : roomFor (length s) at (headerLength (onAir h)) ≡ false = ap (roomFor (length s) at) (sym (en ∙ ap headerLength er)) ∙ lacks in
     as-written s s at h _ (first-no _ _ 2 (writeQuestions (length s) at h) ((tt, lt-ltb (h .number) 16777216 k), l) room) refl
 
-pub header-written : (s t : List ℕ) (at : ℕ) (h : MacResource) (r : ResourceHeader) (n next : ℕ) → h .number < 16777216 → legalLone h ≡ true → r ≡ onAir h
+pub header-written : (s t : List ℕ) (at : ℕ) (h : MacResource) (r : ResourceHeader) (n next : ℕ) → h .number < 16777216 → legalToWrite h ≡ true → r ≡ onAir h
     → n ≡ headerLength r → roomFor (length s) at n ≡ true → Wrote (bitsOf s) at (bitsOf t) next (resourceBits r) → WrittenAs s at h (WriteReply.Next next) t
 unfolding writeReply
 header-written s t at h r n next k l er en has w =
@@ -85,12 +87,12 @@ header-written s t at h r n next k l er en has w =
     (w .bits ∙ ap (λ (x : ResourceHeader). written (bitsOf s) at (resourceBits x)) er)
 
 -- the header that passed has its fields within their widths
-pub passed-within : (h : MacResource) (r : ResourceHeader) → legalLone h ≡ true → r ≡ onAir h → ResourceWithin r
-passed-within h r l e = subst ResourceWithin (sym e) (legal-within h (lone h l .fields))
+pub passed-within : (h : MacResource) (r : ResourceHeader) → legalToWrite h ≡ true → r ≡ onAir h → ResourceWithin r
+passed-within h r l e = subst ResourceWithin (sym e) (legal-within h (to-write h l .fields))
 
 -- what was written was taken
-pub record Taken (octets at : ℕ) (h : MacResource) (next : ℕ) : Type 0 where
-  pub legal : legalLone h ≡ true
+pub record TakenHeader (octets at : ℕ) (h : MacResource) (next : ℕ) : Type 0 where
+  pub legal : legalToWrite h ≡ true
   pub room : roomFor octets at (headerLength (onAir h)) ≡ true
   pub ends : next ≡ at + headerLength (onAir h)
 
@@ -100,9 +102,9 @@ never e = absurd (let z : _≡_ {A = ℕ} 0 1 = cc in omega arith)
 same : {n m : ℕ} → WriteReply.Next n ≡ WriteReply.Next m → n ≡ m
 same e = cc
 
-pub was-taken : (octets at : ℕ) (h : MacResource) (next : ℕ) → WriteReply.Next next ≡ writeReply octets at h → Taken octets at h next
+pub was-taken : (octets at : ℕ) (h : MacResource) (next : ℕ) → WriteReply.Next next ≡ writeReply octets at h → TakenHeader octets at h next
 unfolding writeReply
 was-taken octets at h next =
-    ask-elim (λ (r : WriteReply). WriteReply.Next next ≡ r → Taken octets at h next) (writeQuestions octets at h) _ WriteReply.Refused
+    ask-elim (λ (r : WriteReply). WriteReply.Next next ≡ r → TakenHeader octets at h next) (writeQuestions octets at h) _ WriteReply.Refused
     (λ r e. never e)
     (λ yes e. record { legal = yes .1 .0; room = yes .1 .1 .0; ends = same e })

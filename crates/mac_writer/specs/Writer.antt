@@ -1,4 +1,4 @@
--- The lone writer's reply, and what it does to its buffer (document 01, questions 5, 6 and 11). Assumes nothing.
+-- The header writer's reply, and what it does to its buffer (document 01, questions 5, 6 and 11). Assumes nothing.
 use mathlib.Core.Path.{_≡_}
 use mathlib.Core.Bool.{Bool, _&&_}
 use Prim.Native.Nat.{ℕ, _+_, _*_, _^_}
@@ -10,13 +10,13 @@ use Rattle.questions.specs.Questions.{Question, question, refusalNumber, ask, a
 use Rattle.bitbuffer.specs.Bits.{bitsOf, written}
 use Rattle.mac_pdus.specs.declared.MacResource.{MacResource}
 use Rattle.mac_pdus.specs.Headers.{resourceBits, headerLength}
-use Rattle.mac_pdus.specs.Legal.{fits, legalLone, onAir}
+use Rattle.mac_pdus.specs.Legal.{fits, legalToWrite, onAir}
 use Rattle.mac_writer.specs.declared.WriteReply.{WriteReply}
 
 -- document 01's number of a reply: 0 where it is no refusal
-abbrev pub replyNumber : WriteReply → ℕ
-replyNumber (WriteReply.Refused x) = refusalNumber x
-replyNumber (WriteReply.Next n) = 0
+abbrev pub writeNumber : WriteReply → ℕ
+writeNumber (WriteReply.Refused x) = refusalNumber x
+writeNumber (WriteReply.Next n) = 0
 
 -- question 5: "number below 2^24". Every kind of address that can be named here may be offered
 abbrev pub numberFits : MacResource → Bool
@@ -30,7 +30,7 @@ roomFor octets at n = ltb (at + n) (2 ^ 64) && leb (at + n) (8 * octets)
 abbrev pub writeQuestions : ℕ → ℕ → MacResource → List Question
 writeQuestions octets at h =
     question (numberFits h) Refusal.Address
-    ∷ question (legalLone h) Refusal.Header
+    ∷ question (legalToWrite h) Refusal.Header
     ∷ question (roomFor octets at (headerLength (onAir h))) Refusal.NoRoom
     ∷ []
 
@@ -43,8 +43,8 @@ abbrev pub bitsAfter : List ℕ → ℕ → MacResource → WriteReply → List 
 bitsAfter l at h (WriteReply.Refused x) = l
 bitsAfter l at h (WriteReply.Next n) = written l at (resourceBits (onAir h))
 
--- the lone writer's promise: the octets `s` become `t`
+-- the header writer's promise: the octets `s` become `t`
 pub record WrittenAs (s : List ℕ) (at : ℕ) (h : MacResource) (reply : WriteReply) (t : List ℕ) : Type 0 where
-  pub number : replyNumber reply ≡ askedNumber (writeQuestions (length s) at h)
+  pub number : writeNumber reply ≡ askedNumber (writeQuestions (length s) at h)
   pub replies : reply ≡ writeReply (length s) at h
   pub bits : bitsOf t ≡ bitsAfter (bitsOf s) at h reply

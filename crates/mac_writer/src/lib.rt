@@ -1,4 +1,4 @@
-// Writers of the short headers, MAC-FRAG, MAC-END and the null PDU, and of a run of bits; the replies of the lone writer.
+// Writers of the short headers, MAC-FRAG, MAC-END and the null PDU, and of a run of bits; the replies of the header writer.
 use mac_pdus::MacEndDl;
 use mac_pdus::MacFragDl;
 use questions::Refusal;

@@ -1,7 +1,7 @@
 -- Conjunctions of two tests, taken apart and put together, for the crates above. The tests are given: a conjunction computes, so they are
 -- not found. Assumes nothing.
-use mathlib.Core.Path.{_≡_, refl}
-use mathlib.Core.Bool.{Bool, true, false, _&&_, and-eq-true-iff}
+use mathlib.Core.Path.{_≡_}
+use mathlib.Core.Bool.{Bool, true, _&&_, and-eq-true-iff}
 
 pub and-left : (a b : Bool) → a && b ≡ true → a ≡ true
 and-left a b h = and-eq-true-iff a b .0 h .0
@@ -11,7 +11,3 @@ and-right a b h = and-eq-true-iff a b .0 h .1
 
 pub and-intro : (a b : Bool) → a ≡ true → b ≡ true → a && b ≡ true
 and-intro a b p q = rw (p, q)
-
-pub and-false : (a : Bool) → a && false ≡ false
-and-false true = refl
-and-false false = refl

@@ -100,3 +100,30 @@ ask-both P (q ∷ qs) a f b g bad fine = go (λ e. ask-both P qs a f b g bad (λ
         → P (cond c (ask qs a f) (f (q .refusal))) (cond c (ask qs b g) (g (q .refusal)))
     go rest true e = rest e
     go rest false e = bad (q .refusal)
+
+-- ---- some of a call's questions, asked apart: answers of any kind, one for a yes to all and one for each refusal
+
+module _ {B : Type 0} (passed : B) (no : Refusal → B) where
+  -- where they passed, each is answered yes
+  pub asked-yes : ((r : Refusal) → no r ≡ passed → ⊥) → (qs : List Question) → ask qs passed no ≡ passed → AllYes qs
+  unfolding ask
+  asked-yes apart [] e = tt
+  asked-yes apart (q ∷ qs) e = go (asked-yes apart qs) (q .holds) refl e
+    where
+      go : (ask qs passed no ≡ passed → AllYes qs) → (b : Bool) → q .holds ≡ b → cond b (ask qs passed no) (no (q .refusal)) ≡ passed
+          → (q .holds ≡ true) × AllYes qs
+      go later true y h = (y, later h)
+      go later false y h = absurd (apart (q .refusal) h)
+
+  -- where they did not, what holds of each refusal and its answer holds of a call that asks these questions first
+  pub asked-no : {A : Type 0} (P : B → A → Type 0) (done : A) (refused : Refusal → A) → ((r : Refusal) → P (no r) (refused r))
+      → (qs rest : List Question) → (ask qs passed no ≡ passed → ⊥) → P (ask qs passed no) (ask (qs ++ rest) done refused)
+  unfolding ask
+  asked-no P done refused each [] rest h = absurd (h refl)
+  asked-no P done refused each (q ∷ qs) rest h = go (asked-no P done refused each qs rest) (q .holds) h
+    where
+      go : ((ask qs passed no ≡ passed → ⊥) → P (ask qs passed no) (ask (qs ++ rest) done refused)) → (b : Bool)
+          → (cond b (ask qs passed no) (no (q .refusal)) ≡ passed → ⊥)
+          → P (cond b (ask qs passed no) (no (q .refusal))) (cond b (ask (qs ++ rest) done refused) (refused (q .refusal)))
+      go later true k = later k
+      go later false k = each (q .refusal)

@@ -1,13 +1,12 @@
 -- The numbers of the refusals. Assumes nothing.
 use mathlib.Core.Path.{_≡_, refl, sym, ap, _∙_}
-use mathlib.Core.Bool.{Bool, true, false, cond}
 use mathlib.Core.List.{List, [], _∷_, _++_}
 use Prim.Native.Nat.{ℕ, _-_, _≤_}
 use native.Mathlib.Omega.{arith}
 use lib.ListN.{getD}
 use Rattle.questions.specs.declared.Refusal.{Refusal}
 use Rattle.questions.specs.Questions.{Question, refusalNumber, ask, askedNumber}
-use Rattle.questions.proofs.AskLaws.{AllYes}
+use Rattle.questions.proofs.AskLaws.{AllYes, asked-yes, asked-no}
 
 -- none is 0
 pub number-positive : (r : Refusal) → 1 ≤ refusalNumber r
@@ -66,22 +65,9 @@ number-tells a b e = sym (refusal-back a) ∙ ap refusalOf e ∙ refusal-back b
 
 -- it is 0 where every answer is yes
 pub number-yes : (qs : List Question) → askedNumber qs ≡ 0 → AllYes qs
-unfolding ask
-number-yes [] e = tt
-number-yes (q ∷ qs) e = go (number-yes qs) (q .holds) refl e
-  where
-    go : (askedNumber qs ≡ 0 → AllYes qs) → (b : Bool) → q .holds ≡ b → cond b (askedNumber qs) (refusalNumber (q .refusal)) ≡ 0 → (q .holds ≡ true) × AllYes qs
-    go later true y h = (y, later h)
-    go later false y h = absurd (omega (arith, h, number-positive (q .refusal)))
+number-yes = asked-yes 0 refusalNumber (λ r e. omega (arith, e, number-positive r))
 
 -- else that of the refusal: what holds of each refusal and its number holds of a call that asks these questions first
 pub number-no : {A : Type 0} (P : ℕ → A → Type 0) (done : A) (refused : Refusal → A) → ((r : Refusal) → P (refusalNumber r) (refused r))
     → (qs rest : List Question) → (askedNumber qs ≡ 0 → ⊥) → P (askedNumber qs) (ask (qs ++ rest) done refused)
-unfolding ask
-number-no P done refused each [] rest h = absurd (h refl)
-number-no P done refused each (q ∷ qs) rest h = go (number-no P done refused each qs rest) (q .holds) h
-  where
-    go : ((askedNumber qs ≡ 0 → ⊥) → P (askedNumber qs) (ask (qs ++ rest) done refused)) → (b : Bool) → (cond b (askedNumber qs) (refusalNumber (q .refusal)) ≡ 0 → ⊥)
-        → P (cond b (askedNumber qs) (refusalNumber (q .refusal))) (cond b (ask (qs ++ rest) done refused) (refused (q .refusal)))
-    go later true k = later k
-    go later false k = each (q .refusal)
+number-no P done refused = asked-no 0 refusalNumber P done refused

@@ -9,49 +9,31 @@ use borrow.Author.Tests.{leb-true}
 use Rattle.slot_codes.proofs.TableLaws.{past-the-last, agree-below}
 use Rattle.slot_codes.proofs.CodesLaws.{numbers-read}
 use Rattle.reservation_requirement.specs.declared.ReservationRequirement.{ReservationRequirement}
-use Rattle.reservation_requirement.specs.declared.ReservationRequirement.the-variants.{
-  Req1Subslot,
-  Req1Slot,
-  Req2Slots,
-  Req3Slots,
-  Req4Slots,
-  Req5Slots,
-  Req6Slots,
-  Req8Slots,
-  Req10Slots,
-  Req13Slots,
-  Req17Slots,
-  Req24Slots,
-  Req34Slots,
-  Req51Slots,
-  Req68Slots,
-  ReqOver68,
-}
 use Rattle.reservation_requirement.specs.declared.RequirementRead as requirement
 use Rattle.reservation_requirement.specs.Requirement.{requirements, requirementAt, requirementCode, requirementRead}
 
 -- every number from 15 on is read as the last case
-pub requirement-past-the-last : (code : ℕ) → 15 ≤ code → requirementAt code ≡ ReqOver68
-requirement-past-the-last = past-the-last (take 15 requirements) ReqOver68
+pub requirement-past-the-last : (code : ℕ) → 15 ≤ code → requirementAt code ≡ ReservationRequirement.ReqOver68
+requirement-past-the-last = past-the-last (take 15 requirements) ReservationRequirement.ReqOver68
 
 -- each requirement is the case of its code, which has four bits
 requirement-coded : (r : ReservationRequirement) → (requirementAt (requirementCode r) ≡ r) × (requirementCode r < 16)
-requirement-coded Req1Subslot = (refl, lit< tt)
-requirement-coded Req1Slot = (refl, lit< tt)
-requirement-coded Req2Slots = (refl, lit< tt)
-requirement-coded Req3Slots = (refl, lit< tt)
-requirement-coded Req4Slots = (refl, lit< tt)
-requirement-coded Req5Slots = (refl, lit< tt)
-requirement-coded Req6Slots = (refl, lit< tt)
-requirement-coded Req8Slots = (refl, lit< tt)
-requirement-coded Req10Slots = (refl, lit< tt)
-requirement-coded Req13Slots = (refl, lit< tt)
-requirement-coded Req17Slots = (refl, lit< tt)
-requirement-coded Req24Slots = (refl, lit< tt)
-requirement-coded Req34Slots = (refl, lit< tt)
-requirement-coded Req51Slots = (refl, lit< tt)
-requirement-coded Req68Slots = (refl, lit< tt)
-requirement-coded ReqOver68 = (refl, lit< tt)
+requirement-coded ReservationRequirement.Req1Subslot = (refl, lit< tt)
+requirement-coded ReservationRequirement.Req1Slot = (refl, lit< tt)
+requirement-coded ReservationRequirement.Req2Slots = (refl, lit< tt)
+requirement-coded ReservationRequirement.Req3Slots = (refl, lit< tt)
+requirement-coded ReservationRequirement.Req4Slots = (refl, lit< tt)
+requirement-coded ReservationRequirement.Req5Slots = (refl, lit< tt)
+requirement-coded ReservationRequirement.Req6Slots = (refl, lit< tt)
+requirement-coded ReservationRequirement.Req8Slots = (refl, lit< tt)
+requirement-coded ReservationRequirement.Req10Slots = (refl, lit< tt)
+requirement-coded ReservationRequirement.Req13Slots = (refl, lit< tt)
+requirement-coded ReservationRequirement.Req17Slots = (refl, lit< tt)
+requirement-coded ReservationRequirement.Req24Slots = (refl, lit< tt)
+requirement-coded ReservationRequirement.Req34Slots = (refl, lit< tt)
+requirement-coded ReservationRequirement.Req51Slots = (refl, lit< tt)
+requirement-coded ReservationRequirement.Req68Slots = (refl, lit< tt)
+requirement-coded ReservationRequirement.ReqOver68 = (refl, lit< tt)
 
 pub requirement-of-its-code : (r : ReservationRequirement) → requirementAt (requirementCode r) ≡ r
 requirement-of-its-code r = requirement-coded r .0
@@ -84,6 +66,7 @@ requirement-reads x r e = go (leb x 15) refl e
 pub requirement-unread : (x : ℕ) → requirementRead x ≡ requirement.the-variants.Unknown → leb x 15 ≡ false
 requirement-unread x e = go (leb x 15) refl e
   where
-    go : (b : Bool) → leb x 15 ≡ b → cond b (requirement.the-variants.Of (requirementAt x)) requirement.the-variants.Unknown ≡ requirement.the-variants.Unknown → leb x 15 ≡ false
+    go : (b : Bool) → leb x 15 ≡ b → cond b (requirement.the-variants.Of (requirementAt x)) requirement.the-variants.Unknown ≡ requirement.the-variants.Unknown
+        → leb x 15 ≡ false
     go true h e = absurd (let z : _≡_ {A = ℕ} 0 1 = cc in omega arith)
     go false h e = h

@@ -47,7 +47,11 @@ module _ (u : Uplink) (r : Request) (cap delay : ℕ) (m : OptU8) where
       let ec : capacityFor (r .code) (not (vacant (tableView tb (getD (g .slots) 0 0) firstHalf))) ≡ cap = cc in
       let ed : g .delay ≡ delay = cc in
       let em : markerOf ms r ≡ m = cc in
-      record { cap-fits = omega (arith, ec, capacity-below-16 (r .code) (not (vacant (tableView tb (getD (g .slots) 0 0) firstHalf)))); delay-fits = rw ed at h; marker-drawn = sym em }
+      record {
+        cap-fits = omega (arith, ec, capacity-below-16 (r .code) (not (vacant (tableView tb (getD (g .slots) 0 0) firstHalf))));
+        delay-fits = rw ed at h;
+        marker-drawn = sym em;
+      }
 
   settled : (g : Run) (b : Bool) → leb (g .delay) latestDelay ≡ b → Says (cond b (grant g) tooLate) → GrantHolds ms r cap delay m
   unfolding replyTo

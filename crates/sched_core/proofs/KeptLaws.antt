@@ -8,10 +8,11 @@ use lib.Dec.{leb}
 use lib.ListN.{length, getD, take, drop, replicate, length-set, length-replicate, getD-replicate, replicate-append-replicate}
 use lib.Seq.{take-at, drop-at, length-paste}
 use borrow.Author.Tests.{leb-true, le-leb, lt-ltb, le-ltb}
-use Rattle.sizes.specs.Sizes.{cellOctets, perTimeslot, queuePlaces, storeOctets, timeslotOctets, timeslots}
+use Rattle.lists.proofs.Every.{all-weaken}
+use Rattle.sizes.specs.Sizes.{cellOctets, perTimeslot, queuePlaces, storeOctets, timeslotOctets, timeslots, latestDelay}
 use Rattle.optional.specs.declared.OptU8.{OptU8}
 use Rattle.optional.specs.declared.OptU16.{OptU16}
-use Rattle.optional.proofs.Tests.{and-right, and-intro}
+use Rattle.optional.proofs.Tests.{and-right}
 use Rattle.tdma_time.specs.declared.TdmaTime.{TdmaTime}
 use Rattle.tdma_time.specs.Time.{Valid}
 use Rattle.slot_codes.specs.Codes.{grantOctet}
@@ -25,7 +26,7 @@ use Rattle.uplink.specs.GrantedExactly.{Proper}
 use Rattle.uplink.proofs.Everywhere.{all-at, at-all}
 use Rattle.uplink.proofs.TableLaws.{empty-shape, store-shape}
 use Rattle.uplink.proofs.SoundLaws.{uplink-parts, advanced-sound}
-use Rattle.uplink.proofs.SoundLaws.{new-sound as new-uplink-sound}
+use Rattle.uplink.proofs.SoundLaws.{new-uplink-sound}
 use Rattle.uplink.proofs.AnswerLaws.{answer-shape, answer-four}
 use Rattle.uplink.proofs.GrantedExactly.{granted-exactly}
 use Rattle.mac_pdus.specs.Legal.{optFits, legalOffered}
@@ -33,16 +34,14 @@ use Rattle.dl_record.specs.declared.Record.{Record}
 use Rattle.dl_record.specs.declared.QueuedHeader.{QueuedHeader}
 use Rattle.dl_record.specs.Record.{emptyRecord, grantRecord, ackRecord, offeredRecord, resourceOf}
 use Rattle.dl_record.specs.Questions.{legalAddress, presentSdu}
-use Rattle.dl_record.proofs.RecordLaws.{is-empty}
-use Rattle.sdu_store.specs.Cells.{cleanPast, cellOf}
-use Rattle.sdu_store.proofs.OctetLaws.{Octets, octets-zero}
+use Rattle.dl_sdu_store.specs.Cells.{cellOf}
+use Rattle.dl_sdu_store.proofs.OctetLaws.{Octets, octets-zero}
 use Rattle.dl_queue.specs.Queue.{Item, zeroCell, enqueued, withCell, recordsOf, cellsOf, Cells}
-use Rattle.dl_queue.specs.Questions.{soundPlace, soundPlaces, soundQueue}
+use Rattle.dl_queue.specs.Questions.{soundPlaces, soundQueue}
 use Rattle.dl_queue.proofs.PushLaws.{rec-shift, cell-shift}
-use Rattle.dl_queue.proofs.SoundLaws.{queue-at, queue-all, places-all, zero-clean}
+use Rattle.dl_queue.proofs.SoundLaws.{queue-at, queue-all, places-all, empty-sound}
 use Rattle.dl_queue.proofs.SetLaws.{length-records, length-cells}
 use Rattle.dl_queue.proofs.EnqueueLaws.{grant-joins, ack-joins, offered-joins}
-use Rattle.dl_merge.proofs.MergeLaws.{all-weaken}
 use Rattle.dl_merge.proofs.SoundMerge.{OneCell, each-cells}
 use Rattle.dl_send.proofs.KeptLaws.{Staying}
 use Rattle.dl_build.specs.Build.{builtOf}
@@ -52,12 +51,13 @@ use Rattle.sched_core.specs.declared.Reply.{Reply}
 use Rattle.sched_core.specs.declared.RequestReply.{RequestReply}
 use Rattle.sched_core.specs.declared.BuildReply.{BuildReply}
 use Rattle.sched_core.specs.Station.{stationOf}
-use Rattle.sched_core.specs.Questions.{Memory, memory, soundCount, asksStation, queuedFor, memoryQuestions, requestQuestions, ackQuestions, tmaQuestions, buildLent}
+use Rattle.sched_core.specs.Questions.{Memory, memory, soundCount, asksStation, queuedFor, memoryQuestions, requestQuestions, ackQuestions, tmaQuestions}
+use Rattle.sched_core.specs.Questions.{buildLent}
 use Rattle.sched_core.specs.Calls.{Outcome, withRecord, withSdu, grantQueued, requestAnswered, requestCall, ackCall, tmaCall, BuildOutcome}
 use Rattle.sched_core.specs.Calls.{notBuilt, current, buildsNow, builtNow, withLeft, blockBuilt, buildCall, advanceCall, newMemory, advanceMemory}
 use Rattle.sched_core.specs.Invariant.{SoundMemory, EveryCallKeeps}
 use Rattle.questions.proofs.AskLaws.{AllYes, ask-elim}
-use Rattle.sched_core.proofs.StationLaws.{sound-parts, parts-sound}
+use Rattle.sched_core.proofs.StationLaws.{station-parts, parts-sound}
 use Rattle.sched_core.proofs.QuestionLaws.{right-lengths, timeslot-range, address-number, room-left}
 use Rattle.sched_core.proofs.GrantLaws.{grant-holds}
 use Rattle.sched_core.proofs.QueuesLaws.{record-queued, sdu-queued}
@@ -95,7 +95,7 @@ memory-parts m h =
     record {
       shape = h .table;
       four-counters = h .counters;
-      uplink = sound-parts (m .station) (h .station) .uplink;
+      uplink = station-parts (m .station) (h .station) .uplink;
       four-counts = h .counts;
       places = h .places;
       cells = h .cells;
@@ -140,15 +140,13 @@ zeros-cell n d h =
     ∙ ap (take cellOctets) (drop-at (zeros d) (zeros cellOctets ++ zeros (n - d - cellOctets)) d (length-replicate {A = ℕ} d 0))
     ∙ take-at (zeros cellOctets) (zeros (n - d - cellOctets)) cellOctets (length-replicate {A = ℕ} cellOctets 0)
 
-empty-place : soundPlace false emptyRecord zeroCell ≡ true
-unfolding soundPlace
-empty-place = and-intro _ (cleanPast 0 zeroCell) is-empty zero-clean
-
 -- "every place and cell empty"
 pub empty-queue-sound : (k a b : ℕ) → a ≡ perTimeslot * k → b ≡ timeslotOctets * k → soundQueue (zeros k) (replicate a emptyRecord) (zeros b) ≡ true
 empty-queue-sound k a b ea eb = queue-all (zeros k) (replicate a emptyRecord) (zeros b) (λ u h. timeslot u (omega (arith, h, length-replicate {A = ℕ} k 0)))
   where
-    timeslot : (u : ℕ) → u < k → (getD (zeros k) u 0 ≤ perTimeslot) × (soundPlaces perTimeslot (getD (zeros k) u 0) (drop (perTimeslot * u) (replicate a emptyRecord)) (drop (cellOctets * (perTimeslot * u)) (zeros b)) ≡ true)
+    timeslot : (u : ℕ) → u < k → (getD (zeros k) u 0 ≤ perTimeslot)
+        × (soundPlaces perTimeslot (getD (zeros k) u 0) (drop (perTimeslot * u) (replicate a emptyRecord)) (drop (cellOctets * (perTimeslot * u)) (zeros b))
+        ≡ true)
     timeslot u h =
         rw (getD-replicate {A = ℕ} k u 0 0 h) (
           omega arith,
@@ -158,12 +156,12 @@ empty-queue-sound k a b ea eb = queue-all (zeros k) (replicate a emptyRecord) (z
                 le-ltb i 0 (omega arith),
                 rec-shift (perTimeslot * u) (replicate a emptyRecord) i ∙ getD-replicate a (perTimeslot * u + i) emptyRecord emptyRecord (omega arith),
                 cell-shift (perTimeslot * u) (zeros b) i ∙ zeros-cell b (cellOctets * (perTimeslot * u + i)) (omega arith),
-              ) empty-place),
+              ) empty-sound),
         )
 
-pub new-sound : (x : TdmaTime) → Valid x → SoundMemory (newMemory x)
+pub new-memory-sound : (x : TdmaTime) → Valid x → SoundMemory (newMemory x)
 unfolding newMemory
-new-sound x h =
+new-memory-sound x h =
     parts-memory (newUplink x) (zeros timeslots) (replicate queuePlaces emptyRecord) (zeros storeOctets)
     (record {
       shape = empty-shape;
@@ -229,7 +227,7 @@ module _ (m : Memory) (t : ℕ) (h : SoundMemory m) (low : 1 ≤ t) (high : t �
 
   module _ (kind n : ℕ) (address : legalAddress kind n ≡ true) (a : CapAnswer) (shape : FourRowsOfEighteen (a .uplink .rows))
       (four-ms : length (a .uplink .«next_usage_marker») ≡ timeslots) (sound : soundUplink (a .uplink) ≡ true) where
-    grant-joined : (cap delay : ℕ) (mk : OptU8) → cap ≤ 15 → delay ≤ 13 → optFits 6 mk ≡ true
+    grant-joined : (cap delay : ℕ) (mk : OptU8) → cap ≤ 15 → delay ≤ latestDelay → optFits 6 mk ≡ true
         → SoundMemory (grantQueued m t kind n a (CapReply.Granted cap delay mk) .memory)
     unfolding grantQueued
     grant-joined cap delay mk c d w =
@@ -237,7 +235,8 @@ module _ (m : Memory) (t : ℕ) (h : SoundMemory m) (low : 1 ≤ t) (high : t �
         (grant-joins ns (m .records) (m .store) (t - 1) inside room places cells (h .queue) kind n (grantOctet cap delay) mk (h .octets) address
         (lt-ltb (grantOctet cap delay) (2 ^ 8) (omega (arith, c, d))) w .sound)
 
-    answer-joined : (x : CapReply) → ((cap delay : ℕ) (mk : OptU8) → x ≡ CapReply.Granted cap delay mk → (cap ≤ 15) × (delay ≤ 13) × (optFits 6 mk ≡ true))
+    answer-joined : (x : CapReply) → ((cap delay : ℕ) (mk : OptU8) → x ≡ CapReply.Granted cap delay mk
+        → (cap ≤ 15) × (delay ≤ latestDelay) × (optFits 6 mk ≡ true))
         → SoundMemory (grantQueued m t kind n a x .memory)
     unfolding grantQueued
     answer-joined CapReply.NoRun f = h
@@ -248,10 +247,14 @@ module _ (ms : List ℕ) (r : Request) where
   -- a marker drawn from sound counters has six bits
   drawn-fits : (b : Bool) → soundCounter (getD ms (r .timeslot - 1) 0) ≡ true → optFits 6 (cond b (OptU8.Of (getD ms (r .timeslot - 1) 0)) OptU8.Absent) ≡ true
   drawn-fits true e =
-      lt-ltb (getD ms (r .timeslot - 1) 0) (2 ^ 6) (omega (arith, leb-true (getD ms (r .timeslot - 1) 0) 62 (and-right (leb 4 (getD ms (r .timeslot - 1) 0)) (leb (getD ms (r .timeslot - 1) 0) 62) e)))
+      lt-ltb (getD ms (r .timeslot - 1) 0) (2 ^ 6) (omega (
+        arith,
+        leb-true (getD ms (r .timeslot - 1) 0) 62
+            (and-right (leb 4 (getD ms (r .timeslot - 1) 0)) (leb (getD ms (r .timeslot - 1) 0) 62) e),
+      ))
   drawn-fits false e = refl
 
-  marker-fits : length ms ≡ 4 → soundCounters ms ≡ true → 1 ≤ r .timeslot → r .timeslot ≤ 4 → optFits 6 (markerOf ms r) ≡ true
+  marker-fits : length ms ≡ timeslots → soundCounters ms ≡ true → 1 ≤ r .timeslot → r .timeslot ≤ timeslots → optFits 6 (markerOf ms r) ≡ true
   unfolding markerOf
   marker-fits l e a b = drawn-fits (draws (r .code)) (all-at soundCounter ms (r .timeslot - 1) 0 (omega (arith, l, a, b)) e)
 
@@ -265,18 +268,22 @@ ack-keeps m t kind n h =
     let ts = timeslot-range t (yes .1 .1 .1 .0) in
     ack-joined m t h (ts .0) (ts .1) (room-left (queuedFor (m .station .queued) t) (yes .1 .1 .1 .1 .1 .0)) kind n (yes .1 .1 .1 .1 .0))
 
-pub tma-keeps : (m : Memory) (t kind n : ℕ) (tag : OptU16) (header : QueuedHeader) (bits : ℕ) (sdu : List ℕ) → SoundMemory m → SoundMemory (tmaCall m t kind n tag header bits sdu .memory)
+pub tma-keeps : (m : Memory) (t kind n : ℕ) (tag : OptU16) (header : QueuedHeader) (bits : ℕ) (sdu : List ℕ) → SoundMemory m
+    → SoundMemory (tmaCall m t kind n tag header bits sdu .memory)
 unfolding tmaCall
 tma-keeps m t kind n tag header bits sdu h =
-    ask-elim (λ (o : Outcome Reply). SoundMemory (o .memory)) (memoryQuestions m [] ++ tmaQuestions (queuedFor (m .station .queued) t) t (offeredRecord kind n tag header bits) sdu) _ _ (λ r. h)
+    ask-elim (λ (o : Outcome Reply). SoundMemory (o .memory))
+    (memoryQuestions m [] ++ tmaQuestions (queuedFor (m .station .queued) t) t (offeredRecord kind n tag header bits) sdu) _ _ (λ r. h)
     (λ yes.
     let ts = timeslot-range t (yes .1 .1 .1 .0) in
-    tma-joined m t h (ts .0) (ts .1) (room-left (queuedFor (m .station .queued) t) (yes .1 .1 .1 .1 .1 .1 .1 .0)) kind n tag header bits sdu (yes .1 .1 .1 .1 .0) (yes .1 .1 .1 .1 .1 .0) (yes .1 .1 .1 .1 .1 .1 .0))
+    tma-joined m t h (ts .0) (ts .1) (room-left (queuedFor (m .station .queued) t) (yes .1 .1 .1 .1 .1 .1 .1 .0)) kind n tag header bits sdu
+    (yes .1 .1 .1 .1 .0) (yes .1 .1 .1 .1 .1 .0) (yes .1 .1 .1 .1 .1 .1 .0))
 
 pub request-keeps : (m : Memory) (t code kind n : ℕ) → SoundMemory m → SoundMemory (requestCall m t code kind n .memory)
 unfolding requestCall requestAnswered
 request-keeps m t code kind n h =
-    ask-elim (λ (o : Outcome RequestReply). SoundMemory (o .memory)) (memoryQuestions m [] ++ requestQuestions (queuedFor (m .station .queued) t) t code kind n) _ _ (λ r. h)
+    ask-elim (λ (o : Outcome RequestReply). SoundMemory (o .memory))
+    (memoryQuestions m [] ++ requestQuestions (queuedFor (m .station .queued) t) t code kind n) _ _ (λ r. h)
     (λ yes.
     let ts = timeslot-range t (yes .1 .1 .1 .0) in
     let p = memory-parts m h in
@@ -311,7 +318,8 @@ left-sound m h =
     let inside : t < length ns = omega (arith, p .four-counts) in
     let many : length (m .records) ≡ perTimeslot * length ns = omega (arith, p .places, p .four-counts) in
     let size : length (m .store) ≡ timeslotOctets * length ns = omega (arith, p .cells, p .four-counts) in
-    let whole : Cells left = each-cells left (all-weaken Staying OneCell (λ x q. q .stored .cell) left (build-stays ns (m .records) (m .store) t inside many size (h .queue))) in
+    let whole : Cells left =
+    each-cells left (all-weaken Staying OneCell (λ x q. q .stored .cell) left (build-stays ns (m .records) (m .store) t inside many size (h .queue))) in
     let q = build-holds ns (m .records) (m .store) t inside many size (h .queue) (h .octets) in
     parts-memory _ _ _ _
     (record {
@@ -319,22 +327,27 @@ left-sound m h =
       four-counters = p .four-counters;
       uplink = p .uplink;
       four-counts = length-set ns _ _ ∙ p .four-counts;
-      places = length-paste (m .records) (perTimeslot * t) (recordsOf perTimeslot left) perTimeslot (omega (arith, p .places)) (omega (arith, length-records perTimeslot left)) ∙ p .places;
-      cells = length-paste (m .store) (cellOctets * (perTimeslot * t)) (cellsOf perTimeslot left) timeslotOctets (omega (arith, p .cells)) (omega (arith, length-cells perTimeslot left whole)) ∙ p .cells;
+      places =
+          length-paste (m .records) (perTimeslot * t) (recordsOf perTimeslot left) perTimeslot (omega (arith, p .places))
+          (omega (arith, length-records perTimeslot left)) ∙ p .places;
+      cells =
+          length-paste (m .store) (cellOctets * (perTimeslot * t)) (cellsOf perTimeslot left) timeslotOctets (omega (arith, p .cells))
+          (omega (arith, length-cells perTimeslot left whole)) ∙ p .cells;
       octets = q .octets;
       queue = q .sound;
     })
 
 pub build-keeps : (m : Memory) (block : List ℕ) → SoundMemory m → SoundMemory (buildCall m block .memory)
 unfolding buildCall
-build-keeps m block h = ask-elim (λ (o : BuildOutcome). SoundMemory (o .memory)) (memoryQuestions m (buildLent block)) _ _ (λ r. h) (λ yes. go (buildsNow (m .station)))
+build-keeps m block h =
+    ask-elim (λ (o : BuildOutcome). SoundMemory (o .memory)) (memoryQuestions m (buildLent block)) _ _ (λ r. h) (λ yes. go (buildsNow (m .station)))
   where
     go : (b : Bool) → SoundMemory (cond b (blockBuilt m (current (m .station)) (builtNow m)) (notBuilt BuildReply.NoBlock m block) .memory)
     go true = left-sound m h
     go false = h
 
 pub every-call-keeps : EveryCallKeeps
-every-call-keeps = record { new = new-sound; advance = advance-keeps; request = request-keeps; ack = ack-keeps; tma = tma-keeps; build = build-keeps }
+every-call-keeps = record { new = new-memory-sound; advance = advance-keeps; request = request-keeps; ack = ack-keeps; tma = tma-keeps; build = build-keeps }
 
 -- of a sound memory questions 1 and 2 are answered yes
 pub sound-yes : (m : Memory) → SoundMemory m → AllYes (memoryQuestions m [])

@@ -19,8 +19,11 @@ pub right-lengths : (m : Memory) → length (m .records) ≡ queuePlaces → len
 right-lengths m a b = rw (eq-eqb _ _ a, eq-eqb _ _ b)
 
 pub lengths-right : (m : Memory) → asksLengths m .holds ≡ true → (length (m .records) ≡ queuePlaces) × (length (m .store) ≡ storeOctets)
-lengths-right m h =
-    (eqb-true _ _ (and-left (eqb (length (m .records)) queuePlaces) (eqb (length (m .store)) storeOctets) h), eqb-true _ _ (and-right (eqb (length (m .records)) queuePlaces) (eqb (length (m .store)) storeOctets) h))
+lengths-right m h = (
+  eqb-true _ _ (and-left (eqb (length (m .records)) queuePlaces) (eqb (length (m .store)) storeOctets) h),
+  eqb-true _ _
+      (and-right (eqb (length (m .records)) queuePlaces) (eqb (length (m .store)) storeOctets) h),
+)
 
 pub other-places : (m : Memory) → (length (m .records) ≡ queuePlaces → ⊥) → asksLengths m .holds ≡ false
 other-places m other = rw (ne-eqb _ _ other)

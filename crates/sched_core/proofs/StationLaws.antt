@@ -9,18 +9,18 @@ use Rattle.uplink.proofs.SoundLaws.{uplink-parts}
 use Rattle.sched_core.specs.declared.Station.{Station}
 use Rattle.sched_core.specs.Questions.{soundCount, soundStation}
 
-pub record SoundParts (s : Station) : Type 0 where
+pub record StationParts (s : Station) : Type 0 where
   pub uplink : soundUplink (s .uplink) ≡ true
   pub counts : all soundCount (s .queued) ≡ true
 
-pub sound-parts : (s : Station) → soundStation s ≡ true → SoundParts s
+pub station-parts : (s : Station) → soundStation s ≡ true → StationParts s
 unfolding soundStation
-sound-parts s h = record { uplink = and-left (soundUplink (s .uplink)) _ h; counts = and-right (soundUplink (s .uplink)) _ h }
+station-parts s h = record { uplink = and-left (soundUplink (s .uplink)) _ h; counts = and-right (soundUplink (s .uplink)) _ h }
 
-pub parts-sound : (s : Station) → SoundParts s → soundStation s ≡ true
+pub parts-sound : (s : Station) → StationParts s → soundStation s ≡ true
 unfolding soundStation
 parts-sound s p = rw (p .uplink, p .counts)
 
 -- a sound station's time is one
 pub sound-time : (s : Station) → soundStation s ≡ true → Valid (s .uplink .time)
-sound-time s h = uplink-parts (s .uplink) (sound-parts s h .uplink) .time
+sound-time s h = uplink-parts (s .uplink) (station-parts s h .uplink) .time

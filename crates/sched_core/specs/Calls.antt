@@ -1,11 +1,10 @@
 -- Document 01: each call as its whole outcome, the reply and the memory after it. Assumes nothing.
-use mathlib.Core.Path.{_≡_}
 use mathlib.Core.Bool.{Bool, _&&_, cond}
 use mathlib.Core.List.{List, [], _∷_, _++_}
 use Prim.Native.Nat.{ℕ, _-_}
 use lib.Dec.{ltb}
-use lib.ListN.{length, getD, replicate}
-use Rattle.sizes.specs.Sizes.{perTimeslot, queuePlaces, storeOctets, blockOctets}
+use lib.ListN.{getD, replicate}
+use Rattle.sizes.specs.Sizes.{queuePlaces, storeOctets, blockOctets}
 use Rattle.questions.specs.declared.Refusal.{Refusal}
 use Rattle.questions.specs.Questions.{Question, refusalNumber, ask}
 use Rattle.optional.specs.declared.OptU16.{OptU16}
@@ -21,7 +20,7 @@ use Rattle.mac_reader.specs.PduList.{blockBits}
 use Rattle.dl_record.specs.declared.Record.{Record}
 use Rattle.dl_record.specs.declared.QueuedHeader.{QueuedHeader}
 use Rattle.dl_record.specs.Record.{emptyRecord, grantRecord, ackRecord, offeredRecord}
-use Rattle.sdu_store.specs.Cells.{cellOf}
+use Rattle.dl_sdu_store.specs.Cells.{cellOf}
 use Rattle.dl_queue.specs.Queue.{enqueued, withCell, withQueue, withCells}
 use Rattle.dl_send.specs.Send.{Sent, blockOf}
 use Rattle.dl_build.specs.Build.{builtOf}
@@ -33,7 +32,8 @@ use Rattle.sched_core.specs.declared.OwnerReply.{OwnerReply}
 use Rattle.sched_core.specs.declared.UsageReply.{UsageReply}
 use Rattle.sched_core.specs.declared.Answer.{Answer}
 use Rattle.sched_core.specs.Station.{stationOf, newStation, advancedStation, withQueued}
-use Rattle.sched_core.specs.Questions.{Memory, memory, asksStation, queuedFor, memoryQuestions, requestQuestions, ackQuestions, tmaQuestions, buildLent, timeQuestions}
+use Rattle.sched_core.specs.Questions.{Memory, memory, asksStation, queuedFor, memoryQuestions, requestQuestions, ackQuestions, tmaQuestions, buildLent}
+use Rattle.sched_core.specs.Questions.{timeQuestions}
 
 -- document 01's numbers of the replies: "number (0 done)", else the question answered no
 abbrev pub replyNumber : Reply → ℕ

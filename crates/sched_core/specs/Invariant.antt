@@ -52,15 +52,15 @@ oneMore ns t = set ns (t - 1) (getD ns (t - 1) 0 + 1)
 
 -- What a call that queues leaves, whatever the memory: its count rises by one exactly if it is done, a refusal changes nothing, and no
 -- length changes.
-pub record Queues (m : Memory) (t : ℕ) (after : Memory) (done : Bool) : Type 0 where
+pub record CountRises (m : Memory) (t : ℕ) (after : Memory) (done : Bool) : Type 0 where
   pub count : after .station .queued ≡ cond done (oneMore (m .station .queued) t) (m .station .queued)
   pub refusal : done ≡ false → after ≡ m
   pub places : length (after .records) ≡ length (m .records)
   pub cells : length (after .store) ≡ length (m .store)
 
 -- and so does each of the three
-pub record EveryQueueingQueues : Type 0 where
-  pub request : (m : Memory) (t code kind n : ℕ) → let o = requestCall m t code kind n in Queues m t (o .memory) (isGranted (o .reply))
-  pub ack : (m : Memory) (t kind n : ℕ) → let o = ackCall m t kind n in Queues m t (o .memory) (isDone (o .reply))
+pub record EveryCountRises : Type 0 where
+  pub request : (m : Memory) (t code kind n : ℕ) → let o = requestCall m t code kind n in CountRises m t (o .memory) (isGranted (o .reply))
+  pub ack : (m : Memory) (t kind n : ℕ) → let o = ackCall m t kind n in CountRises m t (o .memory) (isDone (o .reply))
   pub tma : (m : Memory) (t kind n : ℕ) (tag : OptU16) (header : QueuedHeader) (bits : ℕ) (sdu : List ℕ)
-      → let o = tmaCall m t kind n tag header bits sdu in Queues m t (o .memory) (isDone (o .reply))
+      → let o = tmaCall m t kind n tag header bits sdu in CountRises m t (o .memory) (isDone (o .reply))

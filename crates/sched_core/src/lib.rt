@@ -9,6 +9,7 @@ use uplink::PhyBlockNum;
 use uplink::Uplink;
 ghost use mathlib.Core.Path.{_≡_};
 ghost use Prim.Native.Nat.{_≤_};
+ghost use Rattle.sizes.specs.Sizes.{timeslots};
 ghost use Rattle.uplink.specs.UplinkEntry.{all};
 ghost use Rattle.sched_core.specs.Station.{withQueued};
 ghost use Rattle.sched_core.specs.Questions.{soundCount, soundStation, legalTimeslot, queuedFor, hasRoom};
@@ -17,7 +18,7 @@ ghost use Rattle.sched_core.specs.Calls.{newCall, advanceCall, ownerCall
 // The station: its uplink, and how many records are queued for each timeslot.
 pub struct Station {
     pub uplink: Uplink,
-    pub queued: [u8; 4],
+    pub queued: [u8; sizes::TIMESLOTS],
 }
 
 // The reply to a call that answers nothing but whether it was done.
@@ -68,11 +69,11 @@ pub struct RequestAnswer {
 }
 
 // Is no more queued for a timeslot than its places hold?
-fn counts_are_sound(queued: [u8; 4]) -> bool
+fn counts_are_sound(queued: [u8; sizes::TIMESLOTS]) -> bool
     ensures { λ r. ⌜ r ≡ all soundCount queued ⌝ }
 {
     let mut sound = true;
-    for i in 0..4 {
+    for i in 0..sizes::TIMESLOTS {
         let n = queued[i] as usize;
         sound = sound & (n <= sizes::PER_TIMESLOT);
     }
@@ -95,7 +96,7 @@ pub fn new(time: TdmaTime) -> Answer
     let u = uplink::new_uplink(time);
     let station = Station {
         uplink: u,
-        queued: [0; 4],
+        queued: [0; sizes::TIMESLOTS],
     };
     if !time.is_valid() {
         return Answer {
@@ -167,8 +168,8 @@ pub fn timeslot_is_legal(timeslot: u8) -> bool
 }
 
 // Question 8.
-pub fn has_room(queued: [u8; 4], timeslot: u8) -> bool
-    requires { ⌜ (1 ≤ timeslot) × (timeslot ≤ 4) ⌝ }
+pub fn has_room(queued: [u8; sizes::TIMESLOTS], timeslot: u8) -> bool
+    requires { ⌜ (1 ≤ timeslot) × (timeslot ≤ timeslots) ⌝ }
     ensures { λ r. ⌜ r ≡ hasRoom (queuedFor queued timeslot) ⌝ }
 {
     let t = (timeslot - 1) as usize;
@@ -177,7 +178,7 @@ pub fn has_room(queued: [u8; 4], timeslot: u8) -> bool
 }
 
 // The station with other numbers of records queued.
-pub fn with_queued(s: Station, queued: [u8; 4]) -> Station
+pub fn with_queued(s: Station, queued: [u8; sizes::TIMESLOTS]) -> Station
     ensures { λ r. ⌜ r ≡ withQueued s queued ⌝ }
 {
     let mut next = s;

@@ -1,6 +1,6 @@
 -- Words that are those of what is read from them: single words, and words one after another. Assumes nothing.
 use mathlib.Core.Path.{_≡_, refl, sym, ap, ap₂, _∙_}
-use mathlib.Core.Bool.{Bool, true, false, _&&_}
+use mathlib.Core.Bool.{Bool, true, false, _&&_, and-assoc, and-true}
 use mathlib.Core.List.{List, [], _∷_, _++_, append-assoc}
 use Prim.Native.Nat.{ℕ, zero, suc, _+_, _*_, _%_, _^_, _≤_, _<_}
 use native.Mathlib.Nat.{mod-lt, mod-eq-of-lt}
@@ -9,9 +9,9 @@ use lib.Dec.{eqb, leb, ltb}
 use lib.ListN.{length, getD, take, drop, replicate}
 use lib.Seq.{drop-cons, drop-drop}
 use borrow.Author.Tests.{eq-eqb, ne-eqb, eqb-true, ltb-true, lt-ltb, le-ltb}
-use Rattle.dl_record.proofs.Tests.{and-assoc, and-true, same-test}
-use Rattle.sdu_store.specs.Cells.{allZero}
-use Rattle.sched_words.specs.Words.{wordOf8, wordOf16, wordOf32, optU8, optU16, optU32, kindWord, kindOf, joined, parts, sameWords}
+use Rattle.dl_record.proofs.Tests.{same-test}
+use Rattle.dl_sdu_store.specs.Cells.{allZero}
+use Rattle.sched_words.specs.Words.{wordOf8, wordOf16, wordOf32, optU8, optU16, optU32, kindWord, kindFrom, wordsOfAll, readAll, sameWords}
 use Rattle.sched_words.specs.Front.{begins}
 
 -- ---- single words
@@ -43,7 +43,7 @@ pub opt32-fits : (w : ℕ) → w < 2 ^ 32 → true ≡ eqb (wordOf32 (optU32 w))
 opt32-fits zero h = refl
 opt32-fits (suc v) h = let e : (v + 1) % 2 ^ 32 ≡ suc v = omega arith in sym (eq-eqb ((v + 1) % 2 ^ 32) (suc v) e)
 
-pub kind-fits : (w : ℕ) → ltb w 5 ≡ eqb (kindWord (kindOf w)) w
+pub kind-fits : (w : ℕ) → ltb w 5 ≡ eqb (kindWord (kindFrom w)) w
 kind-fits zero = refl
 kind-fits (suc zero) = refl
 kind-fits (suc (suc zero)) = refl
@@ -101,23 +101,24 @@ zero-begins (suc n) (w ∷ ws) h = ap₂ _&&_ (eqb-sym w 0) (zero-begins n ws (o
 
 module _ {A : Type 0} (f : A → List ℕ) (g : List ℕ → A) (k : ℕ) (size : (x : A) → length (f x) ≡ k) where
   pub parts-turn : (n : ℕ) (ws : List ℕ)
-      → begins (joined f (parts g k (suc n) ws)) ws ≡ begins (f (g ws)) ws && begins (joined f (parts g k n (drop k ws))) (drop k ws)
-  unfolding joined parts
-  parts-turn n ws = begins-append (f (g ws)) (joined f (parts g k n (drop k ws))) ws k (size (g ws))
+      → begins (wordsOfAll f (readAll g k (suc n) ws)) ws ≡ begins (f (g ws)) ws && begins (wordsOfAll f (readAll g k n (drop k ws))) (drop k ws)
+  unfolding wordsOfAll readAll
+  parts-turn n ws = begins-append (f (g ws)) (wordsOfAll f (readAll g k n (drop k ws))) ws k (size (g ws))
 
-pub joined-append : {A : Type 0} (f : A → List ℕ) (xs ys : List A) → joined f (xs ++ ys) ≡ joined f xs ++ joined f ys
-unfolding joined
+pub joined-append : {A : Type 0} (f : A → List ℕ) (xs ys : List A) → wordsOfAll f (xs ++ ys) ≡ wordsOfAll f xs ++ wordsOfAll f ys
+unfolding wordsOfAll
 joined-append f [] ys = refl
-joined-append f (x ∷ xs) ys = ap (λ (l : List ℕ). f x ++ l) (joined-append f xs ys) ∙ sym (append-assoc (f x) (joined f xs) (joined f ys))
+joined-append f (x ∷ xs) ys = ap (λ (l : List ℕ). f x ++ l) (joined-append f xs ys) ∙ sym (append-assoc (f x) (wordsOfAll f xs) (wordsOfAll f ys))
 
-pub parts-add : {A : Type 0} (g : List ℕ → A) (k n m : ℕ) (ws : List ℕ) → parts g k (n + m) ws ≡ parts g k n ws ++ parts g k m (drop (k * n) ws)
-unfolding parts
+pub parts-add : {A : Type 0} (g : List ℕ → A) (k n m : ℕ) (ws : List ℕ) → readAll g k (n + m) ws ≡ readAll g k n ws ++ readAll g k m (drop (k * n) ws)
+unfolding readAll
 parts-add g k zero m ws =
     let a : 0 + m ≡ m = omega arith in
     let b : 0 ≡ k * 0 = omega arith in
-    ap₂ (λ (i j : ℕ). parts g k i (drop j ws)) a b
+    ap₂ (λ (i j : ℕ). readAll g k i (drop j ws)) a b
 parts-add g k (suc n) m ws =
     let a : suc n + m ≡ suc (n + m) = omega arith in
     let b : k + k * n ≡ k * suc n = omega arith in
-    ap (λ (i : ℕ). parts g k i ws) a
-    ∙ ap (λ (l : List _). g ws ∷ l) (parts-add g k n m (drop k ws) ∙ ap (λ (l : List ℕ). parts g k n (drop k ws) ++ parts g k m l) (drop-drop (k * n) k ws ∙ ap (λ (j : ℕ). drop j ws) b))
+    ap (λ (i : ℕ). readAll g k i ws) a
+    ∙ ap (λ (l : List _). g ws ∷ l) (parts-add g k n m (drop k ws)
+    ∙ ap (λ (l : List ℕ). readAll g k n (drop k ws) ++ readAll g k m l) (drop-drop (k * n) k ws ∙ ap (λ (j : ℕ). drop j ws) b))

@@ -1,6 +1,6 @@
 -- The words of a record fit, word by word. Assumes nothing.
 use mathlib.Core.Path.{_≡_, refl, sym, ap, ap₂, _∙_}
-use mathlib.Core.Bool.{Bool, true, false, _&&_}
+use mathlib.Core.Bool.{Bool, true, false, _&&_, and-assoc, and-true}
 use mathlib.Core.List.{List, [], _∷_, _++_}
 use Prim.Native.Nat.{ℕ, zero, suc, _+_, _-_, _*_, _%_, _≤_, _<_}
 use native.Mathlib.Omega.{arith}
@@ -8,15 +8,15 @@ use lib.Dec.{eqb, leb, ltb}
 use lib.ListN.{length, getD, take, drop, replicate, length-drop}
 use lib.Seq.{drop-drop, drop-cons}
 use borrow.Author.Tests.{eq-eqb, eqb-true}
-use Rattle.dl_record.proofs.Tests.{and-assoc, and-true, same-test}
+use Rattle.dl_record.proofs.Tests.{same-test}
 use Rattle.optional.proofs.Tests.{and-left, and-right, and-intro}
 use Rattle.dl_record.proofs.RecordLaws.{empty-is}
 use Rattle.dl_record.specs.declared.Record.{Record}
 use Rattle.dl_record.specs.Record.{emptyRecord}
 use Rattle.dl_record.specs.Questions.{isEmpty, holdsGrantOnly, headerHoldsGrantOnly}
 use Rattle.mac_pdus.specs.declared.OptChanAlloc.{OptChanAlloc}
-use Rattle.sdu_store.specs.Cells.{allZero}
-use Rattle.sched_words.specs.Words.{optU8, optU16, kindOf, sameWords, allocWords, allocFields, allocFrom, recordWords, recordRead}
+use Rattle.dl_sdu_store.specs.Cells.{allZero}
+use Rattle.sched_words.specs.Words.{recordWordCount, optU8, optU16, kindFrom, sameWords, allocWords, allocFields, allocFrom, recordWords, recordRead}
 use Rattle.sched_words.proofs.WordLaws.{ten-long, record-size, alloc-present}
 use Rattle.sched_words.proofs.RoundTrip.{same-equal}
 use Rattle.sched_words.specs.Front.{begins}
@@ -24,10 +24,11 @@ use Rattle.sched_words.proofs.FitLaws.{eqb-sym, low-fits, opt8-fits, op
 
 -- ---- the channel allocation
 
-nested10 : (a b c d e f g h i j : Bool) → a && b && c && d && e && f && g && h && i && j ≡ a && (b && (c && (d && (e && (f && (g && (h && (i && (j && true)))))))))
+nested10 : (a b c d e f g h i j : Bool) → a && b && c && d && e && f && g && h && i && j ≡ a
+    && (b && (c && (d && (e && (f && (g && (h && (i && (j && true)))))))))
 nested10 a b c d e f g h i j = simp (and-assoc, and-true)
 
-module _ (ws : List ℕ) (size : length ws ≡ 23) where
+module _ (ws : List ℕ) (size : length ws ≡ recordWordCount) where
   pub no-alloc-fits : getD ws 11 0 ≡ 0 → allZero (take 9 (drop 12 ws)) ≡ begins (allocWords (allocFrom (getD ws 11 0) ws)) (drop 11 ws)
   unfolding begins
   no-alloc-fits e =
@@ -44,21 +45,25 @@ module _ (ws : List ℕ) (size : length ws ≡ 23) where
   alloc-fits ne =
       let w : ℕ → ℕ = λ i. getD ws i 0 in
       let low : (i : ℕ) → ltb (w i) 256 ≡ eqb (w i % 256) (w i) = λ i. low-fits 256 (w i) (omega arith) in
-      nested10 (eqb (w 11) 1) (ltb (w 12) 256) (ltb (w 13) 256) (ltb (w 14) 256) (ltb (w 15) 256) (ltb (w 16) 256) (ltb (w 17) 65536) (ltb (w 18) 256) (ltb (w 19) 256) (leb (w 20) 256)
-      ∙ (λ i. eqb-sym (w 11) 1 i && (low 12 i && (low 13 i && (low 14 i && (low 15 i && (low 16 i && (low-fits 65536 (w 17) (omega arith) i && (low 18 i && (low 19 i && (opt8-fits (w 20) i && true))))))))))
+      nested10 (eqb (w 11) 1) (ltb (w 12) 256) (ltb (w 13) 256) (ltb (w 14) 256) (ltb (w 15) 256) (ltb (w 16) 256) (ltb (w 17) 65536) (ltb (w 18) 256)
+      (ltb (w 19) 256) (leb (w 20) 256)
+      ∙ (λ i. eqb-sym (w 11) 1 i && (low 12 i && (low 13 i && (low 14 i
+      && (low 15 i && (low 16 i && (low-fits 65536 (w 17) (omega arith) i && (low 18 i && (low 19 i && (opt8-fits (w 20) i && true))))))))))
       ∙ ap (begins (allocWords (OptChanAlloc.Of (allocFields ws)))) (sym (spelled 10 11 ws (omega arith)))
       ∙ ap (λ (o : OptChanAlloc). begins (allocWords o) (drop 11 ws)) (alloc-present (w 11) ws ne)
 
 -- ---- the record
 
 nested13 : (a b c d e f g h i j k l m : Bool)
-    → a && b && c && d && e && f && g && h && i && j && k && l && m ≡ a && (b && (c && (d && (e && (f && (g && (h && (i && (j && (k && (l && (m && true))))))))))))
+    → a && b && c && d && e && f && g && h && i && j && k && l && m ≡ a
+    && (b && (c && (d && (e && (f && (g && (h && (i && (j && (k && (l && (m && true))))))))))))
 nested13 a b c d e f g h i j k l m = simp (and-assoc, and-true)
 
 -- the words but for the number, which any word is
-pub record-fits : (ws : List ℕ) (alloc : Bool) → length ws ≡ 23 → alloc ≡ begins (allocWords (allocFrom (getD ws 11 0) ws)) (drop 11 ws)
+pub record-fits : (ws : List ℕ) (alloc : Bool) → length ws ≡ recordWordCount → alloc ≡ begins (allocWords (allocFrom (getD ws 11 0) ws)) (drop 11 ws)
     → ltb (getD ws 0 0) 5 && ltb (getD ws 1 0) 256 && leb (getD ws 3 0) 65536 && ltb (getD ws 4 0) 256 && ltb (getD ws 5 0) 256 && ltb (getD ws 6 0) 256
-    && leb (getD ws 7 0) 65536 && leb (getD ws 8 0) 256 && leb (getD ws 9 0) 256 && leb (getD ws 10 0) 256 && alloc && ltb (getD ws 21 0) 65536 && ltb (getD ws 22 0) 65536
+    && leb (getD ws 7 0) 65536 && leb (getD ws 8 0) 256 && leb (getD ws 9 0) 256 && leb (getD ws 10 0) 256 && alloc && ltb (getD ws 21 0) 65536
+    && ltb (getD ws 22 0) 65536
     ≡ sameWords (recordWords (recordRead ws)) ws
 unfolding begins recordWords recordRead
 record-fits ws alloc size e =
@@ -72,8 +77,10 @@ record-fits ws alloc size e =
     ap (begins last) (sym (drop-drop 10 11 ws ∙ spelled 2 21 ws (omega arith))) in
     let from-11 : begins (allocWords o) (drop 11 ws) && begins last (drop 10 (drop 11 ws)) ≡ begins (allocWords o ++ last) (drop 11 ws) =
     sym (begins-append (allocWords o) last (drop 11 ws) 10 (ten-long o)) in
-    nested13 (ltb (w 0) 5) (ltb (w 1) 256) (leb (w 3) 65536) (ltb (w 4) 256) (ltb (w 5) 256) (ltb (w 6) 256) (leb (w 7) 65536) (leb (w 8) 256) (leb (w 9) 256) (leb (w 10) 256) alloc (ltb (w 21) 65536) (ltb (w 22) 65536)
-    ∙ (λ i. kind-fits (w 0) i && (low 1 i && (number i && (opt16-fits (w 3) i && (low 4 i && (low 5 i && (low 6 i && (opt16-fits (w 7) i && (opt8-fits (w 8) i && (opt8-fits (w 9) i && (opt8-fits (w 10) i
+    nested13 (ltb (w 0) 5) (ltb (w 1) 256) (leb (w 3) 65536) (ltb (w 4) 256) (ltb (w 5) 256) (ltb (w 6) 256) (leb (w 7) 65536) (leb (w 8) 256) (leb (w 9) 256)
+    (leb (w 10) 256) alloc (ltb (w 21) 65536) (ltb (w 22) 65536)
+    ∙ (λ i. kind-fits (w 0) i && (low 1 i && (number i && (opt16-fits (w 3) i
+    && (low 4 i && (low 5 i && (low 6 i && (opt16-fits (w 7) i && (opt8-fits (w 8) i && (opt8-fits (w 9) i && (opt8-fits (w 10) i
     && ((ap₂ _&&_ e ((λ j. half 21 j && (half 22 j && true)) ∙ from-21) ∙ from-11) i))))))))))))
     ∙ ap (begins (recordWords (recordRead ws))) (sym (spelled 11 0 ws (omega arith)))
     ∙ begins-whole (recordWords (recordRead ws)) ws (record-size (recordRead ws) ∙ sym size)
@@ -87,7 +94,8 @@ zeros zero (w ∷ ws) e h = absurd (omega (arith, e))
 zeros (suc n) [] e h = absurd (omega (arith, e))
 zeros (suc n) (w ∷ ws) e h = λ i. eqb-true w 0 (and-left (eqb w 0) (allZero ws) h) i ∷ zeros n ws (omega (arith, e)) (and-right (eqb w 0) (allZero ws) h) i
 
-zeros-read : sameWords (recordWords (recordRead (replicate 23 0))) (replicate 23 0) && isEmpty (recordRead (replicate 23 0)) ≡ true
+zeros-read : sameWords (recordWords (recordRead (replicate recordWordCount 0))) (replicate recordWordCount 0)
+    && isEmpty (recordRead (replicate recordWordCount 0)) ≡ true
 unfolding sameWords recordWords recordRead isEmpty holdsGrantOnly headerHoldsGrantOnly
 zeros-read = refl
 
@@ -95,26 +103,27 @@ empty-zeros : allZero (recordWords emptyRecord) ≡ true
 unfolding allZero recordWords
 empty-zeros = refl
 
-pub empty-words : (ws : List ℕ) → length ws ≡ 23 → allZero ws ≡ sameWords (recordWords (recordRead ws)) ws && isEmpty (recordRead ws)
+pub empty-words : (ws : List ℕ) → length ws ≡ recordWordCount → allZero ws ≡ sameWords (recordWords (recordRead ws)) ws && isEmpty (recordRead ws)
 empty-words ws size =
     same-test (allZero ws) (sameWords (recordWords (recordRead ws)) ws && isEmpty (recordRead ws))
-    (λ h. ap (λ (l : List ℕ). sameWords (recordWords (recordRead l)) l && isEmpty (recordRead l)) (zeros 23 ws size h) ∙ zeros-read)
+    (λ h. ap (λ (l : List ℕ). sameWords (recordWords (recordRead l)) l && isEmpty (recordRead l)) (zeros recordWordCount ws size h) ∙ zeros-read)
     (λ h. ap allZero (sym (same-equal _ _ (and-left (sameWords (recordWords (recordRead ws)) ws) (isEmpty (recordRead ws)) h)))
-    ∙ ap (λ (r : Record). allZero (recordWords r)) (empty-is (recordRead ws) (and-right (sameWords (recordWords (recordRead ws)) ws) (isEmpty (recordRead ws)) h)) ∙ empty-zeros)
+    ∙ ap (λ (r : Record). allZero (recordWords r)) (empty-is (recordRead ws)
+    (and-right (sameWords (recordWords (recordRead ws)) ws) (isEmpty (recordRead ws)) h)) ∙ empty-zeros)
 
 -- ---- only the first 23 words are read
 
-alloc-front : (w : ℕ) (ws : List ℕ) → allocFrom w (run 0 23 ws) ≡ allocFrom w ws
+alloc-front : (w : ℕ) (ws : List ℕ) → allocFrom w (run 0 recordWordCount ws) ≡ allocFrom w ws
 alloc-front zero ws = refl
 alloc-front (suc w) ws = refl
 
-pub read-front : (ws : List ℕ) → 23 ≤ length ws → recordRead (take 23 ws) ≡ recordRead ws
+pub read-front : (ws : List ℕ) → recordWordCount ≤ length ws → recordRead (take recordWordCount ws) ≡ recordRead ws
 unfolding recordRead
 read-front ws h =
     let w : ℕ → ℕ = λ i. getD ws i 0 in
-    ap (λ (l : List ℕ). recordRead (take 23 l)) (spelled 23 0 ws h)
+    ap (λ (l : List ℕ). recordRead (take recordWordCount l)) (spelled recordWordCount 0 ws h)
     ∙ (λ i. record {
-      kind = kindOf (w 0);
+      kind = kindFrom (w 0);
       «address_kind» = w 1 % 256;
       number = w 2;
       tag = optU16 (w 3);

@@ -1,7 +1,11 @@
 pub mod WordLaws
 pub mod FitLaws
 pub mod FitStation
+pub mod StoreLaws
 pub mod RoundTrip
+pub mod SoundStation
+pub mod StationWords
 pub mod FitRecord
 pub mod QueueRoundTrip
 pub mod WordsQueue
+pub mod TimeslotWords

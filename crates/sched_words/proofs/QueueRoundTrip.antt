@@ -1,13 +1,15 @@
 -- The same for records and the queue. Assumes nothing.
-use mathlib.Core.Path.{_≡_, refl, sym, ap, _∙_}
+use mathlib.Core.Path.{_≡_, refl, sym, ap, _∙_, subst}
 use mathlib.Core.Bool.{true, false, not, _&&_}
 use mathlib.Core.List.{List, [], _∷_, _++_, append-nil}
 use Prim.Native.Nat.{ℕ, zero, suc, _%_, _*_, _^_, _≤_, _<_}
 use native.Mathlib.Numerals.{add-one}
 use native.Mathlib.Omega.{arith}
 use lib.Dec.{eqb, leb, ltb}
-use lib.ListN.{length, getD, drop, take, replicate, length-drop}
+use lib.ListN.{length, getD, drop, take, replicate, length-drop, take-append-drop}
 use borrow.Author.Tests.{eq-eqb, eqb-true, leb-true, ltb-true}
+use Rattle.lists.proofs.Every.{All, all-append, all-drop}
+use Rattle.sizes.specs.Sizes.{perTimeslot, queuePlaces, timeslotOctets}
 use Rattle.optional.specs.declared.OptU8.{OptU8}
 use Rattle.optional.specs.declared.OptU16.{OptU16}
 use Rattle.optional.proofs.Tests.{and-left, and-right}
@@ -17,19 +19,20 @@ use Rattle.mac_pdus.specs.declared.OptChanAlloc.{OptChanAlloc}
 use Rattle.dl_record.specs.declared.Kind.{Kind}
 use Rattle.dl_record.specs.declared.Record.{Record}
 use Rattle.mac_pdus.specs.Legal.{fits, absentU8, absentU16, absentChanAlloc, optBelow, optFits, legalFrame18, legalChanAlloc, legalOptChanAlloc, legalQueued}
-use Rattle.mac_pdus.proofs.Conjunctions.{and3, and4, and10}
+use Rattle.mac_pdus.proofs.Conjunctions.{and3, and4, and10, and6}
 use Rattle.dl_record.specs.Record.{emptyRecord, resourceOf}
 use Rattle.dl_record.proofs.HeaderLaws.{legal-fields}
-use Rattle.dl_record.proofs.Tests.{and6}
 use Rattle.dl_record.proofs.RecordLaws.{empty-is}
-use Rattle.sdu_store.specs.Cells.{cleanPast}
+use Rattle.dl_sdu_store.specs.Cells.{cleanPast}
 use Rattle.dl_record.specs.Questions.{legalAddress, headerHoldsGrantOnly, holdsGrantOnly, soundAs, soundRecord, isEmpty}
 use Rattle.dl_queue.specs.Questions.{soundPlace, soundPlaces, soundQueue}
 use Rattle.sched_core.specs.Questions.{Memory}
 use Rattle.sched_core.specs.Invariant.{SoundMemory}
-use Rattle.sched_words.specs.Words.{stationWords, stationFrom, wordOf8, wordOf16, optU8, optU16, kindWord, kindOf, allocWords, allocFrom, recordWords, recordRead, recordFrom, noRecord, queueWords, recordsRead, queueFrom, recordsFrom}
+use Rattle.sched_words.specs.Words.{recordWordCount, queueWordCount, stationWords, stationFrom, wordOf8, wordOf16, optU8, optU16, kindWord, kindFrom}
+use Rattle.sched_words.specs.Words.{allocWords, allocFrom, recordWords, recordRead, recordFrom, noRecord, queueWords, recordsRead, queueFrom}
+use Rattle.sched_words.specs.Words.{recordsFrom}
 use Rattle.sched_words.proofs.WordLaws.{record-size, length-joined}
-use Rattle.sched_words.proofs.RoundTrip.{small8, small16, Every, read-back, words-of, parts-back, station-back}
+use Rattle.sched_words.proofs.RoundTrip.{small8, small16, read-back, words-of, parts-back, station-back}
 
 -- ---- a record whose fields have the widths of their types
 
@@ -80,7 +83,7 @@ back-16 : (o : OptU16) → Fits16 o → optU16 (wordOf16 o) ≡ o
 back-16 OptU16.Absent h = refl
 back-16 (OptU16.Of v) h = rw (add-one, small16 v h)
 
-kind-back : (k : Kind) → kindOf (kindWord k) ≡ k
+kind-back : (k : Kind) → kindFrom (kindWord k) ≡ k
 kind-back Kind.Grant = refl
 kind-back Kind.Ack = refl
 kind-back Kind.Record = refl
@@ -134,7 +137,8 @@ record-read-back r f rest =
         «usage_marker» = back-8 (h .«usage_marker») (f .marker) i;
         «power_control_element» = back-8 (h .«power_control_element») (f .power) i;
         «slot_granting_element» = back-8 (h .«slot_granting_element») (f .grant) i;
-        «chan_alloc_element» = alloc-back (r .bits) (r .sent) rest o (f .alloc) (kindWord (r .kind)) (r .«address_kind») (r .number) (wordOf16 (r .tag)) (h .«pos_of_grant»)
+        «chan_alloc_element» = alloc-back (r .bits) (r .sent) rest o (f .alloc) (kindWord (r .kind)) (r .«address_kind») (r .number) (wordOf16 (r .tag))
+            (h .«pos_of_grant»)
             (h .«encryption_mode») (h .«random_access_flag») (wordOf16 (h .«event_label»)) (wordOf8 (h .«usage_marker»)) (wordOf8 (h .«power_control_element»))
             (wordOf8 (h .«slot_granting_element»)) i;
       };
@@ -148,13 +152,14 @@ unfolding recordFrom
 record-back r f = read-back recordWords recordRead noRecord r (ap recordRead (sym (append-nil (recordWords r))) ∙ record-read-back r f [])
 
 -- and 64 records those that theirs stand for
-pub queue-back : (rs : List Record) → length rs ≡ 64 → Every RecordFits rs → recordsFrom (queueWords rs) ≡ rs
+pub queue-back : (rs : List Record) → length rs ≡ queuePlaces → All RecordFits rs → recordsFrom (queueWords rs) ≡ rs
 unfolding recordsFrom queueFrom
 queue-back rs e f =
-    let size : length (queueWords rs) ≡ 1472 = length-joined recordWords 23 record-size rs ∙ omega (arith, e) in
+    let size : length (queueWords rs) ≡ queueWordCount = length-joined recordWords recordWordCount record-size rs ∙ omega (arith, e) in
     rw (eq-eqb _ _ size)
-    (read-back queueWords recordsRead (replicate 64 noRecord) rs
-    (ap recordsRead (sym (append-nil (queueWords rs))) ∙ parts-back recordWords recordRead 23 record-size RecordFits record-read-back 64 rs [] e f))
+    (read-back queueWords recordsRead (replicate queuePlaces noRecord) rs
+    (ap recordsRead (sym (append-nil (queueWords rs))) ∙ parts-back recordWords recordRead recordWordCount record-size RecordFits record-read-back queuePlaces
+    rs [] e f))
 
 -- ---- the fields of a sound record have the widths of their types, but for the tag, of which question 1 asks nothing
 
@@ -182,8 +187,10 @@ alloc-fits : (o : OptChanAlloc) → legalOptChanAlloc o ≡ true → AllocFits o
 unfolding legalChanAlloc
 alloc-fits OptChanAlloc.Absent h = tt
 alloc-fits (OptChanAlloc.Of c) h =
-    let p = and10 (fits 2 (c .«alloc_type»)) (fits 4 (c .«ts_assigned»)) (fits 2 (c .«ul_dl_assigned»)) (ltb 0 (c .«ul_dl_assigned»)) (fits 1 (c .«clch_permission»))
-    (fits 1 (c .«cell_change_flag»)) (fits 12 (c .«carrier_num»)) (eqb (c .«ext_carrier_num_flag») 0) (fits 2 (c .«mon_pattern»)) (legalFrame18 (c .«mon_pattern») (c .«frame18_mon_pattern»)) h in
+    let p = and10 (fits 2 (c .«alloc_type»)) (fits 4 (c .«ts_assigned»)) (fits 2 (c .«ul_dl_assigned»)) (ltb 0 (c .«ul_dl_assigned»))
+    (fits 1 (c .«clch_permission»))
+    (fits 1 (c .«cell_change_flag»)) (fits 12 (c .«carrier_num»)) (eqb (c .«ext_carrier_num_flag») 0) (fits 2 (c .«mon_pattern»))
+    (legalFrame18 (c .«mon_pattern») (c .«frame18_mon_pattern»)) h in
     record {
       kind = let k : c .«alloc_type» < 2 ^ 2 = ltb-true _ _ (p .0) in omega arith;
       slots = let k : c .«ts_assigned» < 2 ^ 4 = ltb-true _ _ (p .1) in omega arith;
@@ -203,7 +210,8 @@ module _ (r : Record) (kind-small : r .«address_kind» < 256) (tag-fits : Fits1
   bare-fits e g u =
       let h = r .header in
       let b = and4 (eqb (r .bits) 0) (eqb (r .sent) 0) (absentU16 (r .tag)) (headerHoldsGrantOnly h) e in
-      let q = and6 (eqb (h .«pos_of_grant») 0) (eqb (h .«encryption_mode») 0) (eqb (h .«random_access_flag») 0) (absentU16 (h .«event_label»)) (absentU8 (h .«power_control_element»)) (absentChanAlloc (h .«chan_alloc_element»)) (b .3) in
+      let q = and6 (eqb (h .«pos_of_grant») 0) (eqb (h .«encryption_mode») 0) (eqb (h .«random_access_flag») 0) (absentU16 (h .«event_label»))
+      (absentU8 (h .«power_control_element»)) (absentChanAlloc (h .«chan_alloc_element»)) (b .3) in
       record {
         address = kind-small;
         tag = tag-fits;
@@ -242,7 +250,8 @@ module _ (r : Record) (kind-small : r .«address_kind» < 256) (tag-fits : Fits1
   as-kind : (k : Kind) → soundAs k r ≡ true → RecordFits r
   as-kind Kind.Grant e =
       let h = r .header in
-      let p = and4 (holdsGrantOnly r) (not (absentU8 (h .«slot_granting_element»))) (optFits 8 (h .«slot_granting_element»)) (optFits 6 (h .«usage_marker»)) e in
+      let p = and4 (holdsGrantOnly r) (not (absentU8 (h .«slot_granting_element»))) (optFits 8 (h .«slot_granting_element»))
+      (optFits 6 (h .«usage_marker»)) e in
       bare-fits (p .0) (below (2 ^ 8) (h .«slot_granting_element») (omega arith) (p .2)) (below (2 ^ 6) (h .«usage_marker») (omega arith) (p .3))
   as-kind Kind.Ack e =
       let h = r .header in
@@ -291,23 +300,14 @@ empty-fits =
 abbrev pub Tagged : Record → Type 0
 Tagged r = Fits16 (r .tag)
 
-every-append : (P : Record → Type 0) (n : ℕ) (rs : List Record) → Every P (take n rs) → Every P (drop n rs) → Every P rs
-unfolding Every
-every-append P zero rs h k = k
-every-append P (suc n) [] h k = tt
-every-append P (suc n) (r ∷ rs) h k = (h .0, every-append P n rs (h .1) k)
-
-every-drop : (P : Record → Type 0) (n : ℕ) (rs : List Record) → Every P rs → Every P (drop n rs)
-unfolding Every
-every-drop P zero rs h = h
-every-drop P (suc n) [] h = tt
-every-drop P (suc n) (r ∷ rs) h = every-drop P n rs (h .1)
+all-parts : (P : Record → Type 0) (n : ℕ) (rs : List Record) → All P (take n rs) → All P (drop n rs) → All P rs
+all-parts P n rs h k = subst (λ (l : List Record). All P l) (take-append-drop n rs) (all-append P (take n rs) (drop n rs) h k)
 
 empty-place : (r : Record) → isEmpty r ≡ true → RecordFits r
 empty-place r h = rw (empty-is r h) empty-fits
 
-places-fit : (k n : ℕ) (rs : List Record) (s : List ℕ) → soundPlaces k n rs s ≡ true → Every Tagged rs → Every RecordFits (take k rs)
-unfolding Every soundPlaces soundPlace
+places-fit : (k n : ℕ) (rs : List Record) (s : List ℕ) → soundPlaces k n rs s ≡ true → All Tagged rs → All RecordFits (take k rs)
+unfolding soundPlaces soundPlace
 places-fit zero n rs s h t = tt
 places-fit (suc k) n [] s h t = tt
 places-fit (suc k) zero (r ∷ rs) s h t =
@@ -321,18 +321,19 @@ places-fit (suc k) (suc n) (r ∷ rs) s h t =
       places-fit k n rs (drop 256 s) (and-right (soundRecord r && cleanPast (r .bits) (take 256 s)) (soundPlaces k n rs (drop 256 s)) h) (t .1),
     )
 
-queue-fits : (ns : List ℕ) (rs : List Record) (s : List ℕ) → soundQueue ns rs s ≡ true → Every Tagged rs → length rs ≡ 16 * length ns → Every RecordFits rs
-unfolding soundQueue Every
+queue-fits : (ns : List ℕ) (rs : List Record) (s : List ℕ) → soundQueue ns rs s ≡ true → All Tagged rs → length rs ≡ perTimeslot * length ns
+    → All RecordFits rs
+unfolding soundQueue
 queue-fits [] [] s h t e = tt
 queue-fits [] (r ∷ rs) s h t e = absurd (omega (arith, e))
 queue-fits (n ∷ ns) rs s h t e =
-    let a = and-left (leb n 16 && soundPlaces 16 n rs s) (soundQueue ns (drop 16 rs) (drop 4096 s)) h in
-    let b = and-right (leb n 16 && soundPlaces 16 n rs s) (soundQueue ns (drop 16 rs) (drop 4096 s)) h in
-    every-append RecordFits 16 rs (places-fit 16 n rs s (and-right (leb n 16) (soundPlaces 16 n rs s) a) t)
-    (queue-fits ns (drop 16 rs) (drop 4096 s) b (every-drop Tagged 16 rs t) (length-drop 16 rs ∙ omega (arith, e)))
+    let a = and-left (leb n perTimeslot && soundPlaces perTimeslot n rs s) (soundQueue ns (drop perTimeslot rs) (drop timeslotOctets s)) h in
+    let b = and-right (leb n perTimeslot && soundPlaces perTimeslot n rs s) (soundQueue ns (drop perTimeslot rs) (drop timeslotOctets s)) h in
+    all-parts RecordFits perTimeslot rs (places-fit perTimeslot n rs s (and-right (leb n perTimeslot) (soundPlaces perTimeslot n rs s) a) t)
+    (queue-fits ns (drop perTimeslot rs) (drop timeslotOctets s) b (all-drop Tagged perTimeslot rs t) (length-drop perTimeslot rs ∙ omega (arith, e)))
 
 -- a sound memory, with tags of 16 bits, is the one that its words stand for
-pub memory-back : (m : Memory) → SoundMemory m → Every Tagged (m .records)
+pub memory-back : (m : Memory) → SoundMemory m → All Tagged (m .records)
     → (stationFrom (stationWords (m .station)) ≡ m .station) × (recordsFrom (queueWords (m .records)) ≡ m .records)
 memory-back m h t = (
   station-back (m .station) (record { table = h .table; counters = h .counters; counts = h .counts }) (h .station),
@@ -353,20 +354,24 @@ pub record-words-back : (ws : List ℕ) → soundRecord (recordFrom ws) ≡ true
 unfolding recordFrom
 record-words-back ws = words-of recordWords recordRead noRecord (λ (r : Record). soundRecord r ≡ true) (λ h. not-both (soundRecord noRecord) h not-sound) ws
 
-no-place : (n : ℕ) (s : List ℕ) → soundPlaces 16 n (replicate 64 noRecord) s ≡ false
+no-place : (n : ℕ) (s : List ℕ) → soundPlaces perTimeslot n (replicate queuePlaces noRecord) s ≡ false
 unfolding soundPlaces soundPlace
 no-place zero s = rw not-empty
 no-place (suc n) s = rw not-sound
 
-pub no-queue : (n : ℕ) (ns s : List ℕ) → soundQueue (n ∷ ns) (replicate 64 noRecord) s ≡ true → ⊥
+pub no-queue : (n : ℕ) (ns s : List ℕ) → soundQueue (n ∷ ns) (replicate queuePlaces noRecord) s ≡ true → ⊥
 unfolding soundQueue
 no-queue n ns s h =
-    not-both (soundPlaces 16 n (replicate 64 noRecord) s)
-    (and-right (leb n 16) (soundPlaces 16 n (replicate 64 noRecord) s) (and-left (leb n 16 && soundPlaces 16 n (replicate 64 noRecord) s) (soundQueue ns (drop 16 (replicate 64 noRecord)) (drop 4096 s)) h))
+    not-both (soundPlaces perTimeslot n (replicate queuePlaces noRecord) s)
+    (and-right (leb n perTimeslot) (soundPlaces perTimeslot n (replicate queuePlaces noRecord) s)
+    (and-left (leb n perTimeslot && soundPlaces perTimeslot n (replicate queuePlaces noRecord) s)
+    (soundQueue ns (drop perTimeslot (replicate queuePlaces noRecord)) (drop timeslotOctets s)) h))
     (no-place n s)
 
 -- of 1,472 words that stand for a sound queue: they are its words
-pub queue-words-back : (n : ℕ) (ns s ws : List ℕ) → length ws ≡ 1472 → soundQueue (n ∷ ns) (recordsFrom ws) s ≡ true → queueWords (recordsFrom ws) ≡ ws
+pub queue-words-back : (n : ℕ) (ns s ws : List ℕ) → length ws ≡ queueWordCount → soundQueue (n ∷ ns) (recordsFrom ws) s ≡ true → queueWords (recordsFrom ws)
+    ≡ ws
 unfolding recordsFrom queueFrom
 queue-words-back n ns s ws e =
-    rw (eq-eqb _ _ e) (words-of queueWords recordsRead (replicate 64 noRecord) (λ (rs : List Record). soundQueue (n ∷ ns) rs s ≡ true) (no-queue n ns s) ws)
+    rw (eq-eqb _ _ e) (words-of queueWords recordsRead (replicate queuePlaces noRecord) (λ (rs : List Record). soundQueue (n ∷ ns) rs s ≡ true)
+    (no-queue n ns s) ws)

@@ -1,7 +1,7 @@
 -- Words stand for one station and one queue, and these for one list of words. So what one call leaves is what the next one gets, and a history over words is
 -- a history of document 01. Assumes nothing.
 use mathlib.Core.Path.{_≡_, refl, sym, ap, _∙_}
-use mathlib.Core.Bool.{Bool, true, false, _&&_, cond}
+use mathlib.Core.Bool.{Bool, true, false, cond}
 use mathlib.Core.List.{List, [], _∷_, _++_, append-assoc, append-nil}
 use Prim.Native.Nat.{ℕ, zero, suc, _+_, _%_, _^_, _≤_, _<_}
 use native.Mathlib.Numerals.{add-one}
@@ -10,22 +10,24 @@ use lib.Dec.{eqb, leb}
 use lib.ListN.{length, getD, drop}
 use lib.Seq.{drop-at, drop-drop}
 use borrow.Author.Tests.{eqb-true, eq-eqb, leb-true, ltb-true}
+use Rattle.lists.proofs.Every.{All, all-weaken}
 use Rattle.sizes.specs.Sizes.{timeslots, perTimeslot}
 use Rattle.optional.specs.declared.OptU8.{OptU8}
 use Rattle.optional.specs.declared.OptU32.{OptU32}
 use Rattle.tdma_time.specs.Time.{valid}
 use Rattle.uplink.specs.declared.Entry.{Entry}
-use Rattle.uplink.specs.UplinkEntry.{Table, FourRowsOfEighteen, all, soundOwner, soundCounter, soundMarker, soundEntry, soundRow, soundTable, soundCounters}
+use Rattle.uplink.specs.UplinkEntry.{Table, FourRowsOfEighteen, all, soundOwner, soundCounter, soundMarker, soundEntry, soundRow}
 use Rattle.optional.proofs.Tests.{and-left, and-right}
 use Rattle.uplink.specs.Uplink.{uplinkOf, soundUplink}
 use Rattle.uplink.proofs.Basics.{not-both, four}
 use Rattle.uplink.proofs.Everywhere.{all-at}
-use Rattle.uplink.proofs.SoundLaws.{sound-parts, SoundUplink, uplink-parts}
+use Rattle.uplink.proofs.SoundLaws.{entry-parts, SoundUplink, uplink-parts}
 use Rattle.sched_core.specs.declared.Station.{Station}
 use Rattle.sched_core.specs.Station.{stationOf}
-use Rattle.sched_core.proofs.StationLaws.{sound-parts as sound-station}
+use Rattle.sched_core.proofs.StationLaws.{station-parts}
 use Rattle.sched_core.specs.Questions.{soundCount, soundStation}
-use Rattle.sched_words.specs.Words.{wordOf8, wordOf32, optU8, optU32, joined, parts, sameWords, entryWords, entryFrom, rowWords, rowFrom, fourFrom, tableFrom, stationWords, stationRead, stationFrom, noStation}
+use Rattle.sched_words.specs.Words.{wordOf8, wordOf32, optU8, optU32, wordsOfAll, readAll, sameWords, entryWords, entryFrom, rowWords, rowFrom}
+use Rattle.sched_words.specs.Words.{fourFrom, tableFrom, stationWords, stationRead, stationFrom, noStation}
 use Rattle.sched_words.proofs.WordLaws.{length-joined}
 
 -- ---- words compared
@@ -60,28 +62,24 @@ module _ {A : Type 0} (write : A → List ℕ) (read : List ℕ → A) (none : A
 
 -- ---- elements one after another
 
--- each element of a list is P
-unfoldable pub Every : {A : Type 0} → (A → Type 0) → List A → Type 0
-Every P [] = Unit
-Every P (x ∷ xs) = P x × Every P xs
-
-pub every-all : {A : Type 0} (p : A → Bool) (xs : List A) → all p xs ≡ true → Every (λ (x : A). p x ≡ true) xs
-unfolding Every all
+pub every-all : {A : Type 0} (p : A → Bool) (xs : List A) → all p xs ≡ true → All (λ (x : A). p x ≡ true) xs
+unfolding all
 every-all p [] h = tt
 every-all p (x ∷ xs) h = (and-left (p x) (all p xs) h, every-all p xs (and-right (p x) (all p xs) h))
 
 module _ {A : Type 0} (f : A → List ℕ) (g : List ℕ → A) (k : ℕ) (size : (x : A) → length (f x) ≡ k) (P : A → Type 0)
     (back : (x : A) → P x → (rest : List ℕ) → g (f x ++ rest) ≡ x) where
-  pub parts-back : (n : ℕ) (xs : List A) (rest : List ℕ) → length xs ≡ n → Every P xs → parts g k n (joined f xs ++ rest) ≡ xs
-  unfolding joined parts Every
+  pub parts-back : (n : ℕ) (xs : List A) (rest : List ℕ) → length xs ≡ n → All P xs → readAll g k n (wordsOfAll f xs ++ rest) ≡ xs
+  unfolding wordsOfAll readAll
   parts-back zero [] rest e h = refl
   parts-back zero (x ∷ xs) rest e h = absurd (omega (arith, e))
   parts-back (suc n) [] rest e h = absurd (omega (arith, e))
   parts-back (suc n) (x ∷ xs) rest e h =
       let m : length xs ≡ n = omega (arith, e) in
-      let a : (f x ++ joined f xs) ++ rest ≡ f x ++ (joined f xs ++ rest) = append-assoc (f x) (joined f xs) rest in
-      λ i. (ap g a ∙ back x (h .0) (joined f xs ++ rest)) i
-      ∷ (ap (λ (l : List ℕ). parts g k n (drop k l)) a ∙ ap (parts g k n) (drop-at (f x) (joined f xs ++ rest) k (size x)) ∙ parts-back n xs rest m (h .1)) i
+      let a : (f x ++ wordsOfAll f xs) ++ rest ≡ f x ++ (wordsOfAll f xs ++ rest) = append-assoc (f x) (wordsOfAll f xs) rest in
+      λ i. (ap g a ∙ back x (h .0) (wordsOfAll f xs ++ rest)) i
+      ∷ (ap (λ (l : List ℕ). readAll g k n (drop k l)) a ∙ ap (readAll g k n) (drop-at (f x) (wordsOfAll f xs ++ rest) k (size x))
+      ∙ parts-back n xs rest m (h .1)) i
 
 -- ---- the station
 
@@ -104,26 +102,26 @@ marker-back (OptU8.Of m) h = let k : m ≤ 62 = leb-true m 62 (and-right (leb 4 
 
 entry-back : (e : Entry) → soundEntry e ≡ true → (rest : List ℕ) → entryFrom (entryWords e ++ rest) ≡ e
 entry-back e h rest =
-    let p = sound-parts e h in
-    λ i. record { ul1 = owner-back (e .ul1) (p .first) i; ul2 = owner-back (e .ul2) (p .second) i; «usage_marker» = marker-back (e .«usage_marker») (p .marker) i }
+    let p = entry-parts e h in
+    λ i. record {
+      ul1 = owner-back (e .ul1) (p .first) i;
+      ul2 = owner-back (e .ul2) (p .second) i;
+      «usage_marker» = marker-back (e .«usage_marker»)
+          (p .marker) i;
+    }
 
 row-back : (row : List Entry) (rest : List ℕ) → length row ≡ 18 → soundRow row ≡ true → rowFrom (rowWords row ++ rest) ≡ row
-row-back row rest size h = parts-back entryWords entryFrom 3 (λ e. refl) (λ (e : Entry). soundEntry e ≡ true) entry-back 18 row rest size (every-all soundEntry row h)
+row-back row rest size h = parts-back entryWords entryFrom 3 (λ e. refl) (λ (e : Entry). soundEntry e ≡ true) entry-back 18 row rest size
+    (every-all soundEntry row h)
 
 -- four numbers of 8 bits
-four-back : (v : List ℕ) (rest : List ℕ) → length v ≡ 4 → Every (λ (x : ℕ). x < 256) v → fourFrom (v ++ rest) ≡ v
-unfolding Every
+four-back : (v : List ℕ) (rest : List ℕ) → length v ≡ 4 → All (λ (x : ℕ). x < 256) v → fourFrom (v ++ rest) ≡ v
 four-back [] rest e h = absurd (omega (arith, e))
 four-back (a ∷ []) rest e h = absurd (omega (arith, e))
 four-back (a ∷ b ∷ []) rest e h = absurd (omega (arith, e))
 four-back (a ∷ b ∷ c ∷ []) rest e h = absurd (omega (arith, e))
 four-back (a ∷ b ∷ c ∷ d ∷ []) rest e h = λ i. small8 a (h .0) i ∷ small8 b (h .1 .0) i ∷ small8 c (h .1 .1 .0) i ∷ small8 d (h .1 .1 .1 .0) i ∷ []
 four-back (a ∷ b ∷ c ∷ d ∷ x ∷ v) rest e h = absurd (omega (arith, e))
-
-pub every-map : {A : Type 0} (P Q : A → Type 0) → ((x : A) → P x → Q x) → (xs : List A) → Every P xs → Every Q xs
-unfolding Every
-every-map P Q f [] h = tt
-every-map P Q f (x ∷ xs) h = (f x (h .0), every-map P Q f xs (h .1))
 
 -- the lengths of a station's arrays
 pub record Arrays (s : Station) : Type 0 where
@@ -133,7 +131,7 @@ pub record Arrays (s : Station) : Type 0 where
 
 module _ (s : Station) (sizes : Arrays s) (sound : soundStation s ≡ true) where
   abbrev judged : SoundUplink (s .uplink)
-  judged = uplink-parts (s .uplink) (sound-station s sound .uplink)
+  judged = uplink-parts (s .uplink) (station-parts s sound .uplink)
 
   abbrev tb : Table
   tb = s .uplink .rows
@@ -141,15 +139,16 @@ module _ (s : Station) (sizes : Arrays s) (sound : soundStation s ≡ true) wher
   rows : (i : ℕ) → i < timeslots → soundRow (getD tb i []) ≡ true
   rows i h = all-at soundRow tb i [] (omega (arith, sizes .table .rows)) (judged .table)
 
-  counters-small : Every (λ (x : ℕ). x < 256) (s .uplink .«next_usage_marker»)
+  counters-small : All (λ (x : ℕ). x < 256) (s .uplink .«next_usage_marker»)
   counters-small =
-      every-map (λ (x : ℕ). soundCounter x ≡ true) (λ (x : ℕ). x < 256) (λ x h. let k : x ≤ 62 = leb-true x 62 (and-right (leb 4 x) (leb x 62) h) in omega arith) _
-      (every-all soundCounter _ (judged .counters))
+      all-weaken (λ (x : ℕ). soundCounter x ≡ true) (λ (x : ℕ). x < 256)
+      (λ x h. let k : x ≤ 62 = leb-true x 62 (and-right (leb 4 x) (leb x 62) h) in omega arith) (s .uplink .«next_usage_marker»)
+      (every-all soundCounter (s .uplink .«next_usage_marker») (judged .counters))
 
-  counts-small : Every (λ (x : ℕ). x < 256) (s .queued)
+  counts-small : All (λ (x : ℕ). x < 256) (s .queued)
   counts-small =
-      every-map (λ (x : ℕ). soundCount x ≡ true) (λ (x : ℕ). x < 256) (λ x h. let k : x ≤ perTimeslot = leb-true x perTimeslot h in omega arith) _
-      (every-all soundCount _ (sound-station s sound .counts))
+      all-weaken (λ (x : ℕ). soundCount x ≡ true) (λ (x : ℕ). x < 256) (λ x h. let k : x ≤ perTimeslot = leb-true x perTimeslot h in omega arith) (s .queued)
+      (every-all soundCount (s .queued) (station-parts s sound .counts))
 
   abbrev r1 : List ℕ
   r1 = rowWords (getD tb 0 [])
@@ -224,12 +223,18 @@ module _ (s : Station) (sizes : Arrays s) (sound : soundStation s ≡ true) wher
       ∙ four tb [] (sizes .table .rows)
 
   station-read-back : stationRead (stationWords s) ≡ s
-  unfolding stationRead stationWords Every
+  unfolding stationRead stationWords
   station-read-back =
       let x = s .uplink .time in
       let v = judged .time in
       λ i. stationOf
-      (uplinkOf (record { t = small8 (x .t) (omega (arith, v .t-high)) i; f = small8 (x .f) (omega (arith, v .f-high)) i; m = small8 (x .m) (omega (arith, v .m-high)) i; h = small16 (x .h) (omega (arith, v .h-high)) i })
+      (uplinkOf (record {
+        t = small8 (x .t) (omega (arith, v .t-high)) i;
+        f = small8 (x .f) (omega (arith, v .f-high)) i;
+        m = small8 (x .m)
+            (omega (arith, v .m-high)) i;
+        h = small16 (x .h) (omega (arith, v .h-high)) i;
+      })
       (table-back i)
       ((ap fourFrom at-220 ∙ four-back c (s .queued) (sizes .counters) counters-small) i))
       ((ap fourFrom at-224 ∙ four-back (s .queued) [] (sizes .counts) counts-small) i)
@@ -239,11 +244,12 @@ module _ (s : Station) (sizes : Arrays s) (sound : soundStation s ≡ true) wher
   unfolding stationFrom
   station-back = read-back stationWords stationRead noStation s station-read-back
 
-unsound-none : soundStation noStation ≡ false
+pub unsound-none : soundStation noStation ≡ false
 unfolding soundStation soundUplink valid
 unsound-none = refl
 
 -- words that stand for a sound station are that station's words
 pub station-words-back : (ws : List ℕ) → soundStation (stationFrom ws) ≡ true → stationWords (stationFrom ws) ≡ ws
 unfolding stationFrom
-station-words-back ws = words-of stationWords stationRead noStation (λ (s : Station). soundStation s ≡ true) (λ h. not-both (soundStation noStation) h unsound-none) ws
+station-words-back ws = words-of stationWords stationRead noStation (λ (s : Station). soundStation s ≡ true)
+    (λ h. not-both (soundStation noStation) h unsound-none) ws

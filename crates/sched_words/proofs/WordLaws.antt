@@ -15,7 +15,8 @@ use Rattle.optional.specs.declared.OptU32.{OptU32}
 use Rattle.mac_pdus.specs.declared.OptChanAlloc.{OptChanAlloc}
 use Rattle.dl_record.specs.declared.Kind.{Kind}
 use Rattle.dl_record.specs.declared.Record.{Record}
-use Rattle.sched_words.specs.Words.{Stored, optU8, optU16, optU32, kindOf, joined, parts, sameWords, allocWords, allocFields, allocFrom, recordWords}
+use Rattle.sched_words.specs.Words.{recordWordCount, Stored, optU8, optU16, optU32, kindFrom, wordsOfAll, readAll, sameWords, allocWords, allocFields}
+use Rattle.sched_words.specs.Words.{allocFrom, recordWords}
 
 -- ---- single words
 
@@ -31,7 +32,7 @@ pub present-32 : (w : ℕ) → (w ≡ 0 → ⊥) → OptU32.Of (w - 1) ≡ optU3
 present-32 zero h = absurd (h refl)
 present-32 (suc w) h = rw sub-one
 
-pub started-kind : (w : ℕ) → (w ≡ 0 → ⊥) → (w ≡ 1 → ⊥) → (w ≡ 2 → ⊥) → (w ≡ 3 → ⊥) → Kind.Started ≡ kindOf w
+pub started-kind : (w : ℕ) → (w ≡ 0 → ⊥) → (w ≡ 1 → ⊥) → (w ≡ 2 → ⊥) → (w ≡ 3 → ⊥) → Kind.Started ≡ kindFrom w
 started-kind zero a b c d = absurd (a refl)
 started-kind (suc zero) a b c d = absurd (b refl)
 started-kind (suc (suc zero)) a b c d = absurd (c refl)
@@ -49,10 +50,11 @@ pub ten-long : (o : OptChanAlloc) → length (allocWords o) ≡ 10
 ten-long OptChanAlloc.Absent = refl
 ten-long (OptChanAlloc.Of c) = refl
 
-pub record-size : (r : Record) → length (recordWords r) ≡ 23
+pub record-size : (r : Record) → length (recordWords r) ≡ recordWordCount
 unfolding recordWords
 record-size r =
-    let e : length (allocWords (r .header .«chan_alloc_element») ++ r .bits ∷ r .sent ∷ []) ≡ 12 = length-append (allocWords (r .header .«chan_alloc_element»)) (r .bits ∷ r .sent ∷ []) ∙ omega (arith, ten-long (r .header .«chan_alloc_element»)) in
+    let e : length (allocWords (r .header .«chan_alloc_element») ++ r .bits ∷ r .sent ∷ [])
+    ≡ 12 = length-append (allocWords (r .header .«chan_alloc_element»)) (r .bits ∷ r .sent ∷ []) ∙ omega (arith, ten-long (r .header .«chan_alloc_element»)) in
     ap (λ (n : ℕ). suc (suc (suc (suc (suc (suc (suc (suc (suc (suc (suc n))))))))))) e
 
 pub no-alloc : (w : ℕ) (ws : List ℕ) → w ≡ 0 → OptChanAlloc.Absent ≡ allocFrom w ws
@@ -82,7 +84,8 @@ pub sets-append : (l : List ℕ) (at : ℕ) (f g : List ℕ) → sets l at (f ++
 sets-append l at [] g = ap (λ (n : ℕ). sets l n g) (sym (add-zero at))
 sets-append l at (x ∷ f) g = sets-append (set l at x) (suc at) f g ∙ ap (λ (n : ℕ). sets (sets (set l at x) (suc at) f) n g) (omega arith)
 
-pub store-next : (l src : List ℕ) (at i : ℕ) → i < length src → sets (set l (at + i) (getD src i 0)) (at + (i + 1)) (drop (i + 1) src) ≡ sets l (at + i) (drop i src)
+pub store-next : (l src : List ℕ) (at i : ℕ) → i < length src → sets (set l (at + i) (getD src i 0)) (at + (i + 1)) (drop (i + 1) src)
+    ≡ sets l (at + i) (drop i src)
 store-next l src at i h =
     let e : at + (i + 1) ≡ suc (at + i) = omega arith in
     rw (e, add-one i, drop-cons src i 0 h)
@@ -96,7 +99,8 @@ sets-whole l f e =
     sets-eq f l 0 (omega arith) ∙ ap (λ (r : List ℕ). f ++ r) (drop-of-length-le l {i = 0 + length f} (omega arith)) ∙ append-nil f
 
 -- one run of words after another
-pub stored-on : {l l' ws : List ℕ} {at n : ℕ} → Stored l at l' ws n → {l'' v : List ℕ} {p k : ℕ} → Stored l' p l'' v k → p ≡ at + n → (m : ℕ) → m ≡ n + k → Stored l at l'' (ws ++ v) m
+pub stored-on : {l l' ws : List ℕ} {at n : ℕ} → Stored l at l' ws n → {l'' v : List ℕ} {p k : ℕ} → Stored l' p l'' v k → p ≡ at + n → (m : ℕ) → m ≡ n + k
+    → Stored l at l'' (ws ++ v) m
 stored-on {l} {l'} {ws} {at} {n} s {l''} {v} {p} t e m g =
     record {
       words =
@@ -111,33 +115,33 @@ stored-whole {l} {l'} {ws} s e = s .words ∙ sets-whole l ws (s .size ∙ sym e
 -- ---- elements stored and read
 
 module _ {A : Type 0} (f : A → List ℕ) (k : ℕ) (size : (x : A) → length (f x) ≡ k) where
-  pub length-joined : (xs : List A) → length (joined f xs) ≡ length xs * k
-  unfolding joined
+  pub length-joined : (xs : List A) → length (wordsOfAll f xs) ≡ length xs * k
+  unfolding wordsOfAll
   length-joined [] = omega arith
-  length-joined (x ∷ xs) = length-append (f x) (joined f xs) ∙ omega (arith, size x, length-joined xs)
+  length-joined (x ∷ xs) = length-append (f x) (wordsOfAll f xs) ∙ omega (arith, size x, length-joined xs)
 
   -- a turn: element i is stored at p, and the rest from p' on
   pub joined-next : (l l' v : List ℕ) (xs : List A) (p p' i : ℕ) (d : A) → i < length xs → l' ≡ sets l p v → v ≡ f (getD xs i d) → p' ≡ p + k
-      → sets l' p' (joined f (drop (i + 1) xs)) ≡ sets l p (joined f (drop i xs))
-  unfolding joined
+      → sets l' p' (wordsOfAll f (drop (i + 1) xs)) ≡ sets l p (wordsOfAll f (drop i xs))
+  unfolding wordsOfAll
   joined-next l l' v xs p p' i d h stored e next =
       let x = getD xs i d in
       let n : p' ≡ p + length (f x) = omega (arith, size x) in
-      rw (stored, e, n, add-one i, drop-cons xs i d h) (sym (sets-append l p (f x) (joined f (drop (suc i) xs))))
+      rw (stored, e, n, add-one i, drop-cons xs i d h) (sym (sets-append l p (f x) (wordsOfAll f (drop (suc i) xs))))
 
-  pub joined-done : (l : List ℕ) (xs : List A) (p i : ℕ) → length xs ≤ i → sets l p (joined f (drop i xs)) ≡ l
-  unfolding joined
+  pub joined-done : (l : List ℕ) (xs : List A) (p i : ℕ) → length xs ≤ i → sets l p (wordsOfAll f (drop i xs)) ≡ l
+  unfolding wordsOfAll
   joined-done l xs p i h = rw (drop-of-length-le xs {i = i} h)
 
 module _ {A : Type 0} (f : List ℕ → A) (k : ℕ) where
-  pub length-parts : (n : ℕ) (ws : List ℕ) → length (parts f k n ws) ≡ n
-  unfolding parts
+  pub length-parts : (n : ℕ) (ws : List ℕ) → length (readAll f k n ws) ≡ n
+  unfolding readAll
   length-parts zero ws = refl
   length-parts (suc n) ws = ap suc (length-parts n (drop k ws))
 
   -- element i
-  pub part-at : (n i : ℕ) (ws : List ℕ) (d : A) → i < n → getD (parts f k n ws) i d ≡ f (drop (k * i) ws)
-  unfolding parts
+  pub part-at : (n i : ℕ) (ws : List ℕ) (d : A) → i < n → getD (readAll f k n ws) i d ≡ f (drop (k * i) ws)
+  unfolding readAll
   part-at zero i ws d h = absurd (not-suc-le-zero h)
   part-at (suc n) zero ws d h = let e : 0 ≡ k * 0 = omega arith in ap (λ (j : ℕ). f (drop j ws)) e
   part-at (suc n) (suc i) ws d h =

@@ -2,11 +2,11 @@
 use mathlib.Core.Path.{_≡_}
 use mathlib.Core.Bool.{Bool, true, false, _&&_, cond}
 use mathlib.Core.List.{List, [], _∷_, _++_}
-use Prim.Native.Nat.{ℕ, zero, suc, _+_, _%_, _^_}
+use Prim.Native.Nat.{ℕ, zero, suc, _+_, _*_, _%_, _^_}
 use lib.Dec.{eqb}
 use lib.ListN.{length, getD, drop, replicate}
 use lib.Seq.{sets}
-use Rattle.sizes.specs.Sizes.{timeslots}
+use Rattle.sizes.specs.Sizes.{timeslots, queuePlaces}
 use Rattle.optional.specs.declared.OptU8.{OptU8}
 use Rattle.optional.specs.declared.OptU16.{OptU16}
 use Rattle.optional.specs.declared.OptU32.{OptU32}
@@ -22,6 +22,18 @@ use Rattle.dl_record.specs.declared.Record.{Record}
 use Rattle.dl_record.specs.Record.{emptyHeader}
 use Rattle.sched_core.specs.declared.Station.{Station}
 use Rattle.sched_core.specs.Station.{stationOf}
+
+-- ---- how many words
+
+-- those of a station, of a record, and of "a lent run of 64 records"
+abbrev pub stationWordCount : ℕ
+stationWordCount = 228
+
+abbrev pub recordWordCount : ℕ
+recordWordCount = 23
+
+abbrev pub queueWordCount : ℕ
+queueWordCount = recordWordCount * queuePlaces
 
 -- ---- one value
 
@@ -59,24 +71,24 @@ kindWord Kind.Record = 2
 kindWord Kind.Waiting = 3
 kindWord Kind.Started = 4
 
-abbrev pub kindOf : ℕ → Kind
-kindOf zero = Kind.Grant
-kindOf (suc zero) = Kind.Ack
-kindOf (suc (suc zero)) = Kind.Record
-kindOf (suc (suc (suc zero))) = Kind.Waiting
-kindOf (suc (suc (suc (suc n)))) = Kind.Started
+abbrev pub kindFrom : ℕ → Kind
+kindFrom zero = Kind.Grant
+kindFrom (suc zero) = Kind.Ack
+kindFrom (suc (suc zero)) = Kind.Record
+kindFrom (suc (suc (suc zero))) = Kind.Waiting
+kindFrom (suc (suc (suc (suc n)))) = Kind.Started
 
 -- ---- words one after another
 
 -- the words of each element of a list
-unfoldable pub joined : {A : Type 0} → (A → List ℕ) → List A → List ℕ
-joined f [] = []
-joined f (x ∷ xs) = f x ++ joined f xs
+unfoldable pub wordsOfAll : {A : Type 0} → (A → List ℕ) → List A → List ℕ
+wordsOfAll f [] = []
+wordsOfAll f (x ∷ xs) = f x ++ wordsOfAll f xs
 
 -- n elements, each read from the front of k words
-unfoldable pub parts : {A : Type 0} → (List ℕ → A) → ℕ → ℕ → List ℕ → List A
-parts f k zero ws = []
-parts f k (suc n) ws = f ws ∷ parts f k n (drop k ws)
+unfoldable pub readAll : {A : Type 0} → (List ℕ → A) → ℕ → ℕ → List ℕ → List A
+readAll f k zero ws = []
+readAll f k (suc n) ws = f ws ∷ readAll f k n (drop k ws)
 
 -- the n words ws stored over those of l from `at` on
 pub record Stored (l : List ℕ) (at : ℕ) (l' ws : List ℕ) (n : ℕ) : Type 0 where
@@ -86,7 +98,7 @@ pub record Stored (l : List ℕ) (at : ℕ) (l' ws : List ℕ) (n : ℕ) : Type 
 abbrev pub wordAt : List ℕ → ℕ → ℕ
 wordAt ws i = getD ws i 0
 
--- ---- the station: 228 words
+-- ---- the station
 
 -- words 0 to 3: t, f, m, h
 abbrev pub timeWords : TdmaTime → List ℕ
@@ -99,15 +111,18 @@ timeFrom ws = record { t = wordAt ws 0 % 256; f = wordAt ws 1 % 256; m = wordAt 
 abbrev pub entryWords : Entry → List ℕ
 entryWords e = wordOf32 (e .ul1) ∷ wordOf32 (e .ul2) ∷ wordOf8 (e .«usage_marker») ∷ []
 
+abbrev pub entryOf : ℕ → ℕ → ℕ → Entry
+entryOf a b m = record { ul1 = optU32 a; ul2 = optU32 b; «usage_marker» = optU8 m }
+
 abbrev pub entryFrom : List ℕ → Entry
-entryFrom ws = record { ul1 = optU32 (wordAt ws 0); ul2 = optU32 (wordAt ws 1); «usage_marker» = optU8 (wordAt ws 2) }
+entryFrom ws = entryOf (wordAt ws 0) (wordAt ws 1) (wordAt ws 2)
 
 -- 54 words of a row: frames 1 to 18
 abbrev pub rowWords : List Entry → List ℕ
-rowWords row = joined entryWords row
+rowWords row = wordsOfAll entryWords row
 
 abbrev pub rowFrom : List ℕ → List Entry
-rowFrom ws = parts entryFrom 3 18 ws
+rowFrom ws = readAll entryFrom 3 18 ws
 
 -- 4 words, one for each timeslot
 abbrev pub fourFrom : List ℕ → List ℕ
@@ -128,7 +143,7 @@ stationWords s =
 unfoldable pub stationRead : List ℕ → Station
 stationRead ws = stationOf (uplinkOf (timeFrom ws) (tableFrom ws) (fourFrom (drop 220 ws))) (fourFrom (drop 224 ws))
 
--- ---- a record: 23 words
+-- ---- a record
 
 -- words 11 to 20: 1, then the channel allocation; all 0 if there is none
 abbrev pub allocWords : OptChanAlloc → List ℕ
@@ -159,7 +174,8 @@ allocFrom (suc n) ws = OptChanAlloc.Of (allocFields ws)
 -- words 0 to 3: kind, address kind, number, tag; 4 to 10: the header but for the allocation; 11 to 20: that; 21 and 22: bits, sent
 unfoldable pub recordWords : Record → List ℕ
 recordWords r =
-    kindWord (r .kind) ∷ r .«address_kind» ∷ r .number ∷ wordOf16 (r .tag) ∷ r .header .«pos_of_grant» ∷ r .header .«encryption_mode» ∷ r .header .«random_access_flag»
+    kindWord (r .kind) ∷ r .«address_kind» ∷ r .number ∷ wordOf16
+    (r .tag) ∷ r .header .«pos_of_grant» ∷ r .header .«encryption_mode» ∷ r .header .«random_access_flag»
     ∷ wordOf16 (r .header .«event_label») ∷ wordOf8 (r .header .«usage_marker») ∷ wordOf8 (r .header .«power_control_element»)
     ∷ wordOf8 (r .header .«slot_granting_element») ∷ (allocWords (r .header .«chan_alloc_element») ++ r .bits ∷ r .sent ∷ [])
 
@@ -179,7 +195,7 @@ headerFrom ws =
 unfoldable pub recordRead : List ℕ → Record
 recordRead ws =
     record {
-      kind = kindOf (wordAt ws 0);
+      kind = kindFrom (wordAt ws 0);
       «address_kind» = wordAt ws 1 % 256;
       number = wordAt ws 2;
       tag = optU16 (wordAt ws 3);
@@ -188,12 +204,12 @@ recordRead ws =
       sent = wordAt ws 22 % 65536;
     }
 
--- "a lent run of 64 records": 1,472 words
+-- "a lent run of 64 records"
 abbrev pub queueWords : List Record → List ℕ
-queueWords rs = joined recordWords rs
+queueWords rs = wordsOfAll recordWords rs
 
 abbrev pub recordsRead : List ℕ → List Record
-recordsRead ws = parts recordRead 23 64 ws
+recordsRead ws = readAll recordRead recordWordCount queuePlaces ws
 
 -- ---- words that are no station's and no queue's
 
@@ -212,18 +228,18 @@ noStation = stationOf (uplinkOf (record { t = 0; f = 0; m = 0; h = 0 }) emptyTab
 abbrev pub noRecord : Record
 noRecord = record { kind = Kind.Grant; «address_kind» = 255; number = 0; tag = OptU16.Absent; header = emptyHeader; bits = 0; sent = 0 }
 
--- the station of 228 words: words that are no station's stand for one that is refused
+-- the station that words stand for: words that are no station's stand for one that is refused
 unfoldable pub stationFrom : List ℕ → Station
 stationFrom ws = cond (sameWords (stationWords (stationRead ws)) ws) (stationRead ws) noStation
 
--- the 64 records of 1,472 words, likewise
+-- the records of the queue, likewise
 unfoldable pub queueFrom : List ℕ → List Record
-queueFrom ws = cond (sameWords (queueWords (recordsRead ws)) ws) (recordsRead ws) (replicate 64 noRecord)
+queueFrom ws = cond (sameWords (queueWords (recordsRead ws)) ws) (recordsRead ws) (replicate queuePlaces noRecord)
 
 -- and none of any other number of words: question 2 refuses it
 unfoldable pub recordsFrom : List ℕ → List Record
-recordsFrom ws = cond (eqb (length ws) 1472) (queueFrom ws) []
+recordsFrom ws = cond (eqb (length ws) queueWordCount) (queueFrom ws) []
 
--- the record of 23 words
+-- the record that words stand for
 unfoldable pub recordFrom : List ℕ → Record
 recordFrom ws = cond (sameWords (recordWords (recordRead ws)) ws) (recordRead ws) noRecord

@@ -1,4 +1,5 @@
-// The queue as 1,472 words, 23 for each record.
+// The queue as words, RECORD_WORDS for each record.
+use crate::RECORD_WORDS;
 use crate::word;
 use dl_record::Kind;
 use dl_record::QueuedHeader;
@@ -6,15 +7,20 @@ use dl_record::Record;
 use mac_pdus::ChanAllocElement;
 use mac_pdus::OptChanAlloc;
 use optional::OptU16;
+use sizes::CELL_OCTETS;
 use sizes::PER_TIMESLOT;
+use sizes::TIMESLOTS;
 ghost use mathlib.Core.Path.{_≡_};
 ghost use mathlib.Core.Bool.{true, false, _&&_};
 ghost use Prim.Native.Nat.{_+_, _*_, _<_, _≤_};
-ghost use lib.ListN.{length, take, drop};
+ghost use mathlib.Core.List.{_++_};
+ghost use lib.ListN.{length, take, drop, replicate};
 ghost use lib.Seq.{sets};
-ghost use Rattle.sizes.specs.Sizes.{perTimeslot, queuePlaces};
+ghost use Rattle.sizes.specs.Sizes.{perTimeslot, queuePlaces, storeOctets};
+ghost use Rattle.dl_record.specs.Record.{emptyRecord};
 ghost use Rattle.dl_queue.specs.Questions.{soundPlace, soundQueue};
-ghost use Rattle.sched_words.specs.Words.{sameWords, wordAt, allocWords, allocFrom, headerFrom, recordWords, recordRead, noRecord, recordFrom, queueWords, recordsRead, queueFrom};
+ghost use Rattle.sched_words.specs.Words.{recordWordCount, queueWordCount, sameWords, wordAt, allocWords, allocFrom, headerFrom, recordWords};
+ghost use Rattle.sched_words.specs.Words.{recordRead, noRecord, recordFrom, queueWords, recordsRead, queueFrom};
 ghost use Rattle.sched_words.specs.Front.{begins};
 
 fn alloc_words(o: OptChanAlloc) -> [u32; 10]
@@ -39,7 +45,7 @@ fn alloc_words(o: OptChanAlloc) -> [u32; 10]
     ]
 }
 
-fn record_words(r: Record) -> [u32; 23]
+fn record_words(r: Record) -> [u32; RECORD_WORDS]
     ensures { λ w. ⌜ w ≡ recordWords r ⌝ }
 {
     let header = r.header;
@@ -85,7 +91,7 @@ fn record_words(r: Record) -> [u32; 23]
 }
 
 fn alloc_from(words: &[u32]) -> OptChanAlloc
-    requires { ⌜ 23 ≤ length (now words) ⌝ }
+    requires { ⌜ recordWordCount ≤ length (now words) ⌝ }
     ensures { λ r. ⌜ r ≡ allocFrom (wordAt (now (words .entry)) 11) (now (words .entry)) ⌝ }
 {
     if words[11] == 0 {
@@ -114,7 +120,7 @@ fn alloc_from(words: &[u32]) -> OptChanAlloc
 }
 
 fn header_from(words: &[u32]) -> QueuedHeader
-    requires { ⌜ 23 ≤ length (now words) ⌝ }
+    requires { ⌜ recordWordCount ≤ length (now words) ⌝ }
     ensures { λ r. ⌜ r ≡ headerFrom (now (words .entry)) ⌝ }
 {
     let pos_of_grant = word::low8(words[4]);
@@ -138,7 +144,7 @@ fn header_from(words: &[u32]) -> QueuedHeader
 }
 
 fn record_read(words: &[u32]) -> Record
-    requires { ⌜ 23 ≤ length (now words) ⌝ }
+    requires { ⌜ recordWordCount ≤ length (now words) ⌝ }
     ensures { λ r. ⌜ r ≡ recordRead (now (words .entry)) ⌝ }
 {
     let kind = word::kind_of(words[0]);
@@ -159,14 +165,14 @@ fn record_read(words: &[u32]) -> Record
     }
 }
 
-// The records of a timeslot, the first of them at `first`, read from the words as they stand.
-pub fn sixteen_read(words: &[u32], first: usize) -> [Record; PER_TIMESLOT]
-    requires { ⌜ (first + perTimeslot ≤ queuePlaces) × (length (now words) ≡ 1472) ⌝ }
-    ensures { λ r. ⌜ r ≡ take perTimeslot (drop first (recordsRead (now (words .entry)))) ⌝ }
+// The records of a timeslot, the first of them at `first`: n are read, and the empty one stands for the others.
+pub fn records_read(words: &[u32], first: usize, n: usize) -> [Record; PER_TIMESLOT]
+    requires { ⌜ (first + perTimeslot ≤ queuePlaces) × (length (now words) ≡ queueWordCount) × (n ≤ perTimeslot) ⌝ }
+    ensures { λ r. ⌜ r ≡ take n (take perTimeslot (drop first (recordsRead (now (words .entry))))) ++ drop n (replicate perTimeslot emptyRecord) ⌝ }
 {
     let mut records = [Record::EMPTY; PER_TIMESLOT];
-    for k in 0..PER_TIMESLOT {
-        let at = 23 * (first + k);
+    for k in 0..n {
+        let at = RECORD_WORDS * (first + k);
         let r = record_read(&words[at..]);
         records[k] = r;
     }
@@ -193,7 +199,7 @@ fn no_record() -> Record
 // ---- words that are a record's: each fits its field
 
 fn alloc_fits(words: &[u32]) -> bool
-    requires { ⌜ length (now words) ≡ 23 ⌝ }
+    requires { ⌜ length (now words) ≡ recordWordCount ⌝ }
     ensures { λ r. ⌜ r ≡ begins (allocWords (allocFrom (wordAt (now (words .entry)) 11) (now (words .entry)))) (drop 11 (now (words .entry))) ⌝ }
 {
     if words[11] == 0 {
@@ -212,9 +218,9 @@ fn alloc_fits(words: &[u32]) -> bool
         & (words[20] <= 256)
 }
 
-// Are 23 words those of the record that is read from them? For a number any word will do.
-pub fn record_fits(words: &[u32]) -> bool
-    requires { ⌜ length (now words) ≡ 23 ⌝ }
+// Are the words those of the record that is read from them? For a number any word will do.
+fn record_fits(words: &[u32]) -> bool
+    requires { ⌜ length (now words) ≡ recordWordCount ⌝ }
     ensures { λ r. ⌜ r ≡ sameWords (recordWords (recordRead (now (words .entry)))) (now (words .entry)) ⌝ }
 {
     (words[0] < 5)
@@ -232,9 +238,9 @@ pub fn record_fits(words: &[u32]) -> bool
         & (words[22] < 65536)
 }
 
-// The record of 23 words.
+// The record that words stand for.
 pub fn record_from(words: &[u32]) -> Record
-    requires { ⌜ length (now words) ≡ 23 ⌝ }
+    requires { ⌜ length (now words) ≡ recordWordCount ⌝ }
     ensures { λ r. ⌜ r ≡ recordFrom (now (words .entry)) ⌝ }
 {
     if !record_fits(words) {
@@ -247,48 +253,52 @@ pub fn record_from(words: &[u32]) -> Record
 
 // A filled place: its words are a record's, and it is sound, with its cell.
 fn filled_is_sound(words: &[u32], cell: &[u8]) -> bool
-    requires { ⌜ length (now words) ≡ 23 ⌝ }
-    ensures { λ b. ⌜ b ≡ sameWords (recordWords (recordRead (now (words .entry)))) (now (words .entry)) && soundPlace true (recordRead (now (words .entry))) (now (cell .entry)) ⌝ }
+    requires { ⌜ length (now words) ≡ recordWordCount ⌝ }
+    ensures { λ b. ⌜ b ≡ sameWords (recordWords (recordRead (now (words .entry)))) (now (words .entry))
+        && soundPlace true (recordRead (now (words .entry))) (now (cell .entry)) ⌝ }
 {
     let r = record_read(words);
-    record_fits(words) & record_sound::record_is_sound(r) & sdu_store::cell_is_clean(cell, r.bits)
+    record_fits(words)
+        & dl_record_sound::record_is_sound(r)
+        & dl_sdu_store::cell_is_clean(cell, r.bits)
 }
 
 // A place that is not filled: words and cell are 0.
 fn unfilled_is_sound(words: &[u32], cell: &[u8]) -> bool
-    requires { ⌜ length (now words) ≡ 23 ⌝ }
-    ensures { λ b. ⌜ b ≡ sameWords (recordWords (recordRead (now (words .entry)))) (now (words .entry)) && soundPlace false (recordRead (now (words .entry))) (now (cell .entry)) ⌝ }
+    requires { ⌜ length (now words) ≡ recordWordCount ⌝ }
+    ensures { λ b. ⌜ b ≡ sameWords (recordWords (recordRead (now (words .entry)))) (now (words .entry))
+        && soundPlace false (recordRead (now (words .entry))) (now (cell .entry)) ⌝ }
 {
     let any = word::any_word(words);
-    (any == 0) & sdu_store::cell_is_zero(cell)
+    (any == 0) & dl_sdu_store::cell_is_zero(cell)
 }
 
 // The filled places of a timeslot and the others in two loops, each with one test.
-pub fn queue_is_sound(counts: [u8; 4], words: &[u32], store: &[u8]) -> bool
-    requires { ⌜ (length (now words) ≡ 1472) × (length (now store) ≡ 16384) ⌝ }
+pub fn queue_is_sound(counts: [u8; TIMESLOTS], words: &[u32], store: &[u8]) -> bool
+    requires { ⌜ (length (now words) ≡ queueWordCount) × (length (now store) ≡ storeOctets) ⌝ }
     ensures { λ r. ⌜ r ≡ soundQueue counts (queueFrom (now (words .entry))) (now (store .entry)) ⌝ }
 {
-    for t in 0..4 {
+    for t in 0..TIMESLOTS {
         let n = counts[t] as usize;
-        if 16 < n {
+        if PER_TIMESLOT < n {
             return false;
         }
         for i in 0..n {
-            let p = 16 * t + i;
-            let at = 23 * p;
-            let end = at + 23;
-            let from = 256 * p;
-            let to = from + 256;
+            let p = PER_TIMESLOT * t + i;
+            let at = RECORD_WORDS * p;
+            let end = at + RECORD_WORDS;
+            let from = CELL_OCTETS * p;
+            let to = from + CELL_OCTETS;
             if !filled_is_sound(&words[at..end], &store[from..to]) {
                 return false;
             }
         }
-        for i in n..16 {
-            let p = 16 * t + i;
-            let at = 23 * p;
-            let end = at + 23;
-            let from = 256 * p;
-            let to = from + 256;
+        for i in n..PER_TIMESLOT {
+            let p = PER_TIMESLOT * t + i;
+            let at = RECORD_WORDS * p;
+            let end = at + RECORD_WORDS;
+            let from = CELL_OCTETS * p;
+            let to = from + CELL_OCTETS;
             if !unfilled_is_sound(&words[at..end], &store[from..to]) {
                 return false;
             }
@@ -299,20 +309,20 @@ pub fn queue_is_sound(counts: [u8; 4], words: &[u32], store: &[u8]) -> bool
 
 // Stores the words of the record of a place.
 pub fn put_record(words: &mut [u32], place: usize, r: Record)
-    requires { ⌜ (place < 64) × (length (now words) ≡ 1472) ⌝ }
-    ensures { λ _. ⌜ now (words .exit) ≡ sets (now (words .entry)) (23 * place) (recordWords r) ⌝ }
+    requires { ⌜ (place < queuePlaces) × (length (now words) ≡ queueWordCount) ⌝ }
+    ensures { λ _. ⌜ now (words .exit) ≡ sets (now (words .entry)) (recordWordCount * place) (recordWords r) ⌝ }
 {
     let w = record_words(r);
-    word::put(words, 23 * place, &w);
+    word::put(words, RECORD_WORDS * place, &w);
 }
 
-// Stores the words of the records of a timeslot, the first of them at `first`.
-pub fn put_sixteen(words: &mut [u32], first: usize, records: [Record; PER_TIMESLOT])
-    requires { ⌜ (first + perTimeslot ≤ queuePlaces) × (length (now words) ≡ 1472) ⌝ }
-    ensures { λ _. ⌜ now (words .exit) ≡ sets (now (words .entry)) (23 * first) (queueWords records) ⌝ }
+// Stores the words of the first n records of a timeslot, the first of them at `first`.
+pub fn put_records(words: &mut [u32], first: usize, n: usize, records: [Record; PER_TIMESLOT])
+    requires { ⌜ (first + perTimeslot ≤ queuePlaces) × (length (now words) ≡ queueWordCount) × (n ≤ perTimeslot) ⌝ }
+    ensures { λ _. ⌜ now (words .exit) ≡ sets (now (words .entry)) (recordWordCount * first) (queueWords (take n records)) ⌝ }
 {
-    for i in 0..PER_TIMESLOT {
-        let r = records[i];
-        put_record(words, first + i, r);
+    for j in 0..n {
+        let r = records[j];
+        put_record(words, first + j, r);
     }
 }

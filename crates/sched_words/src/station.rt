@@ -1,12 +1,20 @@
 // The station as 228 words.
 use crate::word;
 use sched_core::Station;
+use sizes::PER_TIMESLOT;
 use tdma_time::TdmaTime;
 use uplink::Entry;
 ghost use mathlib.Core.Path.{_≡_};
-ghost use Prim.Native.Nat.{_+_, _≤_};
+ghost use mathlib.Core.Bool.{true, _&&_};
+ghost use Prim.Native.Nat.{_+_, _%_, _≤_};
+ghost use lib.Dec.{eqb, leb};
 ghost use lib.ListN.{length};
-ghost use Rattle.sched_words.specs.Words.{Stored, joined, parts, sameWords, timeWords, timeFrom, entryWords, entryFrom, rowWords, rowFrom, fourFrom, tableWords, tableFrom, stationWords, stationRead, stationFrom};
+ghost use Rattle.uplink.specs.UplinkEntry.{entryAt, all, soundCounter, soundMarker, soundEntry, soundCounters};
+ghost use Rattle.tdma_time.specs.Time.{Valid, valid, slotOf};
+ghost use Rattle.sched_core.specs.Station.{advancedStation, withQueued};
+ghost use Rattle.sched_core.specs.Questions.{soundCount, soundStation};
+ghost use Rattle.sched_words.specs.Words.{stationWordCount, optU8, entryOf, Stored, wordsOfAll, readAll, timeWords, timeFrom, entryWords, entryFrom};
+ghost use Rattle.sched_words.specs.Words.{rowWords, rowFrom, fourFrom, tableWords, tableFrom, stationWords, stationRead, stationFrom};
 ghost use Rattle.sched_words.specs.Front.{begins};
 
 fn time_from(words: &[u32]) -> TdmaTime
@@ -100,7 +108,7 @@ fn put_row(words: &mut [u32], at: usize, row: [Entry; 18])
 }
 
 fn table_from(words: &[u32]) -> [[Entry; 18]; 4]
-    requires { ⌜ length (now words) ≡ 228 ⌝ }
+    requires { ⌜ length (now words) ≡ stationWordCount ⌝ }
     ensures { λ r. ⌜ r ≡ tableFrom (now (words .entry)) ⌝ }
 {
     let row1 = row_from(&words[4..]);
@@ -111,7 +119,7 @@ fn table_from(words: &[u32]) -> [[Entry; 18]; 4]
 }
 
 fn station_read(words: &[u32]) -> Station
-    requires { ⌜ length (now words) ≡ 228 ⌝ }
+    requires { ⌜ length (now words) ≡ stationWordCount ⌝ }
     ensures { λ r. ⌜ r ≡ stationRead (now (words .entry)) ⌝ }
 {
     let time = time_from(words);
@@ -127,7 +135,7 @@ fn station_read(words: &[u32]) -> Station
 
 // Stores the words of the four rows.
 fn put_table(words: &mut [u32], table: [[Entry; 18]; 4])
-    requires { ⌜ length (now words) ≡ 228 ⌝ }
+    requires { ⌜ length (now words) ≡ stationWordCount ⌝ }
     ensures { λ _. ⌜ Stored (now (words .entry)) 4 (now (words .exit)) (tableWords table) 216 ⌝ }
 {
     let row1 = table[0];
@@ -142,7 +150,7 @@ fn put_table(words: &mut [u32], table: [[Entry; 18]; 4])
 
 // Stores the words of a station.
 pub fn put_station(words: &mut [u32], s: Station)
-    requires { ⌜ length (now words) ≡ 228 ⌝ }
+    requires { ⌜ length (now words) ≡ stationWordCount ⌝ }
     ensures { λ _. ⌜ now (words .exit) ≡ stationWords s ⌝ }
 {
     let u = s.uplink;
@@ -169,41 +177,148 @@ fn time_fits(words: &[u32]) -> bool
     (words[0] < 256) & (words[1] < 256) & (words[2] < 256) & (words[3] < 65536)
 }
 
-// The numbers of the four timeslots.
-fn four_fit(words: &[u32]) -> bool
-    requires { ⌜ 4 ≤ length (now words) ⌝ }
-    ensures { λ r. ⌜ r ≡ begins (fourFrom (now (words .entry))) (now (words .entry)) ⌝ }
+// ---- question 1 for the words of a station, where they stand
+
+// No marker, or one of 4 to 62, which its word has and 1.
+fn marker_is_sound(w: u32) -> bool
+    ensures { λ r. ⌜ r ≡ leb w 256 && soundMarker (optU8 w) ⌝ }
 {
-    (words[0] < 256) & (words[1] < 256) & (words[2] < 256) & (words[3] < 256)
+    (w == 0) | ((5 <= w) & (w <= 63))
 }
 
-// The 72 entries: their markers, since for an owner any word will do. No branch for an entry.
-fn entries_fit(words: &[u32]) -> bool
-    requires { ⌜ 216 ≤ length (now words) ⌝ }
-    ensures { λ r. ⌜ r ≡ begins (joined entryWords (parts entryFrom 3 72 (now (words .entry)))) (now (words .entry)) ⌝ }
+// The three words of an entry: with no first half the others are 0, else each is in its range.
+fn entry_is_sound(first: u32, second: u32, marker: u32) -> bool
+    ensures { λ r. ⌜ r ≡ leb marker 256 && soundEntry (entryOf first second marker) ⌝ }
 {
-    let mut fit = true;
-    for i in 0..72 {
-        fit = fit & (words[3 * i + 2] <= 256);
+    if first == 0 {
+        return (second == 0) & (marker == 0);
     }
-    fit
+    (first <= 16777216) & (second <= 16777216) & marker_is_sound(marker)
 }
 
-fn station_fits(words: &[u32]) -> bool
-    requires { ⌜ length (now words) ≡ 228 ⌝ }
-    ensures { λ r. ⌜ r ≡ sameWords (stationWords (stationRead (now (words .entry)))) (now (words .entry)) ⌝ }
+fn entries_are_sound(words: &[u32]) -> bool
+    requires { ⌜ 216 ≤ length (now words) ⌝ }
+    ensures { λ r. ⌜ r ≡ begins (wordsOfAll entryWords (readAll entryFrom 3 72 (now (words .entry)))) (now (words .entry))
+        && all soundEntry (readAll entryFrom 3 72 (now (words .entry))) ⌝ }
 {
-    time_fits(words) & entries_fit(&words[4..]) & four_fit(&words[220..]) & four_fit(&words[224..])
+    let mut sound = true;
+    for i in 0..72 {
+        let at = 3 * i;
+        sound = sound & entry_is_sound(words[at], words[at + 1], words[at + 2]);
+    }
+    sound
 }
 
-// The station of 228 words. Words 0 stand for others, read like any: a constant station would be taken apart into 72 entries.
-pub fn station_from(words: &[u32]) -> Station
-    requires { ⌜ length (now words) ≡ 228 ⌝ }
+// A counter of usage markers.
+fn counter_is_sound(w: u32) -> bool
+    ensures { λ r. ⌜ r ≡ eqb (w % 256) w && soundCounter (w % 256) ⌝ }
+{
+    (4 <= w) & (w <= 62)
+}
+
+// A number of records queued.
+fn count_is_sound(w: u32) -> bool
+    ensures { λ r. ⌜ r ≡ eqb (w % 256) w && soundCount (w % 256) ⌝ }
+{
+    w as usize <= PER_TIMESLOT
+}
+
+fn counters_are_sound(words: &[u32]) -> bool
+    requires { ⌜ 4 ≤ length (now words) ⌝ }
+    ensures { λ r. ⌜ r ≡ begins (fourFrom (now (words .entry))) (now (words .entry)) && soundCounters (fourFrom (now (words .entry))) ⌝ }
+{
+    counter_is_sound(words[0])
+        & counter_is_sound(words[1])
+        & counter_is_sound(words[2])
+        & counter_is_sound(words[3])
+}
+
+fn counts_are_sound(words: &[u32]) -> bool
+    requires { ⌜ 4 ≤ length (now words) ⌝ }
+    ensures { λ r. ⌜ r ≡ begins (fourFrom (now (words .entry))) (now (words .entry)) && all soundCount (fourFrom (now (words .entry))) ⌝ }
+{
+    count_is_sound(words[0])
+        & count_is_sound(words[1])
+        & count_is_sound(words[2])
+        & count_is_sound(words[3])
+}
+
+fn time_is_sound(words: &[u32]) -> bool
+    requires { ⌜ 4 ≤ length (now words) ⌝ }
+    ensures { λ r. ⌜ r ≡ begins (timeWords (timeFrom (now (words .entry)))) (now (words .entry)) && valid (timeFrom (now (words .entry))) ⌝ }
+{
+    let time = time_from(words);
+    time_fits(words) & time.is_valid()
+}
+
+// Do the words stand for a sound station?
+pub fn station_is_sound(words: &[u32]) -> bool
+    requires { ⌜ length (now words) ≡ stationWordCount ⌝ }
+    ensures { λ r. ⌜ r ≡ soundStation (stationFrom (now (words .entry))) ⌝ }
+{
+    time_is_sound(words)
+        & entries_are_sound(&words[4..])
+        & counters_are_sound(&words[220..])
+        & counts_are_sound(&words[224..])
+}
+
+// ---- the words of a sound station
+
+// The station.
+pub fn station_of(words: &[u32]) -> Station
+    requires { ⌜ (length (now words) ≡ stationWordCount) × (soundStation (stationFrom (now words)) ≡ true) ⌝ }
     ensures { λ r. ⌜ r ≡ stationFrom (now (words .entry)) ⌝ }
 {
-    if !station_fits(words) {
-        let zeros = [0u32; 228];
-        return station_read(&zeros);
-    }
     station_read(words)
+}
+
+// The time.
+pub fn time_of(words: &[u32]) -> TdmaTime
+    requires { ⌜ (length (now words) ≡ stationWordCount) × (soundStation (stationFrom (now words)) ≡ true) ⌝ }
+    ensures { λ r. ⌜ r ≡ stationFrom (now (words .entry)) .uplink .time ⌝ }
+{
+    time_from(words)
+}
+
+// The numbers of records queued.
+pub fn queued_of(words: &[u32]) -> [u8; 4]
+    requires { ⌜ (length (now words) ≡ stationWordCount) × (soundStation (stationFrom (now words)) ≡ true) ⌝ }
+    ensures { λ r. ⌜ r ≡ stationFrom (now (words .entry)) .queued ⌝ }
+{
+    four_from(&words[224..])
+}
+
+// The entry of the slot at a time.
+pub fn entry_at(words: &[u32], ts: TdmaTime) -> Entry
+    requires { ⌜ (length (now words) ≡ stationWordCount) × (soundStation (stationFrom (now words)) ≡ true) × Valid ts ⌝ }
+    ensures { λ r. ⌜ r ≡ entryAt (stationFrom (now (words .entry)) .uplink .rows) (slotOf ts) ⌝ }
+{
+    let row = (ts.t - 1) as usize;
+    let column = (ts.f - 1) as usize;
+    let at = 4 + (54 * row + 3 * column);
+    entry_from(&words[at..])
+}
+
+// One slot on: the words of the time, and of the entry that is emptied.
+pub fn advance(words: &mut [u32])
+    requires { ⌜ (length (now words) ≡ stationWordCount) × (soundStation (stationFrom (now words)) ≡ true) ⌝ }
+    ensures { λ _. ⌜ now (words .exit) ≡ stationWords (advancedStation (stationFrom (now (words .entry)))) ⌝ }
+{
+    let time = time_from(words);
+    let next = time.next();
+    let old = next.four_earlier();
+    let row = (next.t - 1) as usize;
+    let column = (old.f - 1) as usize;
+    let w = time_words(next);
+    word::put(words, 0, &w);
+    word::put(words, 4 + (54 * row + 3 * column), &[0, 0, 0]);
+}
+
+// The numbers of records queued after a call.
+pub fn put_queued(words: &mut [u32], queued: [u8; 4])
+    requires { ⌜ (length (now words) ≡ stationWordCount) × (soundStation (stationFrom (now words)) ≡ true) ⌝ }
+    ensures { λ _. ⌜ now (words .exit) ≡ stationWords (withQueued (stationFrom (now (words .entry))) queued) ⌝ }
+{
+    let w = four_words(queued);
+    word::put(words, 224, &w);
 }

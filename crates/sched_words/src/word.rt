@@ -9,8 +9,8 @@ ghost use Prim.Native.Nat.{_+_, _%_, _≤_};
 ghost use lib.Dec.{eqb};
 ghost use lib.ListN.{length};
 ghost use lib.Seq.{sets};
-ghost use Rattle.sdu_store.specs.Cells.{allZero};
-ghost use Rattle.sched_words.specs.Words.{wordOf8, wordOf16, wordOf32, optU8, optU16, optU32, kindWord, kindOf};
+ghost use Rattle.dl_sdu_store.specs.Cells.{allZero};
+ghost use Rattle.sched_words.specs.Words.{wordOf8, wordOf16, wordOf32, optU8, optU16, optU32, kindWord, kindFrom};
 
 // The low 8 bits of a word.
 pub fn low8(w: u32) -> u8
@@ -93,7 +93,7 @@ pub fn kind_word(k: Kind) -> u32
 }
 
 pub fn kind_of(w: u32) -> Kind
-    ensures { λ r. ⌜ r ≡ kindOf w ⌝ }
+    ensures { λ r. ⌜ r ≡ kindFrom w ⌝ }
 {
     if w == 0 {
         return Kind::Grant;

@@ -8,17 +8,18 @@ use native.Mathlib.Omega.{arith}
 use lib.Dec.{leb, ltb, lit<, eqb·suc-zero}
 use lib.ListN.{length, getD, take, List·getD-eq-default}
 use borrow.Author.Tests.{ltb-true, ltb-false, leb-true, le-ltb, lt-ltb, le-leb, eq-eqb}
+use Rattle.lists.proofs.Lists.{getD-any}
 use Rattle.slot_codes.specs.Codes.{slotCounts, slotsWanted, slotsGranted, capacityFor, firstHolding, codeFor, grantOctet, capacityOf, delayOf}
-use Rattle.slot_codes.proofs.TableLaws.{any-default, agree-below}
+use Rattle.slot_codes.proofs.TableLaws.{agree-below}
 
 -- the table of codes 0 to 14 gives the slots wanted and the slots granted
 pub wanted-in-table : (code : ℕ) → code < 15 → getD (1 ∷ slotCounts) code 0 ≡ slotsWanted code
 wanted-in-table zero h = refl
-wanted-in-table (suc c) h = any-default slotCounts 0 68 c (le-of-suc-le-suc h)
+wanted-in-table (suc c) h = getD-any slotCounts c 0 68 (le-of-suc-le-suc h)
 
 pub granted-in-table : (code : ℕ) → code < 15 → getD (1 ∷ slotCounts) code 0 ≡ slotsGranted code
 granted-in-table zero h = refl
-granted-in-table (suc c) h = any-default slotCounts 0 1 c (le-of-suc-le-suc h)
+granted-in-table (suc c) h = getD-any slotCounts c 0 1 (le-of-suc-le-suc h)
 
 -- past the table: over 68 is taken as 68, and the second half counts as one slot
 pub wanted-past-table : (code : ℕ) → 15 ≤ code → slotsWanted code ≡ 68
@@ -108,6 +109,3 @@ delay-in-octet c d h = omega arith
 
 pub octet-of-its-halves : (octet : ℕ) → grantOctet (capacityOf octet) (delayOf octet) ≡ octet
 octet-of-its-halves octet = omega arith
-
-pub grant-octet-fits : (c d : ℕ) → c < 16 → d < 16 → grantOctet c d < 256
-grant-octet-fits c d p h = omega arith

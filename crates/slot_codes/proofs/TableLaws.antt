@@ -16,12 +16,6 @@ past-the-last [] d (suc n) h = refl
 past-the-last (x ∷ xs) d zero h = absurd (not-suc-le-zero h)
 past-the-last (x ∷ xs) d (suc n) h = past-the-last xs d n (le-of-suc-le-suc h)
 
--- inside a list the default does not matter
-pub any-default {ℓ} : {A : Type ℓ} (xs : List A) (d e : A) (n : ℕ) → n < length xs → getD xs n d ≡ getD xs n e
-any-default [] d e n h = absurd (not-suc-le-zero h)
-any-default (x ∷ xs) d e zero h = refl
-any-default (x ∷ xs) d e (suc n) h = any-default xs d e n (le-of-suc-le-suc h)
-
 -- a test passes at each number below n
 abbrev pub every : (ℕ → Bool) → ℕ → Bool
 every f zero = true

@@ -11,7 +11,7 @@ use borrow.Author.Tests.{lt-ltb, le-ltb}
 use Rattle.sched_core.specs.Questions.{memory}
 use Rattle.interpreter.specs.declared.Command.{Command}
 use Rattle.interpreter.specs.declared.RunAnswer.{RunAnswer}
-use Rattle.interpreter.specs.Slotrun.{Session, session, start, commandOf, isKnown, Ran, joined}
+use Rattle.interpreter.specs.Slotrun.{Session, session, start, commandOf, isKnown, Ran, printedBefore}
 use Rattle.interpreter.specs.Steps.{Runs}
 use Rattle.interpreter.specs.Turns.{wholeCommands, turn, turns, begun, isUnknown}
 use Rattle.interpreter.proofs.RunLaws.{here}
@@ -88,7 +88,7 @@ pub reached-next : {s : Session} {held : List ℕ} {x : Turn} {store' stage' inp
     → ReadTurn s held x store' stage' input' out out' → Reached (session (memory (x .station) (x .queue) store') stage') (take (x .held) input')
 reached-next {s} {held} k t =
     let e = turns-next begun (k .parts) (t .next) in
-    let same : turn (turns begun (k .parts)) (t .next) ≡ joined (turns begun (k .parts) .printed) (wholeCommands s (held ++ t .next)) = rw
+    let same : turn (turns begun (k .parts)) (t .next) ≡ printedBefore (turns begun (k .parts) .printed) (wholeCommands s (held ++ t .next)) = rw
     (k .session-is, k .left-is) in
     record {
       parts = k .parts ++ (t .next ∷ []);

@@ -9,10 +9,11 @@ ghost use Prim.Native.Nat.{_-_, _*_, _^_, _<_, _≤_};
 ghost use mathlib.Core.Path.{_≡_};
 ghost use mathlib.Core.Bool.{_&&_, not};
 ghost use lib.ListN.{length, take, drop, replicate};
+ghost use Rattle.sizes.specs.Sizes.{queuePlaces, storeOctets};
 ghost use Rattle.dl_record.specs.Record.{emptyRecord};
 ghost use Rattle.sched_core.specs.Station.{newStation};
 ghost use Rattle.sched_core.specs.Questions.{memory};
-ghost use Rattle.interpreter.specs.Slotrun.{firstTime, session, commands};
+ghost use Rattle.interpreter.specs.Slotrun.{stageOctets, firstTime, session, commands};
 ghost use Rattle.interpreter.specs.Steps.{Runs};
 ghost use Rattle.interpreter.specs.Turns.{isUnknown};
 ghost use Rattle.slotrun.specs.Turned.{Turned, ReadTurn};
@@ -20,7 +21,7 @@ ghost use Rattle.slotrun.specs.Turned.{Turned, ReadTurn};
 // What a turn leaves: the station and its queue, how many octets of the input are kept, and whether there may be more.
 struct Turn {
     station: Station,
-    queue: [Record; 64],
+    queue: [Record; sizes::QUEUE_PLACES],
     held: usize,
     goes_on: bool,
 }
@@ -82,14 +83,16 @@ fn read_more(input: &mut [u8], held: usize) -> usize
 // Runs the commands that are whole, and prints what they print.
 fn run_and_print(
     station: Station,
-    queue: [Record; 64],
+    queue: [Record; sizes::QUEUE_PLACES],
     store: &mut [u8],
     stage: &mut [u8],
     input: &[u8],
     out: &mut [u8],
 ) -> RunAnswer
-    requires { ⌜ (length (now store) ≡ 16384) × (length (now stage) ≡ 256) × (173 * length (now input) ≤ length (now out)) × (length (now out) < 2 ^ 64) ⌝ }
-    ensures { λ r. ⌜ Runs (commands (length (now (input .entry))) (session (memory station queue (now (store .entry))) (now (stage .entry))) (now (input .entry)))
+    requires { ⌜ (length (now store) ≡ storeOctets) × (length (now stage) ≡ stageOctets)
+        × (173 * length (now input) ≤ length (now out)) × (length (now out) < 2 ^ 64) ⌝ }
+    ensures { λ r. ⌜ Runs
+        (commands (length (now (input .entry))) (session (memory station queue (now (store .entry))) (now (stage .entry))) (now (input .entry)))
         r (now (input .entry)) (now (store .exit)) (now (stage .exit)) (now (out .entry)) (now (out .exit)) ⌝ }
 {
     let r = interpreter::run(station, queue, store, stage, input, out);
@@ -114,7 +117,7 @@ fn goes_on(input: &[u8], taken: usize, more: bool) -> bool
 // Runs what is whole of the first `all` octets, and keeps the rest of them at the front. `more`: there may be more to read.
 fn run_and_keep(
     station: Station,
-    queue: [Record; 64],
+    queue: [Record; sizes::QUEUE_PLACES],
     store: &mut [u8],
     stage: &mut [u8],
     input: &mut [u8],
@@ -122,8 +125,10 @@ fn run_and_keep(
     more: bool,
     out: &mut [u8],
 ) -> Turn
-    requires { ⌜ (length (now store) ≡ 16384) × (length (now stage) ≡ 256) × (all ≤ length (now input)) × (173 * length (now input) ≤ length (now out)) × (length (now out) < 2 ^ 64) ⌝ }
-    ensures { λ r. ⌜ Turned (session (memory station queue (now (store .entry))) (now (stage .entry))) (take all (now (input .entry))) more r (now (store .exit)) (now (stage .exit)) (now (input .exit)) (now (out .entry)) (now (out .exit)) ⌝ }
+    requires { ⌜ (length (now store) ≡ storeOctets) × (length (now stage) ≡ stageOctets)
+        × (all ≤ length (now input)) × (173 * length (now input) ≤ length (now out)) × (length (now out) < 2 ^ 64) ⌝ }
+    ensures { λ r. ⌜ Turned (session (memory station queue (now (store .entry))) (now (stage .entry))) (take all (now (input .entry)))
+        more r (now (store .exit)) (now (stage .exit)) (now (input .exit)) (now (out .entry)) (now (out .exit)) ⌝ }
 {
     let r = run_and_print(station, queue, store, stage, &input[..all], out);
     let taken = r.taken;
@@ -142,38 +147,40 @@ fn run_and_keep(
 // One turn.
 fn read_and_run(
     station: Station,
-    queue: [Record; 64],
+    queue: [Record; sizes::QUEUE_PLACES],
     store: &mut [u8],
     stage: &mut [u8],
     input: &mut [u8],
     held: usize,
     out: &mut [u8],
 ) -> Turn
-    requires { ⌜ (length (now store) ≡ 16384) × (length (now stage) ≡ 256) × (held ≤ length (now input)) × (173 * length (now input) ≤ length (now out)) × (length (now out) < 2 ^ 64) ⌝ }
-    ensures { λ r. ⌜ ReadTurn (session (memory station queue (now (store .entry))) (now (stage .entry))) (take held (now (input .entry))) r (now (store .exit)) (now (stage .exit)) (now (input .exit)) (now (out .entry)) (now (out .exit)) ⌝ }
+    requires { ⌜ (length (now store) ≡ storeOctets) × (length (now stage) ≡ stageOctets)
+        × (held ≤ length (now input)) × (173 * length (now input) ≤ length (now out)) × (length (now out) < 2 ^ 64) ⌝ }
+    ensures { λ r. ⌜ ReadTurn (session (memory station queue (now (store .entry))) (now (stage .entry))) (take held (now (input .entry)))
+        r (now (store .exit)) (now (stage .exit)) (now (input .exit)) (now (out .entry)) (now (out .exit)) ⌝ }
 {
     let all = read_more(input, held);
     let more = held < all;
     run_and_keep(station, queue, store, stage, input, all, more, out)
 }
 
-fn empty_queue() -> [Record; 64]
-    ensures { λ r. ⌜ r ≡ replicate 64 emptyRecord ⌝ }
+fn empty_queue() -> [Record; sizes::QUEUE_PLACES]
+    ensures { λ r. ⌜ r ≡ replicate queuePlaces emptyRecord ⌝ }
 {
-    [Record::EMPTY; 64]
+    [Record::EMPTY; sizes::QUEUE_PLACES]
 }
 
-fn empty_store() -> [u8; 16384]
-    ensures { λ r. ⌜ r ≡ replicate 16384 0 ⌝ }
+fn empty_store() -> [u8; sizes::STORE_OCTETS]
+    ensures { λ r. ⌜ r ≡ replicate storeOctets 0 ⌝ }
 {
-    [0; 16384]
+    [0; sizes::STORE_OCTETS]
 }
 
 // "A staged SDU is 256 octets, all zero at the start."
-fn empty_stage() -> [u8; 256]
-    ensures { λ r. ⌜ r ≡ replicate 256 0 ⌝ }
+fn empty_stage() -> [u8; interpreter::STAGE_OCTETS]
+    ensures { λ r. ⌜ r ≡ replicate stageOctets 0 ⌝ }
 {
-    [0; 256]
+    [0; interpreter::STAGE_OCTETS]
 }
 
 // What is read at a time, with what was kept of the last.

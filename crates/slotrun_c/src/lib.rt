@@ -4,9 +4,10 @@ use sched_core::Station;
 use tdma_time::TdmaTime;
 ghost use mathlib.Core.Path.{_≡_};
 ghost use lib.ListN.{replicate};
+ghost use Rattle.sizes.specs.Sizes.{queuePlaces, storeOctets};
 ghost use Rattle.dl_record.specs.Record.{emptyRecord};
 ghost use Rattle.sched_core.specs.Station.{newStation};
-ghost use Rattle.interpreter.specs.Slotrun.{firstTime};
+ghost use Rattle.interpreter.specs.Slotrun.{stageOctets, firstTime};
 ghost use Rattle.slotrun_c.specs.Whole.{Whole};
 
 // "Until a first 54 is accepted the station is new at h 0, m 1, f 1, t 1"
@@ -23,23 +24,23 @@ fn start() -> Station
     a.station
 }
 
-fn empty_queue() -> [Record; 64]
-    ensures { λ r. ⌜ r ≡ replicate 64 emptyRecord ⌝ }
+fn empty_queue() -> [Record; sizes::QUEUE_PLACES]
+    ensures { λ r. ⌜ r ≡ replicate queuePlaces emptyRecord ⌝ }
 {
-    [Record::EMPTY; 64]
+    [Record::EMPTY; sizes::QUEUE_PLACES]
 }
 
-fn empty_store() -> [u8; 16384]
-    ensures { λ r. ⌜ r ≡ replicate 16384 0 ⌝ }
+fn empty_store() -> [u8; sizes::STORE_OCTETS]
+    ensures { λ r. ⌜ r ≡ replicate storeOctets 0 ⌝ }
 {
-    [0; 16384]
+    [0; sizes::STORE_OCTETS]
 }
 
 // "A staged SDU is 256 octets, all zero at the start."
-fn empty_stage() -> [u8; 256]
-    ensures { λ r. ⌜ r ≡ replicate 256 0 ⌝ }
+fn empty_stage() -> [u8; interpreter::STAGE_OCTETS]
+    ensures { λ r. ⌜ r ≡ replicate stageOctets 0 ⌝ }
 {
-    [0; 256]
+    [0; interpreter::STAGE_OCTETS]
 }
 
 // Does the commands at the front of the input, as many as are whole, and answers how many octets they print, which stand at the front

@@ -1,18 +1,16 @@
 -- Laws of the slots of one timeslot: the first at or after a slot, those that are usable, and their order.
 -- Assumes nothing.
-use mathlib.Core.Path.{_≡_, refl, ap}
+use mathlib.Core.Path.{_≡_}
 use mathlib.Core.Logic.{_≢_}
 use mathlib.Core.Bool.{Bool, true, false, not, cond}
-use mathlib.Core.List.{List, [], _∷_, _++_, List·Memᴰ, List·Memᴰ·head, List·Memᴰ·tail}
+use mathlib.Core.List.{List, [], _∷_}
 use Prim.Native.Nat.{ℕ, zero, suc, _+_, _-_, _*_, _%_, _≤_, _<_}
 use native.Mathlib.Omega.{arith}
-use native.Mathlib.Nat.{zero-add, suc-add}
-use lib.ListN.{length}
 use lib.Dec.{eqb}
 use borrow.Author.Tests.{eqb-true, eqb-false, ne-eqb, not-true, not-false}
+use Rattle.lists.proofs.Every.{All, all-weaken}
 use Rattle.tdma_time.specs.declared.TdmaTime.{TdmaTime}
 use Rattle.tdma_time.specs.Time.{Valid, slotOf, clock, timeslot, frame, usable, firstOf, framesOn, usableOf}
-use Rattle.tdma_time.proofs.Basics.{All, all-map}
 use Rattle.tdma_time.proofs.TimeLaws.{slotOf-frame, clock-add, clock-timeslot}
 
 -- ---- usable slots
@@ -94,32 +92,13 @@ first-clock t a b h = rw (low a b (clock-timeslot a b h)) (clock-add a b _ h)
 pub framesOn-near : (u k : ℕ) → All (λ c. (u ≤ c) × (c + 4 ≤ u + 4 * k) × (timeslot c ≡ timeslot u)) (framesOn u k)
 unfolding framesOn
 framesOn-near u zero = tt
-framesOn-near u (suc k) = (omega arith, all-map (λ c h. omega arith) (framesOn (u + 4) k) (framesOn-near (u + 4) k))
-
--- the slot d frames on is one of k if d is below k
-pub framesOn-has : (u k d : ℕ) → d < k → List·Memᴰ (u + 4 * d) (framesOn u k)
-unfolding framesOn
-framesOn-has u zero d h = absurd (omega arith)
-framesOn-has u (suc k) zero h = List·Memᴰ·head {x = u} (omega arith)
-framesOn-has u (suc k) (suc d) h =
-    let e : u + 4 * suc d ≡ u + 4 + 4 * d = omega arith in
-    rw e (List·Memᴰ·tail (framesOn-has (u + 4) k d (omega arith)))
-
--- j and then k more
-pub framesOn-append : (u j k : ℕ) → framesOn u (j + k) ≡ framesOn u j ++ framesOn (u + 4 * j) k
-unfolding framesOn
-framesOn-append u zero k = rw (zero-add, zero-on) refl
-  where
-    zero-on : u + 4 * 0 ≡ u
-    zero-on = omega arith
-framesOn-append u (suc j) k =
-    let e : u + 4 * suc j ≡ u + 4 + 4 * j = omega arith in
-    rw (suc-add, e) (ap (λ (l : List ℕ). u ∷ l) (framesOn-append (u + 4) j k))
+framesOn-near u (suc k) = (omega arith, all-weaken _ _ (λ c h. omega arith) (framesOn (u + 4) k) (framesOn-near (u + 4) k))
 
 -- from the first slot of timeslot t at or after n, k of them lie in the 4 k slots from n on
 pub framesOn-window : (t n k : ℕ) → All (λ c. (n ≤ c) × (c < n + 4 * k)) (framesOn (firstOf t n) k)
 framesOn-window t n k =
-    all-map (λ c h. (omega (arith, h .0, first-from t n), omega (arith, h .1, first-near t n))) (framesOn (firstOf t n) k) (framesOn-near (firstOf t n) k)
+    all-weaken _ _ (λ c h. (omega (arith, h .0, first-from t n), omega (arith, h .1, first-near t n))) (framesOn (firstOf t n) k)
+    (framesOn-near (firstOf t n) k)
 
 -- ---- the usable ones of a list of slots
 
@@ -142,10 +121,3 @@ usableOf-all P (c ∷ cs) h = go (usable c) (usableOf-all P cs (h .1))
     go : (b : Bool) → All P (usableOf cs) → All P (cond b (c ∷ usableOf cs) (usableOf cs))
     go true ih = (h .0, ih)
     go false ih = ih
-
--- in up to 18 frames, before the multiframe's last one, all slots are usable
-pub usableOf-before : (u k : ℕ) → frame u + k ≤ 18 → length (usableOf (framesOn u k)) ≡ k
-unfolding usableOf framesOn
-usableOf-before u zero h = refl
-usableOf-before u (suc k) h =
-    rw (frame-usable u (omega arith)) (ap suc (usableOf-before (u + 4) k (omega arith)))

@@ -2,7 +2,7 @@
 -- Assumes nothing.
 use mathlib.Core.Path.{_≡_, refl, sym, ap, _∙_}
 use mathlib.Core.Logic.{_≢_}
-use mathlib.Core.Bool.{Bool, true, false, _&&_, and-eq-true-iff}
+use mathlib.Core.Bool.{true, _&&_, and-eq-true-iff, and-true}
 use Prim.Native.Nat.{ℕ, _+_, _-_, _*_, _/_, _%_, _≤_, _<_}
 use native.Mathlib.Omega.{arith}
 use lib.Dec.{leb}
@@ -16,7 +16,16 @@ use Rattle.tdma_time.specs.Time.{Valid, valid, cycle, slotOf, timeslot, 
 pub valid-true : (x : TdmaTime) → Valid x → valid x ≡ true
 unfolding valid
 valid-true x v =
-    rw (le-leb _ _ (v .t-low), le-leb _ _ (v .t-high), le-leb _ _ (v .f-low), le-leb _ _ (v .f-high), le-leb _ _ (v .m-low), le-leb _ _ (v .m-high), le-leb _ _ (v .h-high))
+    rw (
+      le-leb _ _ (v .t-low),
+      le-leb _ _ (v .t-high),
+      le-leb _ _ (v .f-low),
+      le-leb _ _ (v .f-high),
+      le-leb _ _ (v .m-low),
+      le-leb _ _ (v .m-high),
+      le-leb _ _
+          (v .h-high),
+    )
 
 -- a time that passes the test is valid
 pub true-valid : (x : TdmaTime) → valid x ≡ true → Valid x
@@ -41,16 +50,13 @@ true-valid x e =
 -- where the hyperframe is that of a u16, the test looks at the other parts only
 pub valid-parts : (x : TdmaTime) → x .h ≤ 65535 → leb 1 (x .t) && leb (x .t) 4 && leb 1 (x .f) && leb (x .f) 18 && leb 1 (x .m) && leb (x .m) 60 ≡ valid x
 unfolding valid
-valid-parts x h = rw (le-leb _ _ h) (sym (last _))
-  where
-    last : (b : Bool) → b && true ≡ b
-    last true = refl
-    last false = refl
+valid-parts x h = rw (le-leb _ _ h) (sym (and-true _))
 
 -- ---- a time and its number
 
 -- times with equal parts are equal
-pub time-eq : {t f m h t′ f′ m′ h′ : ℕ} → t ≡ t′ → f ≡ f′ → m ≡ m′ → h ≡ h′ → _≡_ {A = TdmaTime} (record { t = t; f = f; m = m; h = h }) (record { t = t′; f = f′; m = m′; h = h′ })
+pub time-eq : {t f m h t′ f′ m′ h′ : ℕ} → t ≡ t′ → f ≡ f′ → m ≡ m′ → h ≡ h′
+    → _≡_ {A = TdmaTime} (record { t = t; f = f; m = m; h = h }) (record { t = t′; f = f′; m = m′; h = h′ })
 time-eq p q r s = λ i. record { t = p i; f = q i; m = r i; h = s i }
 
 -- the parts of a number given by its parts
@@ -132,16 +138,20 @@ module _ (x : TdmaTime) (v : Valid x) where
   slotOf-frame = ap (λ y. y .f) (timeOf-slotOf x v)
 
 -- the next slot: the timeslot steps, and what is full carries into the next part
-pub next-timeslot : (n : ℕ) → timeslot n ≢ 4 → (timeslot (n + 1) ≡ timeslot n + 1) × (frame (n + 1) ≡ frame n) × (multiframe (n + 1) ≡ multiframe n) × (hyperframe (n + 1) ≡ hyperframe n)
+pub next-timeslot : (n : ℕ) → timeslot n ≢ 4
+    → (timeslot (n + 1) ≡ timeslot n + 1) × (frame (n + 1) ≡ frame n) × (multiframe (n + 1) ≡ multiframe n) × (hyperframe (n + 1) ≡ hyperframe n)
 next-timeslot n h = omega arith
 
-pub next-frame : (n : ℕ) → timeslot n ≡ 4 → frame n ≢ 18 → (timeslot (n + 1) ≡ 1) × (frame (n + 1) ≡ frame n + 1) × (multiframe (n + 1) ≡ multiframe n) × (hyperframe (n + 1) ≡ hyperframe n)
+pub next-frame : (n : ℕ) → timeslot n ≡ 4 → frame n ≢ 18
+    → (timeslot (n + 1) ≡ 1) × (frame (n + 1) ≡ frame n + 1) × (multiframe (n + 1) ≡ multiframe n) × (hyperframe (n + 1) ≡ hyperframe n)
 next-frame n h g = omega arith
 
-pub next-multiframe : (n : ℕ) → timeslot n ≡ 4 → frame n ≡ 18 → multiframe n ≢ 60 → (timeslot (n + 1) ≡ 1) × (frame (n + 1) ≡ 1) × (multiframe (n + 1) ≡ multiframe n + 1) × (hyperframe (n + 1) ≡ hyperframe n)
+pub next-multiframe : (n : ℕ) → timeslot n ≡ 4 → frame n ≡ 18 → multiframe n ≢ 60
+    → (timeslot (n + 1) ≡ 1) × (frame (n + 1) ≡ 1) × (multiframe (n + 1) ≡ multiframe n + 1) × (hyperframe (n + 1) ≡ hyperframe n)
 next-multiframe n h g k = omega arith
 
-pub next-hyperframe : (n : ℕ) → timeslot n ≡ 4 → frame n ≡ 18 → multiframe n ≡ 60 → hyperframe n ≢ 65535 → (timeslot (n + 1) ≡ 1) × (frame (n + 1) ≡ 1) × (multiframe (n + 1) ≡ 1) × (hyperframe (n + 1) ≡ hyperframe n + 1)
+pub next-hyperframe : (n : ℕ) → timeslot n ≡ 4 → frame n ≡ 18 → multiframe n ≡ 60 → hyperframe n ≢ 65535
+    → (timeslot (n + 1) ≡ 1) × (frame (n + 1) ≡ 1) × (multiframe (n + 1) ≡ 1) × (hyperframe (n + 1) ≡ hyperframe n + 1)
 next-hyperframe n h g k l = omega arith
 
 -- after the last time comes the first

@@ -10,10 +10,12 @@ use native.Mathlib.Nat.{zero-add, suc-add}
 use lib.ListN.{length, take, drop}
 use lib.Dec.{eqb}
 use borrow.Author.Tests.{eqb-true, eqb-false}
+use Rattle.lists.proofs.Every.{All}
 use Rattle.tdma_time.specs.Time.{clock, timeslot, frame, usable, firstOf, framesOn, usableOf, firstUsable, usables}
-use Rattle.tdma_time.proofs.Basics.{either, All, all-map, RisingFrom}
+use Rattle.tdma_time.proofs.Basics.{either, RisingFrom}
 use Rattle.tdma_time.proofs.TimeLaws.{clock-add, clock-cancel, clock-frame}
-use Rattle.tdma_time.proofs.SlotLaws.{usable-frame, unusable-frame, frame-usable, usable-cong, Good, first-from, first-slot, first-least, first-self, first-next, first-clock}
+use Rattle.tdma_time.proofs.SlotLaws.{usable-frame, unusable-frame, frame-usable, usable-cong, Good, first-from, first-slot, first-least, first-self}
+use Rattle.tdma_time.proofs.SlotLaws.{first-next, first-clock}
 
 -- ---- the first usable slot
 
@@ -103,26 +105,26 @@ firstUsable-same t a b h = rw h
 -- ---- the next usable slot
 
 -- after a slot of the timeslot it is a frame on, or two where the next is of frame 18
-pub data Next (t u : ℕ) : Type 0 where
-  near : frame (u + 4) ≢ 18 → firstUsable t (u + 1) ≡ u + 4 → Next t u
-  far : frame (u + 4) ≡ 18 → firstUsable t (u + 1) ≡ u + 8 → Next t u
+pub data NextUsable (t u : ℕ) : Type 0 where
+  near : frame (u + 4) ≢ 18 → firstUsable t (u + 1) ≡ u + 4 → NextUsable t u
+  far : frame (u + 4) ≡ 18 → firstUsable t (u + 1) ≡ u + 8 → NextUsable t u
 
-pub next : (t u : ℕ) → timeslot u ≡ t → Next t u
-next t u e = go (which t (u + 1)) (first-next t u e)
+pub next-usable : (t u : ℕ) → timeslot u ≡ t → NextUsable t u
+next-usable t u e = go (which t (u + 1)) (first-next t u e)
   where
-    go : Which t (u + 1) → firstOf t (u + 1) ≡ u + 4 → Next t u
+    go : Which t (u + 1) → firstOf t (u + 1) ≡ u + 4 → NextUsable t u
     go (here p q) h = near (rw h at p) (q ∙ h)
     go (on p q) h = far (rw h at p) (omega (arith, q, h))
 
 -- usable slots of a timeslot with one next time show one time
 pub next-inj : (t u v : ℕ) → Good t u → Good t v → clock (firstUsable t (u + 1)) ≡ clock (firstUsable t (v + 1)) → clock u ≡ clock v
-next-inj t u v g k e = go (next t u (g .slot)) (next t v (k .slot))
+next-inj t u v g k e = go (next-usable t u (g .slot)) (next-usable t v (k .slot))
   where
     -- x is not of frame 18, so it cannot show the time of y + 4
     never : (x y : ℕ) → Good t x → frame (y + 4) ≡ 18 → clock (x + 4) ≡ clock (y + 8) → clock u ≡ clock v
     never x y good at18 h = absurd (good .not18 (clock-frame x (y + 4) (clock-cancel x (y + 4) 4 (h ∙ ap clock (omega arith))) ∙ at18))
 
-    go : Next t u → Next t v → clock u ≡ clock v
+    go : NextUsable t u → NextUsable t v → clock u ≡ clock v
     go (near p q) (near p′ q′) = clock-cancel u v 4 (rw (q, q′) at e)
     go (near p q) (far p′ q′) = never u v g p′ (rw (q, q′) at e)
     go (far p q) (near p′ q′) = never v u k p (sym (rw (q, q′) at e))
@@ -153,22 +155,14 @@ unfolding after
 after-from t n zero = omega arith
 after-from t n (suc d) = omega (arith, after-from t (firstUsable t n + 1) d, firstUsable-from t n)
 
--- the first k usable slots lie between n and there
-pub usables-between : (t n k : ℕ) → All (λ c. (n ≤ c) × (c < after t n k)) (usables t n k)
-unfolding usables after
-usables-between t n zero = tt
-usables-between t n (suc k) = (
-  (firstUsable-from t n, omega (arith, after-from t (firstUsable t n + 1) k)),
-  all-map (λ c h. (omega (arith, h .0, firstUsable-from t n), h .1)) (usables t (firstUsable t n + 1) k) (usables-between t (firstUsable t n + 1) k),
-)
-
 -- and of the usable slots of the timeslot between n and there none is left out
 pub usables-has : (t n k x : ℕ) → Good t x → n ≤ x → x < after t n k → List·Memᴰ x (usables t n k)
 unfolding usables after
 usables-has t n zero x g l h = absurd (omega arith)
 usables-has t n (suc k) x g l h = go (eqb x (firstUsable t n)) refl (λ p. usables-has t (firstUsable t n + 1) k x g p h)
   where
-    go : (b : Bool) → eqb x (firstUsable t n) ≡ b → (firstUsable t n + 1 ≤ x → List·Memᴰ x (usables t (firstUsable t n + 1) k)) → List·Memᴰ x (firstUsable t n ∷ usables t (firstUsable t n + 1) k)
+    go : (b : Bool) → eqb x (firstUsable t n) ≡ b → (firstUsable t n + 1 ≤ x → List·Memᴰ x (usables t (firstUsable t n + 1) k))
+        → List·Memᴰ x (firstUsable t n ∷ usables t (firstUsable t n + 1) k)
     go true e later = List·Memᴰ·head (eqb-true _ _ e)
     go false e later = List·Memᴰ·tail (later (omega (arith, firstUsable-least t n x g l, eqb-false x (firstUsable t n) e)))
 
@@ -197,13 +191,15 @@ usables-clock t a b h zero = refl
 usables-clock t a b h (suc k) = ap₂ _∷_ h (usables-clock t _ _ (firstUsable-clock t _ _ (clock-add _ _ 1 h)) k)
 
 -- where the first usable slots show one time, so do those after d of them
-pub after-cong : (t a b : ℕ) → clock (firstUsable t a) ≡ clock (firstUsable t b) → (d : ℕ) → clock (firstUsable t (after t a d)) ≡ clock (firstUsable t (after t b d))
+pub after-cong : (t a b : ℕ) → clock (firstUsable t a) ≡ clock (firstUsable t b) → (d : ℕ)
+    → clock (firstUsable t (after t a d)) ≡ clock (firstUsable t (after t b d))
 unfolding after
 after-cong t a b h zero = h
 after-cong t a b h (suc d) = after-cong t _ _ (firstUsable-clock t _ _ (clock-add _ _ 1 h)) d
 
 -- and the other way round
-pub after-inj : (t : ℕ) → 1 ≤ t → t ≤ 4 → (d a b : ℕ) → clock (firstUsable t (after t a d)) ≡ clock (firstUsable t (after t b d)) → clock (firstUsable t a) ≡ clock (firstUsable t b)
+pub after-inj : (t : ℕ) → 1 ≤ t → t ≤ 4 → (d a b : ℕ) → clock (firstUsable t (after t a d)) ≡ clock (firstUsable t (after t b d))
+    → clock (firstUsable t a) ≡ clock (firstUsable t b)
 unfolding after
 after-inj t h g zero a b e = e
 after-inj t h g (suc d) a b e = next-inj t _ _ (firstUsable-good t a h g) (firstUsable-good t b h g) (after-inj t h g d _ _ e)
@@ -246,7 +242,8 @@ usableOf-first t n k h g =
     ∙ usables-same t _ _ (firstUsable-same t _ _ (first-self t _ (first-slot t n h g))) _
 
 -- j of them after passing over d
-pub usableOf-run : (t n k : ℕ) → 1 ≤ t → t ≤ 4 → (d j : ℕ) → d + j ≤ length (usableOf (framesOn (firstOf t n) k)) → take j (drop d (usableOf (framesOn (firstOf t n) k))) ≡ usables t (after t n d) j
+pub usableOf-run : (t n k : ℕ) → 1 ≤ t → t ≤ 4 → (d j : ℕ) → d + j ≤ length (usableOf (framesOn (firstOf t n) k))
+    → take j (drop d (usableOf (framesOn (firstOf t n) k))) ≡ usables t (after t n d) j
 usableOf-run t n k h g d j l =
     let slots : List ℕ = usableOf (framesOn (firstOf t n) k) in
     let r : ℕ = length slots - (d + j) in

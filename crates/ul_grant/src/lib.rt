@@ -17,16 +17,16 @@ ghost use Rattle.tdma_time.specs.Time.{Valid, slotOf, usable, firstOf};
 ghost use Rattle.reservation_requirement.specs.Requirement.{requirementCode};
 ghost use Rattle.uplink.specs.Uplink.{withTable};
 ghost use Rattle.uplink.specs.Request.{Request, drawn, answer};
-ghost use Rattle.uplink.specs.Functions.{blockOf, grantedAt};
+ghost use Rattle.uplink.specs.Functions.{blockTaken, grantedAt};
 
 // A marker drawn, and the counters after it.
 struct MarkerDrawn {
     pub usage_marker: u8,
-    pub next_usage_marker: [u8; 4],
+    pub next_usage_marker: [u8; sizes::TIMESLOTS],
 }
 
 // A fresh usage marker for a timeslot, from its counter.
-fn alloc_usage_marker(next_usage_marker: [u8; 4], timeslot: u8) -> MarkerDrawn
+fn alloc_usage_marker(next_usage_marker: [u8; sizes::TIMESLOTS], timeslot: u8) -> MarkerDrawn
     requires { ⌜ (1 ≤ timeslot) × (timeslot ≤ timeslots) ⌝ }
     ensures { λ r. ⌜ r .«usage_marker» ≡ getD «next_usage_marker» (timeslot - 1) 0 ⌝ }
     ensures { λ r. ⌜ r .«next_usage_marker» ≡ drawn «next_usage_marker» timeslot ⌝ }
@@ -50,7 +50,7 @@ fn alloc_usage_marker(next_usage_marker: [u8; 4], timeslot: u8) -> MarkerDrawn
 
 // Which halves of a slot a request takes: both, or for half a slot the first if it is free, else the second.
 fn free_block(e: Entry, is_halfslot: bool) -> PhyBlockNum
-    ensures { λ r. ⌜ r ≡ blockOf «is_halfslot» (e .ul1) ⌝ }
+    ensures { λ r. ⌜ r ≡ blockTaken «is_halfslot» (e .ul1) ⌝ }
 {
     let ul1 = e.ul1;
     if is_halfslot {

@@ -57,7 +57,7 @@ fn taken(e: Entry, ssi: u32, block: PhyBlockNum, usage_marker: OptU8) -> Entry
 
 // The table with `num_slots` usable slots reserved, from `start` frames after the first opportunity on.
 pub fn ul_reserve_grant(
-    table: [[Entry; 18]; 4],
+    table: [[Entry; 18]; sizes::TIMESLOTS],
     now: TdmaTime,
     t: u8,
     start: usize,
@@ -65,7 +65,7 @@ pub fn ul_reserve_grant(
     ssi: u32,
     block: PhyBlockNum,
     usage_marker: OptU8,
-) -> [[Entry; 18]; 4]
+) -> [[Entry; 18]; sizes::TIMESLOTS]
     requires { ⌜ Valid now ⌝ }
     requires { ⌜ (1 ≤ t) × (t ≤ timeslots) ⌝ }
     requires { ⌜ start ≤ framesSearched ⌝ }

@@ -26,7 +26,7 @@ fn is_free(e: Entry, is_halfslot: bool) -> bool
 
 // The earliest run of free slots among the timeslot's 17 slots from the first at or after now.
 pub fn ul_find_grant_opportunity(
-    table: [[Entry; 18]; 4],
+    table: [[Entry; 18]; sizes::TIMESLOTS],
     now: TdmaTime,
     t: u8,
     num_slots: usize,

@@ -22,14 +22,15 @@ use Rattle.uplink.specs.HalfSlot.{vacant}
 use Rattle.uplink.specs.Search.{Run}
 use Rattle.uplink.specs.UplinkEntry.{Table, FourRowsOfEighteen, emptyEntry, entryAt, tableView, reserve}
 use Rattle.uplink.specs.Uplink.{withTable}
-use Rattle.uplink.specs.Request.{Request, candidates, fits, earliestRun, Verdict, noRun, tooLate, grant, settle, verdict, capacity, draws, drawn, markerOf, markersAfter, replyTo, tableAfter, countersAfter, given, answer}
-use Rattle.uplink.specs.Functions.{asOpportunity, opportunity, slotsFrom, blockOf, blockHalves, grantedAt}
+use Rattle.uplink.specs.Request.{Request, candidates, slotFits, earliestRun, Verdict, noRun, tooLate, grant, settle, verdict, capacity, draws, drawn}
+use Rattle.uplink.specs.Request.{markerOf, markersAfter, replyTo, tableAfter, countersAfter, given, answer}
+use Rattle.uplink.specs.Functions.{asOpportunity, opportunity, slotsFrom, blockTaken, blockHalves, grantedAt}
 use Rattle.uplink.proofs.FrameWalk.{rest-next, first-at, on-entry}
 use Rattle.uplink.proofs.ReserveLaws.{reserve-shape}
 use Rattle.uplink.proofs.RequestLaws.{wanted-pos, getD-take-first, Begins, begins, capacity-halves}
 
 -- the first of the slots from a usable one on is that one
-slots-head : (now : TdmaTime) (t start n : ℕ) → 0 < n → start < 17 → usable (firstOf t (slotOf now) + start * 4) ≡ true
+slots-head : (now : TdmaTime) (t start n : ℕ) → 0 < n → start < framesSearched → usable (firstOf t (slotOf now) + start * 4) ≡ true
     → getD (slotsFrom now t start n) 0 0 ≡ firstOf t (slotOf now) + start * 4
 unfolding slotsFrom
 slots-head now t start n pos low can =
@@ -70,7 +71,8 @@ module _ (u : Uplink) (r : Request) (start skips : ℕ) where
     capacity-at = rw (slots-head now (r .timeslot) start (slotsWanted (r .code)) (wanted-pos (r .code)) low can)
 
     pub granted-by : (n cap : ℕ) (o : OptU32) (block : PhyBlockNum) (m : OptU8) (counters : List ℕ) (out : Table)
-        → n ≡ slotsWanted (r .code) → o ≡ entryAt tb (first + start * timeslots) .ul1 → cap ≡ capacityFor (r .code) (not (vacant o)) → block ≡ blockOf (wantsHalf (r .code)) o
+        → n ≡ slotsWanted (r .code) → o ≡ entryAt tb (first + start * timeslots) .ul1 → cap ≡ capacityFor (r .code) (not (vacant o))
+        → block ≡ blockTaken (wantsHalf (r .code)) o
         → m ≡ markerOf ms r → counters ≡ markersAfter ms r → out ≡ reserve tb (blockHalves block) (r .number) m (slotsFrom now (r .timeslot) start n)
         → record { reply = CapReply.Granted cap skips m; uplink = withTable u out counters } ≡ grantedAt u r start skips
     unfolding grantedAt given replyTo tableAfter countersAfter
@@ -78,7 +80,7 @@ module _ (u : Uplink) (r : Request) (start skips : ℕ) where
         rw (er, et, em, eb, ec, en, eo, capacity-at, capacity-halves (r .code) (entryAt tb (first + start * timeslots) .ul1))
 
 -- the entry that the code reads for it
-pub entry-read : (tb : Table) (now : TdmaTime) (t start : ℕ) (x : TdmaTime) → 1 ≤ t → t ≤ 4 → x ≡ forwardTime now t
+pub entry-read : (tb : Table) (now : TdmaTime) (t start : ℕ) (x : TdmaTime) → 1 ≤ t → t ≤ timeslots → x ≡ forwardTime now t
     → getD (getD tb (t - 1) []) ((x .f - 1 + start) % 18) emptyEntry ≡ entryAt tb (firstOf t (slotOf now) + start * 4)
 entry-read tb now t start x h g e = on-entry tb (firstOf t (slotOf now)) (t - 1) (x .f - 1) start (first-at now t x h g e)
 
@@ -118,7 +120,8 @@ module _ (u : Uplink) (r : Request) where
       go : (o : Option Run) → run ≡ o → asOpportunity from o ≡ Opportunity.At start skips → FoundAt start skips
       go none q e = absurd (let z : _≡_ {A = ℕ} 0 1 = cc in omega arith)
       go (some g) q e =
-          let b : Begins from (slotsWanted (r .code)) g = begins (fits (wantsHalf (r .code)) (tableView (u .rows))) (slotsWanted (r .code)) from g (wanted-pos (r .code)) q in
+          let b : Begins from (slotsWanted (r .code)) g =
+          begins (slotFits (wantsHalf (r .code)) (tableView (u .rows))) (slotsWanted (r .code)) from g (wanted-pos (r .code)) q in
           let es : (getD (g .slots) 0 0 - from) / timeslots ≡ start = cc in
           let ek : g .delay ≡ skips = cc in
           let same : b .start ≡ start = omega (arith, es, b .first) in
@@ -133,7 +136,8 @@ module _ (u : Uplink) (r : Request) where
     unfolding answer verdict settle grantedAt
     answer-granted h =
         let f = found-at start skips e in
-        let same : f .g ≡ record { delay = skips; slots = slotsFrom (u .time) (r .timeslot) start (slotsWanted (r .code)) } = λ i. record { delay = f .delay i; slots = f .slots i } in
+        let same : f .g ≡ record { delay = skips; slots = slotsFrom (u .time) (r .timeslot) start (slotsWanted (r .code)) } =
+        λ i. record { delay = f .delay i; slots = f .slots i } in
         rw (f .is, f .delay, le-leb skips latestDelay h) (ap (λ (x : Run). given u r (grant x)) (sym same))
 
 -- ---- what a request leaves has its lengths

@@ -1,6 +1,6 @@
 -- A test of every element, as a loop accumulates it, and by places. Assumes nothing.
 use mathlib.Core.Path.{_≡_, refl, sym}
-use mathlib.Core.Bool.{Bool, true, false, _&&_}
+use mathlib.Core.Bool.{Bool, true, _&&_, and-assoc, and-true}
 use mathlib.Core.List.{List, [], _∷_}
 use Prim.Native.Nat.{ℕ, zero, suc, _+_, _<_, _≤_, zero-le, suc-le-suc}
 use native.Mathlib.Numerals.{add-one}
@@ -10,24 +10,15 @@ use lib.Seq.{drop-cons}
 use Rattle.optional.proofs.Tests.{and-left, and-right, and-intro}
 use Rattle.uplink.specs.UplinkEntry.{all}
 
--- the conjunction of three tests, either way round
-pub and-shift : (a b c : Bool) → (a && b) && c ≡ a && (b && c)
-and-shift true b c = refl
-and-shift false b c = refl
-
-pub and-end : (a : Bool) → a && true ≡ a
-and-end true = refl
-and-end false = refl
-
 module _ {A : Type 0} (p : A → Bool) where
   -- element i is tested; past the end nothing is left to test
   pub all-turn : (l : List A) (i : ℕ) (d : A) (a : Bool) → i < length l → a && all p (drop i l) ≡ (a && p (getD l i d)) && all p (drop (i + 1) l)
   unfolding all
-  all-turn l i d a h = rw (add-one, drop-cons l i d h) (sym (and-shift a (p (getD l i d)) (all p (drop (suc i) l))))
+  all-turn l i d a h = rw (add-one, drop-cons l i d h) (sym (and-assoc a (p (getD l i d)) (all p (drop (suc i) l))))
 
   pub all-done : (l : List A) (i : ℕ) (a : Bool) → length l ≤ i → a && all p (drop i l) ≡ a
   unfolding all
-  all-done l i a h = rw (drop-of-length-le l h) (and-end a)
+  all-done l i a h = rw (drop-of-length-le l h) (and-true a)
 
   -- every element passes exactly if each place's does
   pub all-at : (l : List A) (i : ℕ) (d : A) → i < length l → all p l ≡ true → p (getD l i d) ≡ true

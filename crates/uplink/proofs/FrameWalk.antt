@@ -10,6 +10,7 @@ use native.Mathlib.Omega.{arith}
 use native.Mathlib.Nat.{add-zero}
 use lib.ListN.{length, getD, set, take, length-append}
 use borrow.Author.Tests.{eq-eqb}
+use Rattle.sizes.specs.Sizes.{framesSearched, timeslots}
 use Rattle.optional.specs.declared.OptU8.{OptU8}
 use Rattle.tdma_time.specs.declared.TdmaTime.{TdmaTime}
 use Rattle.tdma_time.specs.Time.{usable, firstOf, framesOn, usableOf, frame, slotOf, forwardTime}
@@ -19,7 +20,7 @@ use Rattle.uplink.specs.declared.Opportunity.{Opportunity}
 use Rattle.uplink.specs.HalfSlot.{Half, freeFor}
 use Rattle.uplink.specs.Search.{walk}
 use Rattle.uplink.specs.UplinkEntry.{Table, emptyEntry, entryAt, store, tableView, withMarker, withHalves, reserve}
-use Rattle.uplink.specs.Request.{fits, candidates, earliestRun}
+use Rattle.uplink.specs.Request.{slotFits, candidates, earliestRun}
 use Rattle.uplink.specs.Functions.{asOpportunity, opportunity, slotsFrom}
 use Rattle.uplink.proofs.SearchLaws.{walk-skip, walk-block, walk-end, walk-on, walk-found}
 
@@ -32,17 +33,17 @@ frames-next u (suc k) h = let e : suc k - 1 ≡ k = omega arith in rw e
 
 -- what is left of 17 frames from slot u on, after d of them
 abbrev pub rest : ℕ → ℕ → List ℕ
-rest u d = framesOn (u + d * 4) (17 - d)
+rest u d = framesOn (u + d * 4) (framesSearched - d)
 
-pub rest-next : (u d : ℕ) → d < 17 → rest u d ≡ (u + d * 4) ∷ rest u (d + 1)
+pub rest-next : (u d : ℕ) → d < framesSearched → rest u d ≡ (u + d * 4) ∷ rest u (d + 1)
 rest-next u d h =
     let e : u + d * 4 + 4 ≡ u + (d + 1) * 4 = omega arith in
-    let k : 17 - d - 1 ≡ 17 - (d + 1) = omega arith in
-    frames-next (u + d * 4) (17 - d) (omega arith) ∙ rw (e, k)
+    let k : framesSearched - d - 1 ≡ framesSearched - (d + 1) = omega arith in
+    frames-next (u + d * 4) (framesSearched - d) (omega arith) ∙ rw (e, k)
 
-pub rest-none : (u d : ℕ) → d ≡ 17 → rest u d ≡ []
+pub rest-none : (u d : ℕ) → d ≡ framesSearched → rest u d ≡ []
 unfolding framesOn
-rest-none u d e = let z : 17 - d ≡ 0 = omega arith in ap (framesOn (u + d * 4)) z
+rest-none u d e = let z : framesSearched - d ≡ 0 = omega arith in ap (framesOn (u + d * 4)) z
 
 -- slot u stands in the table at a row and a column
 pub record At (u row first : ℕ) : Type 0 where
@@ -72,7 +73,7 @@ unfolding store
 on-store tb u row first d e a = rw (on-line u row d (a .line), on-place u first d (a .place))
 
 -- the first opportunity stands in row t - 1, in the column of its frame
-pub first-at : (now : TdmaTime) (t : ℕ) (x : TdmaTime) → 1 ≤ t → t ≤ 4 → x ≡ forwardTime now t → At (firstOf t (slotOf now)) (t - 1) (x .f - 1)
+pub first-at : (now : TdmaTime) (t : ℕ) (x : TdmaTime) → 1 ≤ t → t ≤ timeslots → x ≡ forwardTime now t → At (firstOf t (slotOf now)) (t - 1) (x .f - 1)
 first-at now t x h g e =
     let s = first-slot t (slotOf now) h g in
     record { line = omega (arith, s); place = rw e (omega arith) }
@@ -84,7 +85,7 @@ pub record Along (p : ℕ → Bool) (n u skips held start d : ℕ) : Type 0 wher
   pub run : List ℕ
   pub len : length run ≡ held
   pub head : 0 < held → getD run 0 0 ≡ u + start * 4
-  pub same : walk p n 0 [] (framesOn u 17) ≡ walk p n skips run (rest u d)
+  pub same : walk p n 0 [] (framesOn u framesSearched) ≡ walk p n skips run (rest u d)
 
 -- the first of a run with one more
 head-more : (run : List ℕ) (c h : ℕ) → (length run ≡ 0 → c ≡ h) → (0 < length run → getD run 0 0 ≡ h) → getD (run ++ c ∷ []) 0 0 ≡ h
@@ -93,18 +94,18 @@ head-more (x ∷ run) c h z y = y (omega arith)
 
 -- the search at the head of a turn, whichever slot stands in that row and column
 pub record Looking (tb : Table) (half : Bool) (n row first start held skips d : ℕ) : Type 0 where
-  pub d17 : d ≤ 17
+  pub searched : d ≤ framesSearched
   pub short : held < n
   pub few : skips + held ≤ d
   pub begun : start ≤ d
-  pub line : row < 4
+  pub line : row < timeslots
   pub place : first < 18
-  pub along : (u : ℕ) → At u row first → Along (fits half (tableView tb)) n u skips held start d
+  pub along : (u : ℕ) → At u row first → Along (slotFits half (tableView tb)) n u skips held start d
 
-pub looking-begin : (tb : Table) (half : Bool) (n row first : ℕ) → 0 < n → row < 4 → first < 18 → Looking tb half n row first 0 0 0 0
+pub looking-begin : (tb : Table) (half : Bool) (n row first : ℕ) → 0 < n → row < timeslots → first < 18 → Looking tb half n row first 0 0 0 0
 looking-begin tb half n row first h r f =
     record {
-      d17 = omega arith;
+      searched = omega arith;
       short = h;
       few = omega arith;
       begun = omega arith;
@@ -115,17 +116,17 @@ looking-begin tb half n row first h r f =
 
 module _ (tb : Table) (half : Bool) (n row first start held skips d : ℕ) (l : Looking tb half n row first start held skips d) where
   abbrev p : ℕ → Bool
-  p = fits half (tableView tb)
+  p = slotFits half (tableView tb)
 
   abbrev e : Entry
   e = getD (getD tb row []) ((first + d) % 18) emptyEntry
 
-  pub looking-none : (u : ℕ) → At u row first → d ≡ 17 → walk p n 0 [] (framesOn u 17) ≡ none
+  pub looking-none : (u : ℕ) → At u row first → d ≡ framesSearched → walk p n 0 [] (framesOn u framesSearched) ≡ none
   unfolding walk
   looking-none u a z = let k = l .along u a in k .same ∙ ap (walk p n skips (k .run)) (rest-none u d z)
 
-  module _ (more : d < 17) where
-    turned : (u : ℕ) (a : At u row first) → walk p n 0 [] (framesOn u 17) ≡ walk p n skips (l .along u a .run) ((u + d * 4) ∷ rest u (d + 1))
+  module _ (more : d < framesSearched) where
+    turned : (u : ℕ) (a : At u row first) → walk p n 0 [] (framesOn u framesSearched) ≡ walk p n skips (l .along u a .run) ((u + d * 4) ∷ rest u (d + 1))
     turned u a = l .along u a .same ∙ ap (walk p n skips (l .along u a .run)) (rest-next u d more)
 
     longer : (u : ℕ) (a : At u row first) → length (l .along u a .run ++ (u + d * 4) ∷ []) ≡ held + 1
@@ -134,7 +135,7 @@ module _ (tb : Table) (half : Bool) (n row first start held skips d : ℕ) (l : 
     pub looking-18 : (first + d) % 18 ≡ 17 → Looking tb half n row first start held skips (d + 1)
     looking-18 h =
         record {
-          d17 = omega arith;
+          searched = omega arith;
           short = l .short;
           few = omega (arith, l .few);
           begun = omega (arith, l .begun);
@@ -157,7 +158,7 @@ module _ (tb : Table) (half : Bool) (n row first start held skips d : ℕ) (l : 
       pub looking-block : freeFor half (e .ul1) (e .ul2) ≡ false → Looking tb half n row first start 0 (skips + held + 1) (d + 1)
       looking-block q =
           record {
-            d17 = omega arith;
+            searched = omega arith;
             short = omega (arith, l .short);
             few = omega (arith, l .few);
             begun = omega (arith, l .begun);
@@ -188,7 +189,7 @@ module _ (tb : Table) (half : Bool) (n row first start held skips d : ℕ) (l : 
         pub looking-on : held + 1 ≢ n → s ≤ d + 1 → Looking tb half n row first s (held + 1) skips (d + 1)
         looking-on o b =
             record {
-              d17 = omega arith;
+              searched = omega arith;
               short = omega (arith, l .short);
               few = omega (arith, l .few);
               begun = b;
@@ -204,19 +205,21 @@ module _ (tb : Table) (half : Bool) (n row first start held skips d : ℕ) (l : 
                   };
             }
 
-        pub looking-end : held + 1 ≡ n → (u : ℕ) → At u row first → Opportunity.At s skips ≡ asOpportunity u (walk p n 0 [] (framesOn u 17))
+        pub looking-end : held + 1 ≡ n → (u : ℕ) → At u row first → Opportunity.At s skips ≡ asOpportunity u (walk p n 0 [] (framesOn u framesSearched))
         looking-end o u a =
             let k = l .along u a in
-            let w : walk p n 0 [] (framesOn u 17) ≡ some (record { delay = skips; slots = k .run ++ (u + d * 4) ∷ [] }) =
+            let w : walk p n 0 [] (framesOn u framesSearched) ≡ some (record { delay = skips; slots = k .run ++ (u + d * 4) ∷ [] }) =
             turned u a ∙ walk-end p n skips (k .run) _ _ (on-usable u first d (a .place) h) (test true q u a) (longer u a ∙ o) in
             let v : (getD (k .run ++ (u + d * 4) ∷ []) 0 0 - u) / 4 ≡ s = omega (arith, headed u a) in
             sym (ap (asOpportunity u) w ∙ ap (λ (j : ℕ). Opportunity.At j skips) v)
 
 -- the loop is the declarative search
 pub walk-opportunity : (tb : Table) (now : TdmaTime) (t n : ℕ) (half : Bool) → 0 < n
-    → asOpportunity (firstOf t (slotOf now)) (walk (fits half (tableView tb)) n 0 [] (framesOn (firstOf t (slotOf now)) 17)) ≡ opportunity tb now t n half
+    → asOpportunity (firstOf t (slotOf now)) (walk (slotFits half (tableView tb)) n 0 [] (framesOn (firstOf t (slotOf now)) framesSearched))
+    ≡ opportunity tb now t n half
 unfolding opportunity earliestRun candidates
-walk-opportunity tb now t n half h = ap (asOpportunity (firstOf t (slotOf now))) (walk-found (fits half (tableView tb)) n (framesOn (firstOf t (slotOf now)) 17) h)
+walk-opportunity tb now t n half h =
+    ap (asOpportunity (firstOf t (slotOf now))) (walk-found (slotFits half (tableView tb)) n (framesOn (firstOf t (slotOf now)) framesSearched) h)
 
 -- ---- the reservation
 
@@ -229,7 +232,7 @@ module _ (hs : List Half) (who : ℕ) (m : OptU8) (left u d : ℕ) (tb : Table) 
   unfolding fill reserve
   fill-none e = rw e
 
-  pub fill-end : d ≡ 17 → fill hs who m left u d tb ≡ tb
+  pub fill-end : d ≡ framesSearched → fill hs who m left u d tb ≡ tb
   unfolding fill reserve usableOf
   fill-end e = rw (rest-none u d e) (none-left left)
     where
@@ -237,18 +240,25 @@ module _ (hs : List Half) (who : ℕ) (m : OptU8) (left u d : ℕ) (tb : Table) 
       none-left zero = refl
       none-left (suc k) = refl
 
-  module _ (row first : ℕ) (a : At u row first) (more : d < 17) where
+  module _ (row first : ℕ) (a : At u row first) (more : d < framesSearched) where
     pub fill-18 : (first + d) % 18 ≡ 17 → fill hs who m left u d tb ≡ fill hs who m left u (d + 1) tb
     unfolding fill
-    fill-18 h = ap (λ (cs : List ℕ). reserve tb hs who m (take left cs)) (ap usableOf (rest-next u d more) ∙ usableOf-leaves _ _ (on-unusable u first d (a .place) h))
+    fill-18 h =
+        ap (λ (cs : List ℕ). reserve tb hs who m (take left cs)) (ap usableOf (rest-next u d more) ∙ usableOf-leaves _ _ (on-unusable u first d (a .place) h))
 
     pub fill-one : (first + d) % 18 ≢ 17 → left ≢ 0
-        → fill hs who m left u d tb ≡ fill hs who m (left - 1) u (d + 1) (set tb row (set (getD tb row []) ((first + d) % 18) (withHalves (withMarker (getD (getD tb row []) ((first + d) % 18) emptyEntry) m) hs who)))
+        → fill hs who m left u d tb ≡ fill hs who m (left - 1) u (d + 1)
+        (set tb row (set (getD tb row []) ((first + d) % 18) (withHalves (withMarker (getD (getD tb row []) ((first + d) % 18) emptyEntry) m) hs who)))
     unfolding fill reserve
     fill-one h k =
         let s : left ≡ suc (left - 1) = omega arith in
-        let cs : usableOf (rest u d) ≡ (u + d * 4) ∷ usableOf (rest u (d + 1)) = ap usableOf (rest-next u d more) ∙ usableOf-keeps _ _ (on-usable u first d (a .place) h) in
-        rw (cs, on-store tb u row first d (withHalves (withMarker (getD (getD tb row []) ((first + d) % 18) emptyEntry) m) hs who) a, on-entry tb u row first d a)
+        let cs : usableOf (rest u d) ≡ (u + d * 4) ∷ usableOf (rest u (d + 1)) =
+        ap usableOf (rest-next u d more) ∙ usableOf-keeps _ _ (on-usable u first d (a .place) h) in
+        rw (
+          cs,
+          on-store tb u row first d (withHalves (withMarker (getD (getD tb row []) ((first + d) % 18) emptyEntry) m) hs who) a,
+          on-entry tb u row first d a,
+        )
         (ap (λ (j : ℕ). reserve tb hs who m (take j ((u + d * 4) ∷ usableOf (rest u (d + 1))))) s)
 
 -- from the first opportunity on

@@ -10,12 +10,15 @@ use lib.ListN.{length, getD, take, drop, length-drop}
 use lib.Seq.{getD-take, getD-drop, length-take-le}
 use lib.Dec.{leb}
 use borrow.Author.Tests.{eqb-true, eqb-false, le-leb, lt-leb, leb-true, leb-false}
+use Rattle.tdma_time.proofs.TimeLaws.{cell-parts}
+use Rattle.sizes.specs.Sizes.{latestDelay}
+use Rattle.lists.proofs.Every.{All}
 use Rattle.optional.specs.declared.OptU8.{OptU8}
 use Rattle.optional.specs.declared.OptU32.{OptU32}
 use Rattle.optional.proofs.Tests.{and-left}
 use Rattle.tdma_time.specs.declared.TdmaTime.{TdmaTime}
 use Rattle.tdma_time.specs.Time.{slotOf}
-use Rattle.tdma_time.proofs.Basics.{All, either}
+use Rattle.tdma_time.proofs.Basics.{either}
 use Rattle.slot_codes.specs.Codes.{slotsWanted, wantsHalf, capacityFor}
 use Rattle.uplink.specs.declared.CapAnswer.{CapAnswer}
 use Rattle.uplink.specs.declared.CapReply.{CapReply}
@@ -23,17 +26,19 @@ use Rattle.uplink.specs.declared.Entry.{Entry}
 use Rattle.uplink.specs.declared.Uplink.{Uplink}
 use Rattle.uplink.specs.HalfSlot.{Half, firstHalf, secondHalf, vacant, freeFor}
 use Rattle.uplink.specs.Search.{Run, earliest, found, runAt}
-use Rattle.uplink.specs.UplinkEntry.{Table, emptyEntry, SameEntry, entryAt, tableView, withMarker, withHalves, reserve, soundTable, soundCounters, soundCounter, soundMarker}
+use Rattle.uplink.specs.UplinkEntry.{Table, emptyEntry, SameEntry, entryAt, tableView, withMarker, withHalves, reserve, soundTable, soundCounters}
+use Rattle.uplink.specs.UplinkEntry.{soundCounter, soundMarker}
 use Rattle.uplink.specs.Uplink.{soundUplink}
-use Rattle.uplink.specs.Request.{Request, candidates, fits, earliestRun, noRun, tooLate, grant, settle, verdict, capacity, halvesOf, draws, drawn, markerOf, markersAfter, replyTo, replyNumber, tableAfter, countersAfter, given, answer}
+use Rattle.uplink.specs.Request.{Request, candidates, slotFits, earliestRun, noRun, tooLate, grant, settle, verdict, capacity, halvesOf, draws, drawn}
+use Rattle.uplink.specs.Request.{markerOf, markersAfter, replyTo, capNumber, tableAfter, countersAfter, given, answer}
 use Rattle.uplink.specs.GrantedExactly.{FreeFrom, EarliestFrom, slotOfRun, Reserved, Proper, Demand2}
 use Rattle.uplink.proofs.Everywhere.{all-at}
-use Rattle.uplink.proofs.TableLaws.{cell-same}
 use Rattle.uplink.proofs.RequestLaws.{wanted-pos, whole-halves}
 use Rattle.uplink.proofs.AnswerLaws.{marker-none}
 use Rattle.uplink.proofs.StretchLaws.{earliest-iff, none-iff}
 use Rattle.uplink.proofs.ReserveLaws.{Window, run-window, reserve-other, reserve-at}
-use Rattle.uplink.proofs.SoundLaws.{SoundParts, sound-parts, first-sound, both-sound, second-sound, Whole, sound-whole, whole-sound, reserve-whole, store-whole, drawn-sound, SoundUplink, uplink-parts, parts-uplink}
+use Rattle.uplink.proofs.SoundLaws.{EntryParts, entry-parts, first-sound, both-sound, second-sound, SoundEntries, sound-entries, whole-sound}
+use Rattle.uplink.proofs.SoundLaws.{reserve-whole, store-whole, drawn-sound, SoundUplink, uplink-parts, parts-uplink}
 
 -- ---- codes
 
@@ -53,7 +58,8 @@ slots-halves code b h = let z : code ≢ 0 = eqb-false _ _ h in rw h (whole-halv
 -- ---- entries
 
 -- an empty entry with both halves taken
-both-taken : (m : OptU8) (w : ℕ) → withHalves (withMarker emptyEntry m) (firstHalf ∷ secondHalf ∷ []) w ≡ record { ul1 = OptU32.Of w; ul2 = OptU32.Of w; «usage_marker» = m }
+both-taken : (m : OptU8) (w : ℕ)
+    → withHalves (withMarker emptyEntry m) (firstHalf ∷ secondHalf ∷ []) w ≡ record { ul1 = OptU32.Of w; ul2 = OptU32.Of w; «usage_marker» = m }
 unfolding withHalves
 both-taken OptU8.Absent w = refl
 both-taken (OptU8.Of m) w = refl
@@ -85,7 +91,7 @@ module _ (u : Uplink) (r : Request) (q : Proper u r) where
   cs = candidates (r .timeslot) (slotOf now)
 
   abbrev p : ℕ → Bool
-  p = fits (wantsHalf (r .code)) (tableView tb)
+  p = slotFits (wantsHalf (r .code)) (tableView tb)
 
   -- the run with i usable slots before it
   abbrev run : ℕ → Run
@@ -98,35 +104,35 @@ module _ (u : Uplink) (r : Request) (q : Proper u r) where
 
   pub data Outcome : Type 0 where
     found-none : ((i : ℕ) → FreeFrom u r i → ⊥) → answer u r ≡ given u r noRun → Outcome
-    found-late : (i : ℕ) → EarliestFrom u r i → 13 < i → answer u r ≡ given u r tooLate → Outcome
-    found-run : (i : ℕ) → EarliestFrom u r i → i ≤ 13 → answer u r ≡ given u r (grant (run i)) → Outcome
+    found-late : (i : ℕ) → EarliestFrom u r i → latestDelay < i → answer u r ≡ given u r tooLate → Outcome
+    found-run : (i : ℕ) → EarliestFrom u r i → i ≤ latestDelay → answer u r ≡ given u r (grant (run i)) → Outcome
 
   if-none : earliest p n cs ≡ none → answer u r ≡ given u r noRun
   unfolding answer verdict earliestRun found runAt settle
   if-none e = rw e
 
-  if-late : (i : ℕ) → earliest p n cs ≡ some i → 13 < i → answer u r ≡ given u r tooLate
+  if-late : (i : ℕ) → earliest p n cs ≡ some i → latestDelay < i → answer u r ≡ given u r tooLate
   unfolding answer verdict earliestRun found runAt settle
-  if-late i e h = rw (e, lt-leb i 13 h)
+  if-late i e h = rw (e, lt-leb i latestDelay h)
 
-  if-run : (i : ℕ) → earliest p n cs ≡ some i → i ≤ 13 → answer u r ≡ given u r (grant (run i))
+  if-run : (i : ℕ) → earliest p n cs ≡ some i → i ≤ latestDelay → answer u r ≡ given u r (grant (run i))
   unfolding answer verdict earliestRun found runAt settle
-  if-run i e h = rw (e, le-leb i 13 h)
+  if-run i e h = rw (e, le-leb i latestDelay h)
 
   outcome : Outcome
   outcome = go (earliest p n cs) refl
     where
-      some-at : (i : ℕ) → earliest p n cs ≡ some i → (b : Bool) → leb i 13 ≡ b → Outcome
-      some-at i e true h = found-run i (earliest-at i .0 e) (leb-true i 13 h) (if-run i e (leb-true i 13 h))
-      some-at i e false h = found-late i (earliest-at i .0 e) (leb-false i 13 h) (if-late i e (leb-false i 13 h))
+      some-at : (i : ℕ) → earliest p n cs ≡ some i → (b : Bool) → leb i latestDelay ≡ b → Outcome
+      some-at i e true h = found-run i (earliest-at i .0 e) (leb-true i latestDelay h) (if-run i e (leb-true i latestDelay h))
+      some-at i e false h = found-late i (earliest-at i .0 e) (leb-false i latestDelay h) (if-late i e (leb-false i latestDelay h))
 
       go : (o : Option ℕ) → earliest p n cs ≡ o → Outcome
       go none e = found-none (none-iff p n (wanted-pos (r .code)) cs .0 e) (if-none e)
-      go (some i) e = some-at i e (leb i 13) refl
+      go (some i) e = some-at i e (leb i latestDelay) refl
 
   -- ---- a grant
 
-  module _ (i : ℕ) (at : EarliestFrom u r i) (low : i ≤ 13) where
+  module _ (i : ℕ) (at : EarliestFrom u r i) (low : i ≤ latestDelay) where
     abbrev slots : List ℕ
     slots = take n (drop i cs)
 
@@ -159,14 +165,15 @@ module _ (u : Uplink) (r : Request) (q : Proper u r) where
     slot-at : (j : ℕ) → j < n → getD slots j 0 ≡ slotOfRun u r i j
     slot-at j l = getD-take n (drop i cs) j 0 l ∙ getD-drop i cs j 0
 
-    taken-at : (j : ℕ) → j < n → entryAt (answer u r .uplink .rows) (slotOfRun u r i j) ≡ withHalves (withMarker (entryAt tb (slotOfRun u r i j)) m) hs (r .number)
+    taken-at : (j : ℕ) → j < n
+        → entryAt (answer u r .uplink .rows) (slotOfRun u r i j) ≡ withHalves (withMarker (entryAt tb (slotOfRun u r i j)) m) hs (r .number)
     taken-at j l = rw (table-is, ← slot-at j l) (reserve-at hs (r .number) m (slotOf now) slots tb (q .shape) window j (rw long l))
 
-    whole-table : Whole tb
-    whole-table = sound-whole tb (q .shape) (sound .table)
+    whole-table : SoundEntries tb
+    whole-table = sound-entries tb (q .shape) (sound .table)
 
-    parts : (c : ℕ) → SoundParts (entryAt tb c)
-    parts c = sound-parts (entryAt tb c) (whole-table .entries c)
+    parts : (c : ℕ) → EntryParts (entryAt tb c)
+    parts c = entry-parts (entryAt tb c) (whole-table .entries c)
 
     first-slot : slotOfRun u r i 0 ≡ getD slots 0 0
     first-slot = sym (slot-at 0 (wanted-pos (r .code)))
@@ -175,10 +182,12 @@ module _ (u : Uplink) (r : Request) (q : Proper u r) where
         → entryAt (answer u r .uplink .rows) (slotOfRun u r i j) ≡ record { ul1 = OptU32.Of (r .number); ul2 = OptU32.Of (r .number); «usage_marker» = m }
     unfolding capacity
     whole-is h j l =
-        let free : vacant (entryAt tb (slotOfRun u r i j) .ul1) ≡ true = free-first (entryAt tb (slotOfRun u r i j) .ul1) (entryAt tb (slotOfRun u r i j) .ul2) (rw h at (at .stretch .each j l)) in
+        let free : vacant (entryAt tb (slotOfRun u r i j) .ul1) ≡ true =
+        free-first (entryAt tb (slotOfRun u r i j) .ul1) (entryAt tb (slotOfRun u r i j) .ul2) (rw h at (at .stretch .each j l)) in
         taken-at j l
         ∙ ap (λ (e : Entry). withHalves (withMarker e m) hs (r .number)) (parts (slotOfRun u r i j) .alone free)
-        ∙ ap (λ (x : List Half). withHalves (withMarker emptyEntry m) x (r .number)) (slots-halves (r .code) (not (vacant (tableView tb (getD slots 0 0) firstHalf))) h)
+        ∙ ap (λ (x : List Half). withHalves (withMarker emptyEntry m) x (r .number))
+        (slots-halves (r .code) (not (vacant (tableView tb (getD slots 0 0) firstHalf))) h)
         ∙ both-taken m (r .number)
 
     whole-reply : wantsHalf (r .code) ≡ false → answer u r .reply ≡ CapReply.Granted (min (r .code) 14) i m
@@ -201,14 +210,24 @@ module _ (u : Uplink) (r : Request) (q : Proper u r) where
 
       first-is : vacant (tableView tb (slotOfRun u r i 0) firstHalf) ≡ true
           → (answer u r .reply ≡ CapReply.Granted 0 i OptU8.Absent)
-          × (entryAt (answer u r .uplink .rows) (slotOfRun u r i 0) ≡ record { ul1 = OptU32.Of (r .number); ul2 = OptU32.Absent; «usage_marker» = OptU8.Absent })
+          × (entryAt (answer u r .uplink .rows) (slotOfRun u r i 0) ≡ record {
+            ul1 = OptU32.Of
+                (r .number);
+            ul2 = OptU32.Absent;
+            «usage_marker» = OptU8.Absent;
+          })
       unfolding halvesOf withHalves
       first-is v = let k = half-is true v in (k .0, k .1 ∙ ap (λ (e : Entry). withHalves e (firstHalf ∷ []) (r .number)) (parts (slotOfRun u r i 0) .alone v))
 
       second-is : vacant (tableView tb (slotOfRun u r i 0) firstHalf) ≡ false
           → let before = entryAt tb (slotOfRun u r i 0) in
           (answer u r .reply ≡ CapReply.Granted 15 i OptU8.Absent)
-          × (entryAt (answer u r .uplink .rows) (slotOfRun u r i 0) ≡ record { ul1 = before .ul1; ul2 = OptU32.Of (r .number); «usage_marker» = before .«usage_marker» })
+          × (entryAt (answer u r .uplink .rows) (slotOfRun u r i 0) ≡ record {
+            ul1 = before .ul1;
+            ul2 = OptU32.Of
+                (r .number);
+            «usage_marker» = before .«usage_marker»;
+          })
       unfolding halvesOf withHalves
       second-is v = half-is false v
 
@@ -217,7 +236,7 @@ module _ (u : Uplink) (r : Request) (q : Proper u r) where
         rw table-is
         (reserve-other hs (r .number) m slots tb (q .shape) c
         (all-places (λ d. c % 72 ≢ d % 72) slots
-        (λ j l. let k : j < n = rw long at l in λ e. h j k (cell-same c (slotOfRun u r i j) (e ∙ ap (λ (x : ℕ). x % 72) (slot-at j k))))))
+        (λ j l. let k : j < n = rw long at l in λ e. h j k (cell-parts c (slotOfRun u r i j) (e ∙ ap (λ (x : ℕ). x % 72) (slot-at j k))))))
 
     counters-are : answer u r .uplink .«next_usage_marker» ≡ markersAfter ms r
     unfolding given countersAfter
@@ -249,21 +268,22 @@ module _ (u : Uplink) (r : Request) (q : Proper u r) where
         go true = all-at soundCounter ms (r .timeslot - 1) 0 (omega (arith, q .four, q .timeslot-low, q .timeslot-high)) (sound .counters)
         go false = refl
 
-    slots-sound : wantsHalf (r .code) ≡ false → Whole after
+    slots-sound : wantsHalf (r .code) ≡ false → SoundEntries after
     unfolding capacity
     slots-sound h =
         rw (slots-halves (r .code) (not (vacant (tableView tb (getD slots 0 0) firstHalf))) h)
         (reserve-whole (firstHalf ∷ secondHalf ∷ []) (r .number) m (λ e k. both-sound e m (r .number) k marker-sound (q .number)) slots tb whole-table)
 
     one-sound : (ds : List ℕ) → length ds ≡ 1 → (b : Bool) → vacant (tableView tb (getD ds 0 0) firstHalf) ≡ b
-        → Whole (reserve tb (halvesOf (cond (not b) 15 0)) (r .number) m ds)
+        → SoundEntries (reserve tb (halvesOf (cond (not b) 15 0)) (r .number) m ds)
     unfolding halvesOf reserve
     one-sound [] l b v = absurd (omega arith)
     one-sound (c ∷ d ∷ ds) l b v = absurd (omega arith)
     one-sound (c ∷ []) l true v = store-whole tb c _ (first-sound (entryAt tb c) m (r .number) (whole-table .entries c) marker-sound (q .number)) whole-table
-    one-sound (c ∷ []) l false v = store-whole tb c _ (second-sound (entryAt tb c) m (r .number) (whole-table .entries c) marker-sound (q .number) v) whole-table
+    one-sound (c ∷ []) l false v =
+        store-whole tb c _ (second-sound (entryAt tb c) m (r .number) (whole-table .entries c) marker-sound (q .number) v) whole-table
 
-    half-sound : wantsHalf (r .code) ≡ true → Whole after
+    half-sound : wantsHalf (r .code) ≡ true → SoundEntries after
     half-sound h =
         let b : Bool = vacant (tableView tb (getD slots 0 0) firstHalf) in
         rw (cap-is h b (ap (λ (c : ℕ). vacant (tableView tb c firstHalf)) first-slot)) (one-sound slots (long ∙ half-one (r .code) h) b refl)
@@ -302,10 +322,10 @@ module _ (u : Uplink) (r : Request) (q : Proper u r) where
   clash {ℓ} : {X : Type ℓ} (a b : CapReply) → answer u r .reply ≡ a → answer u r .reply ≡ b → kind a ≢ kind b → X
   clash a b e f h = absurd (h (ap kind (sym e ∙ f)))
 
-  only-then : (cap delay : ℕ) (k : OptU8) → answer u r .reply ≡ CapReply.Granted cap delay k → EarliestFrom u r delay × (delay ≤ 13)
+  only-then : (cap delay : ℕ) (k : OptU8) → answer u r .reply ≡ CapReply.Granted cap delay k → EarliestFrom u r delay × (delay ≤ latestDelay)
   only-then cap delay k e = go outcome
     where
-      go : Outcome → EarliestFrom u r delay × (delay ≤ 13)
+      go : Outcome → EarliestFrom u r delay × (delay ≤ latestDelay)
       go (found-none h f) = clash _ _ (none-reply f) e (omega arith)
       go (found-late i h l f) = clash _ _ (late-reply f) e (omega arith)
       go (found-run i h l f) = let same : i ≡ delay = ap delayIn (sym (reply-is i h l) ∙ e) in (rw (← same) h, rw (← same) l)
@@ -318,22 +338,22 @@ module _ (u : Uplink) (r : Request) (q : Proper u r) where
       there (found-late i h l f) e = clash _ _ (late-reply f) e (omega arith)
       there (found-run i h l f) e = clash _ _ (reply-is i h l) e (omega arith)
 
-  too-late : (answer u r .reply ≡ CapReply.TooLate) ↔ ((i : ℕ) × EarliestFrom u r i × (13 < i))
+  too-late : (answer u r .reply ≡ CapReply.TooLate) ↔ ((i : ℕ) × EarliestFrom u r i × (latestDelay < i))
   too-late = (there outcome, λ x. late-reply (if-late (x .0) (earliest-at (x .0) .1 (x .1)) (x .2)))
     where
-      there : Outcome → answer u r .reply ≡ CapReply.TooLate → (i : ℕ) × EarliestFrom u r i × (13 < i)
+      there : Outcome → answer u r .reply ≡ CapReply.TooLate → (i : ℕ) × EarliestFrom u r i × (latestDelay < i)
       there (found-none h f) e = clash _ _ (none-reply f) e (omega arith)
       there (found-late i h l f) e = (i, h, l)
       there (found-run i h l f) e = clash _ _ (reply-is i h l) e (omega arith)
 
-  refused : replyNumber (answer u r .reply) ≢ 0 → answer u r .uplink ≡ u
+  refused : capNumber (answer u r .reply) ≢ 0 → answer u r .uplink ≡ u
   unfolding given tableAfter countersAfter
   refused z = go outcome
     where
       go : Outcome → answer u r .uplink ≡ u
       go (found-none h f) = ap (λ (a : CapAnswer). a .uplink) f
       go (found-late i h l f) = ap (λ (a : CapAnswer). a .uplink) f
-      go (found-run i h l f) = absurd (z (ap replyNumber (reply-is i h l)))
+      go (found-run i h l f) = absurd (z (ap capNumber (reply-is i h l)))
 
   sound-after : soundUplink (answer u r .uplink) ≡ true
   unfolding given tableAfter countersAfter

@@ -9,8 +9,9 @@ use native.Mathlib.Omega.{arith}
 use native.Mathlib.Nat.{add-zero, not-suc-le-zero}
 use lib.ListN.{take, getD}
 use lib.Dec.{eqb}
+use Rattle.sizes.specs.Sizes.{framesSearched, timeslots}
+use Rattle.lists.proofs.Every.{All}
 use Rattle.tdma_time.specs.Time.{clock, firstUsable, usables}
-use Rattle.tdma_time.proofs.Basics.{All}
 use Rattle.tdma_time.proofs.UsableLaws.{usables-clock, after, usables-drop, usables-take, after-cong, after-inj, usableOf-run}
 use Rattle.slot_codes.specs.Codes.{slotCounts, slotsWanted, slotsGranted}
 use Rattle.slot_codes.proofs.CodesLaws.{grants-what-was-wanted}
@@ -22,7 +23,8 @@ use Rattle.uplink.proofs.VerdictLaws.{Granted, verdict-grant, granted-r
 -- the granted slots, without the slots passed over
 pub ms-after : (t cap d n : ℕ) → msHalfSlots t cap d n ≡ halvesOfSlots (halvesOf cap) (usables t (after t n d) (slotsGranted cap))
 unfolding msHalfSlots
-ms-after t cap d n = ap (halvesOfSlots (halvesOf cap)) (ap (take (slotsGranted cap)) (usables-drop t n d (slotsGranted cap)) ∙ whole (after t n d) (slotsGranted cap))
+ms-after t cap d n =
+    ap (halvesOfSlots (halvesOf cap)) (ap (take (slotsGranted cap)) (usables-drop t n d (slotsGranted cap)) ∙ whole (after t n d) (slotsGranted cap))
   where
     whole : (x k : ℕ) → take k (usables t x k) ≡ usables t x k
     whole x k = ap (λ (j : ℕ). take k (usables t x j)) (sym (add-zero k)) ∙ usables-take t x k 0
@@ -38,7 +40,8 @@ unfolding halvesOfSlots
 slots-clock hs [] [] h = refl
 slots-clock hs [] (d ∷ ds) h = absurd (nil≢cons h)
 slots-clock hs (c ∷ cs) [] h = absurd (cons≢nil h)
-slots-clock hs (c ∷ cs) (d ∷ ds) h = rw (slots-clock hs cs ds (tail-eq-of-cons-eq h)) (ap (λ (l : List HalfSlot). l ++ halvesOfSlots hs ds) (halves-clock hs c d (head-eq-of-cons-eq h)))
+slots-clock hs (c ∷ cs) (d ∷ ds) h =
+    rw (slots-clock hs cs ds (tail-eq-of-cons-eq h)) (ap (λ (l : List HalfSlot). l ++ halvesOfSlots hs ds) (halves-clock hs c d (head-eq-of-cons-eq h)))
 
 headTime : List HalfSlot → ℕ
 headTime [] = zero
@@ -64,12 +67,13 @@ granted-pos (suc c) = at slotCounts c (omega arith)
     at (x ∷ xs) zero h = h .0
     at (x ∷ xs) (suc i) h = at xs i (h .1)
 
-head-clock : (t cap x y k : ℕ) → 1 ≤ k → halvesOfSlots (halvesOf cap) (usables t x k) ≡ halvesOfSlots (halvesOf cap) (usables t y k) → clock (firstUsable t x) ≡ clock (firstUsable t y)
+head-clock : (t cap x y k : ℕ) → 1 ≤ k → halvesOfSlots (halvesOf cap) (usables t x k) ≡ halvesOfSlots (halvesOf cap) (usables t y k)
+    → clock (firstUsable t x) ≡ clock (firstUsable t y)
 unfolding usables
 head-clock t cap x y zero h e = absurd (not-suc-le-zero h)
 head-clock t cap x y (suc k) h e = sym (slots-head cap _ _) ∙ ap headTime e ∙ slots-head cap _ _
 
-module _ (t : ℕ) (low : 1 ≤ t) (high : t ≤ 4) (cap d a b : ℕ) where
+module _ (t : ℕ) (low : 1 ≤ t) (high : t ≤ timeslots) (cap d a b : ℕ) where
   pub ms-iff : (msHalfSlots t cap d a ≡ msHalfSlots t cap d b) ↔ (clock (firstUsable t a) ≡ clock (firstUsable t b))
   ms-iff = (there, back)
     where
@@ -81,7 +85,7 @@ module _ (t : ℕ) (low : 1 ≤ t) (high : t ≤ 4) (cap d a b : ℕ) where
 
 -- ---- the reserved list
 
-module _ (v : View) (now : ℕ) (r : Request) (low : 1 ≤ r .timeslot) (high : r .timeslot ≤ 4) (g : Run) (h : verdict v now r ≡ grant g) where
+module _ (v : View) (now : ℕ) (r : Request) (low : 1 ≤ r .timeslot) (high : r .timeslot ≤ timeslots) (g : Run) (h : verdict v now r ≡ grant g) where
   abbrev cap : ℕ
   cap = capacity v (r .code) (g .slots)
 
@@ -91,14 +95,16 @@ module _ (v : View) (now : ℕ) (r : Request) (low : 1 ≤ r .timeslot) (high : 
   ms-derives-reserved =
       let k : Granted v now r g = verdict-grant v now r g h in
       let run : g .slots ≡ usables (r .timeslot) (after (r .timeslot) now (g .delay)) (slotsWanted (r .code)) =
-      k .slots ∙ usableOf-run (r .timeslot) now 17 low high (g .delay) (slotsWanted (r .code)) (granted-room v now r g k) in
+      k .slots ∙ usableOf-run (r .timeslot) now framesSearched low high (g .delay) (slotsWanted (r .code)) (granted-room v now r g k) in
       ap (reservedBy v (r .code)) h
-      ∙ ap (halvesOfSlots (halvesOf cap)) (run ∙ ap (usables (r .timeslot) _) (sym (grants-what-was-wanted (r .code) (not (vacant (v (getD (g .slots) 0 0) firstHalf))))))
+      ∙ ap (halvesOfSlots (halvesOf cap)) (run ∙ ap (usables (r .timeslot) _)
+      (sym (grants-what-was-wanted (r .code) (not (vacant (v (getD (g .slots) 0 0) firstHalf))))))
       ∙ sym (ms-after (r .timeslot) cap (g .delay) now)
 
   -- read in a block, exactly when the first usable slot at or after the request is the first at or after the block
   pub ms-derives-exactly : (block : ℕ)
-      → (reservedBy v (r .code) (verdict v now r) ≡ msHalfSlots (r .timeslot) cap (g .delay) block) ↔ (clock (firstUsable (r .timeslot) now) ≡ clock (firstUsable (r .timeslot) block))
+      → (reservedBy v (r .code) (verdict v now r) ≡ msHalfSlots (r .timeslot) cap (g .delay) block) ↔ (clock (firstUsable (r .timeslot) now)
+      ≡ clock (firstUsable (r .timeslot) block))
   ms-derives-exactly block =
       let iff = ms-iff (r .timeslot) low high cap (g .delay) now block in
       (λ p. iff .0 (sym ms-derives-reserved ∙ p), λ p. ms-derives-reserved ∙ iff .1 p)

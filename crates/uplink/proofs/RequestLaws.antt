@@ -10,16 +10,17 @@ use native.Mathlib.Nat.{add-zero, not-suc-le-zero}
 use lib.ListN.{length, take, drop, getD, length-drop}
 use lib.Seq.{getD-drop}
 use borrow.Author.Tests.{ne-eqb}
+use Rattle.sizes.specs.Sizes.{framesSearched}
+use Rattle.lists.proofs.Every.{All}
 use Rattle.optional.specs.declared.OptU32.{OptU32}
 use Rattle.tdma_time.specs.Time.{usable, firstOf, framesOn, usableOf}
-use Rattle.tdma_time.proofs.Basics.{All}
 use Rattle.tdma_time.proofs.SlotLaws.{usableOf-keeps, usableOf-leaves}
 use Rattle.slot_codes.specs.Codes.{slotCounts, slotsWanted, wantsHalf, capacityFor}
 use Rattle.uplink.specs.declared.PhyBlockNum.{PhyBlockNum}
 use Rattle.uplink.specs.HalfSlot.{firstHalf, secondHalf, View, vacant}
 use Rattle.uplink.specs.Search.{earliest, Run, runAt, found}
-use Rattle.uplink.specs.Request.{candidates, fits, earliestRun, loopRun, halvesOf}
-use Rattle.uplink.specs.Functions.{blockOf, blockHalves}
+use Rattle.uplink.specs.Request.{candidates, slotFits, earliestRun, loopRun, halvesOf}
+use Rattle.uplink.specs.Functions.{blockTaken, blockHalves}
 use Rattle.uplink.proofs.SearchLaws.{earliest-some, runs-length, walk-found}
 
 none≢some {ℓ} : {X : Type ℓ} (g : Run) → _≡_ {A = Option Run} none (some g) → X
@@ -40,11 +41,12 @@ wanted-pos (suc c) = at slotCounts c (omega arith)
 -- for every table, time, timeslot and request: the Rust's loop finds the run that the declarative search says
 pub loop-is-declarative : (v : View) (now t n : ℕ) (half : Bool) → 0 < n → loopRun v now t n half ≡ earliestRun v now t n half
 unfolding loopRun earliestRun candidates
-loop-is-declarative v now t n half h = walk-found (fits half v) n (framesOn (firstOf t now) 17) h
+loop-is-declarative v now t n half h = walk-found (slotFits half v) n (framesOn (firstOf t now) framesSearched) h
 
 -- ---- the slots of a run
 
-pub found-some : (p : ℕ → Bool) (n : ℕ) (cs : List ℕ) (g : Run) → found p n cs ≡ some g → (earliest p n cs ≡ some (g .delay)) × (g .slots ≡ take n (drop (g .delay) cs))
+pub found-some : (p : ℕ → Bool) (n : ℕ) (cs : List ℕ) (g : Run) → found p n cs ≡ some g
+    → (earliest p n cs ≡ some (g .delay)) × (g .slots ≡ take n (drop (g .delay) cs))
 unfolding found runAt
 found-some p n cs g h = go (earliest p n cs) refl h
   where
@@ -62,7 +64,8 @@ pub record Stands (u k i : ℕ) : Type 0 where
   pub can : usable (u + d * 4) ≡ true
   pub on : drop i (usableOf (framesOn u k)) ≡ usableOf (framesOn (u + d * 4) (k - d))
 
-stands-next : (u k i j : ℕ) → ((x : ℕ) → getD (usableOf (framesOn u (suc k))) i x ≡ getD (usableOf (framesOn (u + 4) k)) j x) → drop i (usableOf (framesOn u (suc k))) ≡ drop j (usableOf (framesOn (u + 4) k)) → Stands (u + 4) k j → Stands u (suc k) i
+stands-next : (u k i j : ℕ) → ((x : ℕ) → getD (usableOf (framesOn u (suc k))) i x ≡ getD (usableOf (framesOn (u + 4) k)) j x)
+    → drop i (usableOf (framesOn u (suc k))) ≡ drop j (usableOf (framesOn (u + 4) k)) → Stands (u + 4) k j → Stands u (suc k) i
 stands-next u k i j g h s =
     let e : u + 4 + s .d * 4 ≡ u + (s .d + 1) * 4 = omega arith in
     let l : k - s .d ≡ suc k - (s .d + 1) = omega arith in
@@ -82,16 +85,27 @@ stands (suc k) u i h = go (usable u) refl (λ j. stands k (u + 4) j) i h
     rest : List ℕ
     rest = usableOf (framesOn (u + 4) k)
 
-    go : (b : Bool) → usable u ≡ b → ((j : ℕ) → j < length rest → Stands (u + 4) k j) → (i : ℕ) → i < length (usableOf (framesOn u (suc k))) → Stands u (suc k) i
+    go : (b : Bool) → usable u ≡ b → ((j : ℕ) → j < length rest → Stands (u + 4) k j) → (i : ℕ) → i < length (usableOf (framesOn u (suc k)))
+        → Stands u (suc k) i
     go true e ih zero l =
         let z : u ≡ u + 0 * 4 = omega arith in
-        record { d = 0; below = omega arith; here = rw e z; can = rw (← z) e; on = ap (λ (x : ℕ). usableOf (framesOn x (suc k))) z ∙ ap (λ (x : ℕ). usableOf (framesOn (u + 0 * 4) x)) (let q : suc k ≡ suc k - 0 = omega arith in q) }
+        record {
+          d = 0;
+          below = omega arith;
+          here = rw e z;
+          can = rw (← z) e;
+          on =
+              ap (λ (x : ℕ). usableOf (framesOn x (suc k))) z
+              ∙ ap (λ (x : ℕ). usableOf (framesOn (u + 0 * 4) x)) (let q : suc k ≡ suc k - 0 = omega arith in q);
+        }
     go true e ih (suc i) l =
         let same : usableOf (framesOn u (suc k)) ≡ u ∷ rest = usableOf-keeps u (framesOn (u + 4) k) e in
-        stands-next u k (suc i) i (λ x. ap (λ (cs : List ℕ). getD cs (suc i) x) same) (ap (drop (suc i)) same) (ih i (let q : length (usableOf (framesOn u (suc k))) ≡ suc (length rest) = ap length same in omega (arith, l, q)))
+        stands-next u k (suc i) i (λ x. ap (λ (cs : List ℕ). getD cs (suc i) x) same) (ap (drop (suc i)) same)
+        (ih i (let q : length (usableOf (framesOn u (suc k))) ≡ suc (length rest) = ap length same in omega (arith, l, q)))
     go false e ih i l =
         let same : usableOf (framesOn u (suc k)) ≡ rest = usableOf-leaves u (framesOn (u + 4) k) e in
-        stands-next u k i i (λ x. ap (λ (cs : List ℕ). getD cs i x) same) (ap (drop i) same) (ih i (let q : length (usableOf (framesOn u (suc k))) ≡ length rest = ap length same in omega (arith, l, q)))
+        stands-next u k i i (λ x. ap (λ (cs : List ℕ). getD cs i x) same) (ap (drop i) same)
+        (ih i (let q : length (usableOf (framesOn u (suc k))) ≡ length rest = ap length same in omega (arith, l, q)))
 
 pub getD-take-first : (n : ℕ) (cs : List ℕ) → 0 < n → getD (take n cs) 0 0 ≡ getD cs 0 0
 getD-take-first zero cs h = absurd (not-suc-le-zero h)
@@ -101,20 +115,23 @@ getD-take-first (suc n) (c ∷ cs) h = refl
 -- where a run found begins, in frames after slot u, and that its slots are those from there on
 pub record Begins (u n : ℕ) (g : Run) : Type 0 where
   pub start : ℕ
-  pub below : start < 17
+  pub below : start < framesSearched
   pub first : getD (g .slots) 0 0 ≡ u + start * 4
   pub can : usable (u + start * 4) ≡ true
-  pub slots : g .slots ≡ take n (usableOf (framesOn (u + start * 4) (17 - start)))
+  pub slots : g .slots ≡ take n (usableOf (framesOn (u + start * 4) (framesSearched - start)))
 
-pub begins : (p : ℕ → Bool) (n u : ℕ) (g : Run) → 0 < n → found p n (usableOf (framesOn u 17)) ≡ some g → Begins u n g
+pub begins : (p : ℕ → Bool) (n u : ℕ) (g : Run) → 0 < n → found p n (usableOf (framesOn u framesSearched)) ≡ some g → Begins u n g
 begins p n u g pos h =
     let f = found-some p n _ g h in
-    let r : n ≤ length (drop (g .delay) (usableOf (framesOn u 17))) = runs-length p n _ (earliest-some p n _ (g .delay) (f .0) .0) in
-    let s : Stands u 17 (g .delay) = stands 17 u (g .delay) (omega (arith, length-drop (g .delay) (usableOf (framesOn u 17)))) in
+    let r : n ≤ length (drop (g .delay) (usableOf (framesOn u framesSearched))) = runs-length p n _ (earliest-some p n _ (g .delay) (f .0) .0) in
+    let s : Stands u framesSearched (g .delay) =
+    stands framesSearched u (g .delay) (omega (arith, length-drop (g .delay) (usableOf (framesOn u framesSearched)))) in
     record {
       start = s .d;
       below = s .below;
-      first = ap (λ (cs : List ℕ). getD cs 0 0) (f .1) ∙ getD-take-first n _ pos ∙ getD-drop (g .delay) (usableOf (framesOn u 17)) 0 0 ∙ ap (λ (j : ℕ). getD (usableOf (framesOn u 17)) j 0) (add-zero (g .delay)) ∙ s .here;
+      first =
+          ap (λ (cs : List ℕ). getD cs 0 0) (f .1) ∙ getD-take-first n _ pos ∙ getD-drop (g .delay) (usableOf (framesOn u framesSearched)) 0 0
+          ∙ ap (λ (j : ℕ). getD (usableOf (framesOn u framesSearched)) j 0) (add-zero (g .delay)) ∙ s .here;
       can = s .can;
       slots = f .1 ∙ ap (take n) (s .on);
     }
@@ -126,7 +143,7 @@ unfolding halvesOf
 whole-halves cap a b = rw (ne-eqb _ _ a, ne-eqb _ _ b)
 
 -- the halves named by the capacity are those of the block taken
-pub capacity-halves : (code : ℕ) (o : OptU32) → halvesOf (capacityFor code (not (vacant o))) ≡ blockHalves (blockOf (wantsHalf code) o)
+pub capacity-halves : (code : ℕ) (o : OptU32) → halvesOf (capacityFor code (not (vacant o))) ≡ blockHalves (blockTaken (wantsHalf code) o)
 unfolding halvesOf
 capacity-halves zero o = go (vacant o)
   where

@@ -6,9 +6,11 @@ use Prim.Native.Nat.{ℕ, zero, suc, _+_, _%_, _≤_, _<_}
 use native.Mathlib.Omega.{arith}
 use native.Mathlib.Nat.{not-suc-le-zero, le-of-suc-le-suc}
 use lib.ListN.{length, getD, take, drop}
+use Rattle.sizes.specs.Sizes.{framesSearched, timeslots}
+use Rattle.lists.proofs.Every.{All, all-take, all-drop, all-weaken}
 use Rattle.optional.specs.declared.OptU8.{OptU8}
 use Rattle.tdma_time.specs.Time.{firstOf, framesOn, usableOf}
-use Rattle.tdma_time.proofs.Basics.{All, all-take, all-drop, all-map, RisingFrom, rising-earlier}
+use Rattle.tdma_time.proofs.Basics.{RisingFrom, rising-earlier}
 use Rattle.tdma_time.proofs.SlotLaws.{usableOf-all, framesOn-window}
 use Rattle.tdma_time.proofs.UsableLaws.{usables-rising, usableOf-run, after, after-from}
 use Rattle.uplink.specs.declared.Entry.{Entry}
@@ -23,19 +25,22 @@ pub record Window (n : ℕ) (cs : List ℕ) : Type 0 where
   pub near : All (λ c. c < n + 72) cs
 
 -- the slots of a run are such
-pub run-window : (t now i n : ℕ) → 1 ≤ t → t ≤ 4 → i + n ≤ length (candidates t now) → Window now (take n (drop i (candidates t now)))
+pub run-window : (t now i n : ℕ) → 1 ≤ t → t ≤ timeslots → i + n ≤ length (candidates t now) → Window now (take n (drop i (candidates t now)))
 unfolding candidates
 run-window t now i n h g l =
     record {
-      rising = rising-earlier now (after t now i) (take n (drop i cs)) (after-from t now i) (rw (usableOf-run t now 17 h g i n l) (usables-rising t (after t now i) n));
+      rising =
+          rising-earlier now (after t now i) (take n (drop i cs)) (after-from t now i)
+          (rw (usableOf-run t now framesSearched h g i n l) (usables-rising t (after t now i) n));
       near =
           all-take (λ c. c < now + 72) n (drop i cs)
           (all-drop (λ c. c < now + 72) i cs
-          (usableOf-all (λ c. c < now + 72) (framesOn (firstOf t now) 17) (all-map (λ c k. omega (arith, k .1)) (framesOn (firstOf t now) 17) (framesOn-window t now 17))));
+          (usableOf-all (λ c. c < now + 72) (framesOn (firstOf t now) framesSearched)
+          (all-weaken _ _ (λ c k. omega (arith, k .1)) (framesOn (firstOf t now) framesSearched) (framesOn-window t now framesSearched))));
     }
   where
     cs : List ℕ
-    cs = usableOf (framesOn (firstOf t now) 17)
+    cs = usableOf (framesOn (firstOf t now) framesSearched)
 
 -- a slot of the window differs in its entry from those after it
 apart : (n c : ℕ) (cs : List ℕ) → n ≤ c → c < n + 72 → RisingFrom (c + 1) cs → All (λ d. d < n + 72) cs → All (λ d. c % 72 ≢ d % 72) cs
@@ -57,7 +62,8 @@ module _ (hs : List Half) (who : ℕ) (m : OptU8) where
   reserve-shape (c ∷ cs) tb s = reserve-shape cs _ (store-shape tb c _ s)
 
   -- an entry that is of none of the slots stays
-  pub reserve-other : (cs : List ℕ) (tb : Table) → FourRowsOfEighteen tb → (x : ℕ) → All (λ c. x % 72 ≢ c % 72) cs → entryAt (reserve tb hs who m cs) x ≡ entryAt tb x
+  pub reserve-other : (cs : List ℕ) (tb : Table) → FourRowsOfEighteen tb → (x : ℕ) → All (λ c. x % 72 ≢ c % 72) cs
+      → entryAt (reserve tb hs who m cs) x ≡ entryAt tb x
   unfolding reserve
   reserve-other [] tb s x h = refl
   reserve-other (c ∷ cs) tb s x h = reserve-other cs _ (store-shape tb c _ s) x (h .1) ∙ store-other tb c _ s x (h .0)
@@ -70,8 +76,13 @@ module _ (hs : List Half) (who : ℕ) (m : OptU8) where
   reserve-at n (c ∷ cs) tb s w zero l =
       reserve-other cs _ (store-shape tb c _ s) c (apart n c cs (w .rising .0) (w .near .0) (w .rising .1) (w .near .1)) ∙ store-same tb c _ s c refl
   reserve-at n (c ∷ cs) tb s w (suc j) l =
-      reserve-at n cs _ (store-shape tb c _ s) (record { rising = rising-earlier n (c + 1) cs (omega (arith, w .rising .0)) (w .rising .1); near = w .near .1 }) j (le-of-suc-le-suc l)
-      ∙ ap taken (store-other tb c _ s (getD cs j 0) (all-getD cs j (le-of-suc-le-suc l) (apart n c cs (w .rising .0) (w .near .0) (w .rising .1) (w .near .1))))
+      reserve-at n cs _ (store-shape tb c _ s) (record {
+        rising = rising-earlier n (c + 1) cs (omega (arith, w .rising .0))
+            (w .rising .1);
+        near = w .near .1;
+      }) j (le-of-suc-le-suc l)
+      ∙ ap taken (store-other tb c _ s (getD cs j 0) (all-getD cs j (le-of-suc-le-suc l)
+      (apart n c cs (w .rising .0) (w .near .0) (w .rising .1) (w .near .1))))
     where
       all-getD : (cs : List ℕ) (j : ℕ) → j < length cs → All (λ d. c % 72 ≢ d % 72) cs → getD cs j 0 % 72 ≢ c % 72
       all-getD [] j l h = absurd (not-suc-le-zero l)

@@ -2,7 +2,7 @@
 -- Assumes nothing.
 use mathlib.Core.Path.{_≡_, refl, sym, ap, _∙_}
 use mathlib.Core.Logic.{⊎-elim}
-use mathlib.Core.Bool.{Bool, true, false, cond}
+use mathlib.Core.Bool.{Bool, true, false, cond, and-false}
 use mathlib.Core.Option.{Option, none, some}
 use mathlib.Core.List.{List, [], _∷_, _++_, append-nil}
 use Prim.Native.Nat.{ℕ, zero, suc, _+_, _≤_, _<_, zero-le, suc-le-suc}
@@ -13,8 +13,9 @@ use lib.ListN.{length, take, drop, length-append}
 use lib.Seq.{take-at, drop-append-add, append-snoc, drop-nil}
 use lib.Dec.{eqb}
 use borrow.Author.Tests.{eqb-true, eqb-false, eq-eqb, ne-eqb}
-use Rattle.optional.proofs.Tests.{and-left, and-right, and-intro, and-false}
-use Rattle.tdma_time.proofs.Basics.{either, All}
+use Rattle.lists.proofs.Every.{All}
+use Rattle.optional.proofs.Tests.{and-left, and-right, and-intro}
+use Rattle.tdma_time.proofs.Basics.{either}
 use Rattle.uplink.proofs.Basics.{not-both}
 use Rattle.tdma_time.specs.Time.{usable, usableOf}
 use Rattle.uplink.specs.Search.{runs, onePast, earliest, Run, runAt, found, walk}
@@ -42,7 +43,8 @@ runs-front p [] cs h = refl
 runs-front p (x ∷ held) cs h = and-intro _ _ (and-left (p x) _ h) (runs-front p held cs (and-right (p x) _ h))
 
 -- a run with one more
-pub runs-more : (p : ℕ → Bool) (held : List ℕ) (c : ℕ) → runs p (length held) held ≡ true → p c ≡ true → runs p (length (held ++ c ∷ [])) (held ++ c ∷ []) ≡ true
+pub runs-more : (p : ℕ → Bool) (held : List ℕ) (c : ℕ) → runs p (length held) held ≡ true → p c ≡ true
+    → runs p (length (held ++ c ∷ [])) (held ++ c ∷ []) ≡ true
 unfolding runs
 runs-more p [] c h e = rw e
 runs-more p (x ∷ held) c h e = and-intro _ _ (and-left (p x) _ h) (runs-more p held c (and-right (p x) _ h) e)
@@ -97,7 +99,8 @@ module _ (p : ℕ → Bool) (n skips : ℕ) (held : List ℕ) (c : ℕ) (cs : Li
   unfolding walk
   walk-block u e = rw (u, e)
 
-  pub walk-end : usable c ≡ true → p c ≡ true → length (held ++ c ∷ []) ≡ n → walk p n skips held (c ∷ cs) ≡ some (record { delay = skips; slots = held ++ c ∷ [] })
+  pub walk-end : usable c ≡ true → p c ≡ true → length (held ++ c ∷ []) ≡ n
+      → walk p n skips held (c ∷ cs) ≡ some (record { delay = skips; slots = held ++ c ∷ [] })
   unfolding walk
   walk-end u e l = rw (u, e, eq-eqb _ _ l)
 
@@ -127,7 +130,8 @@ Arrives p n cs =
     (skips : ℕ) (held : List ℕ) → length held < n → runs p (length held) held ≡ true
     → walk p n skips held cs ≡ arrive n skips (held ++ usableOf cs) (earliest p n (held ++ usableOf cs))
 
-module _ (p : ℕ → Bool) (n c : ℕ) (cs : List ℕ) (ih : Arrives p n cs) (skips : ℕ) (held : List ℕ) (h : length held < n) (g : runs p (length held) held ≡ true) where
+module _ (p : ℕ → Bool) (n c : ℕ) (cs : List ℕ) (ih : Arrives p n cs) (skips : ℕ) (held : List ℕ) (h : length held < n)
+    (g : runs p (length held) held ≡ true) where
   abbrev at-c : Type 0
   at-c = walk p n skips held (c ∷ cs) ≡ arrive n skips (held ++ c ∷ usableOf cs) (earliest p n (held ++ c ∷ usableOf cs))
 
@@ -205,7 +209,8 @@ module _ (p : ℕ → Bool) (n : ℕ) where
       before zero h = e
       before (suc j) h = m .1 j (le-of-suc-le-suc h)
 
-  means-cons : (c : ℕ) (cs : List ℕ) → Means p n cs (earliest p n cs) → (b : Bool) → runs p n (c ∷ cs) ≡ b → Means p n (c ∷ cs) (cond b (some 0) (onePast (earliest p n cs)))
+  means-cons : (c : ℕ) (cs : List ℕ) → Means p n cs (earliest p n cs) → (b : Bool) → runs p n (c ∷ cs) ≡ b
+      → Means p n (c ∷ cs) (cond b (some 0) (onePast (earliest p n cs)))
   means-cons c cs m true e = (e, λ j h. absurd (not-suc-le-zero h))
   means-cons c cs m false e = means-past c cs e (earliest p n cs) m
 
@@ -225,7 +230,8 @@ module _ (p : ℕ → Bool) (n : ℕ) where
   some-earliest k [] zero m = earliest-here p n [] (m .0)
   some-earliest k [] (suc i) m = not-both _ (m .0) (runs-short p n [] k)
   some-earliest k (c ∷ cs) zero m = earliest-here p n (c ∷ cs) (m .0)
-  some-earliest k (c ∷ cs) (suc i) m = earliest-later p n c cs (m .1 0 (omega arith)) ∙ ap onePast (some-earliest k cs i (m .0, λ j l. m .1 (suc j) (omega arith)))
+  some-earliest k (c ∷ cs) (suc i) m =
+      earliest-later p n c cs (m .1 0 (omega arith)) ∙ ap onePast (some-earliest k cs i (m .0, λ j l. m .1 (suc j) (omega arith)))
 
   pub none-earliest : (cs : List ℕ) → Means p n cs none → earliest p n cs ≡ none
   unfolding earliest onePast

@@ -10,22 +10,16 @@ use lib.ListN.{length, getD, set, replicate, length-set, getD-replicate}
 use lib.Seq.{getD-set-same, getD-set-other}
 use Rattle.tdma_time.specs.declared.TdmaTime.{TdmaTime}
 use Rattle.tdma_time.specs.Time.{Valid, cycle, clock, slotOf, fourEarlier}
-use Rattle.tdma_time.proofs.TimeLaws.{clock-cell, slotOf-timeslot, slotOf-frame}
+use Rattle.tdma_time.proofs.TimeLaws.{clock-cell, slotOf-timeslot, slotOf-frame, cell, cell-parts}
 use Rattle.uplink.specs.declared.Entry.{Entry}
 use Rattle.uplink.specs.UplinkEntry.{emptyEntry, Table, FourRowsOfEighteen, emptyTable, SameEntry, entryAt, store, cleared}
 
 -- slots of one entry stand in one row and one column
-cell-parts : (a b : ℕ) → a % 72 ≡ b % 72 → (a % 4 ≡ b % 4) × (a / 4 % 18 ≡ b / 4 % 18)
-cell-parts a b h = omega arith
+row-column : (a b : ℕ) → a % 72 ≡ b % 72 → (a % 4 ≡ b % 4) × (a / 4 % 18 ≡ b / 4 % 18)
+row-column a b h = omega arith
 
-cell : (a b : ℕ) → a % 4 ≡ b % 4 → a / 4 % 18 ≡ b / 4 % 18 → a % 72 ≡ b % 72
-cell a b h g = omega arith
-
-pub same-cell : (a b : ℕ) → SameEntry a b → a % 72 ≡ b % 72
-same-cell a b h = omega (arith, h .0, h .1)
-
-pub cell-same : (a b : ℕ) → a % 72 ≡ b % 72 → SameEntry a b
-cell-same a b h = omega arith
+of-row-column : (a b : ℕ) → a % 4 ≡ b % 4 → a / 4 % 18 ≡ b / 4 % 18 → a % 72 ≡ b % 72
+of-row-column a b h g = omega arith
 
 module _ (t : Table) (c : ℕ) (e : Entry) (s : FourRowsOfEighteen t) where
   row-in : c % 4 < length t
@@ -50,19 +44,27 @@ module _ (t : Table) (c : ℕ) (e : Entry) (s : FourRowsOfEighteen t) where
   pub store-same : (x : ℕ) → x % 72 ≡ c % 72 → entryAt (store t c e) x ≡ e
   unfolding entryAt store
   store-same x h =
-      rw (cell-parts x c h .0, cell-parts x c h .1, getD-set-same t (c % 4) _ [] row-in) (getD-set-same (getD t (c % 4) []) (c / 4 % 18) e emptyEntry column-in)
+      rw (row-column x c h .0, row-column x c h .1, getD-set-same t (c % 4) _ [] row-in) (getD-set-same (getD t (c % 4) []) (c / 4 % 18) e emptyEntry column-in)
 
   pub store-other : (x : ℕ) → x % 72 ≢ c % 72 → entryAt (store t c e) x ≡ entryAt t x
   unfolding entryAt store
-  store-other x h = elim (ℕ-discrete (x % 4) (c % 4)) [ yes p ↦ same-row p | no p ↦ ap (λ (r : List Entry). getD r (x / 4 % 18) emptyEntry) (getD-set-other t (c % 4) (x % 4) _ [] p) ]
+  store-other x h = elim (ℕ-discrete (x % 4) (c % 4)) [ yes p ↦ same-row p | no p ↦ other-row p ]
     where
-      same-row : x % 4 ≡ c % 4 → getD (getD (set t (c % 4) (set (getD t (c % 4) []) (c / 4 % 18) e)) (x % 4) []) (x / 4 % 18) emptyEntry ≡ getD (getD t (x % 4) []) (x / 4 % 18) emptyEntry
-      same-row p = rw (p, getD-set-same t (c % 4) _ [] row-in) (getD-set-other (getD t (c % 4) []) (c / 4 % 18) (x / 4 % 18) e emptyEntry (λ q. h (cell x c p q)))
+      other-row : x % 4 ≢ c % 4
+          → getD (getD (set t (c % 4) (set (getD t (c % 4) []) (c / 4 % 18) e)) (x % 4) []) (x / 4 % 18) emptyEntry
+          ≡ getD (getD t (x % 4) []) (x / 4 % 18) emptyEntry
+      other-row p = ap (λ (r : List Entry). getD r (x / 4 % 18) emptyEntry) (getD-set-other t (c % 4) (x % 4) _ [] p)
+
+      same-row : x % 4 ≡ c % 4 → getD (getD (set t (c % 4) (set (getD t (c % 4) []) (c / 4 % 18) e)) (x % 4) []) (x / 4 % 18) emptyEntry
+          ≡ getD (getD t (x % 4) []) (x / 4 % 18) emptyEntry
+      same-row p =
+          rw (p, getD-set-same t (c % 4) _ [] row-in) (getD-set-other (getD t (c % 4) []) (c / 4 % 18) (x / 4 % 18) e emptyEntry
+          (λ q. h (of-row-column x c p q)))
 
 -- slots that show one time have one entry
 pub entry-clock : (t : Table) (x y : ℕ) → clock x ≡ clock y → entryAt t x ≡ entryAt t y
 unfolding entryAt
-entry-clock t x y h = let e : x % 72 ≡ y % 72 = clock-cell x y h in rw (cell-parts x y e .0, cell-parts x y e .1)
+entry-clock t x y h = let e : x % 72 ≡ y % 72 = clock-cell x y h in rw (row-column x y e .0, row-column x y e .1)
 
 pub empty-shape : FourRowsOfEighteen emptyTable
 empty-shape = record { rows = refl; columns = λ i h. ap length (getD-replicate 4 i _ [] h) }
@@ -96,10 +98,11 @@ cleared-at tb x old v e =
 
 -- clearing empties the entry of the slot four earlier, and alters no other
 pub cleared-there : (tb : Table) (x : TdmaTime) → FourRowsOfEighteen tb → (c : ℕ) → SameEntry c (slotOf x + cycle - 4) → entryAt (cleared tb x) c ≡ emptyEntry
-cleared-there tb x s c h = store-same tb (slotOf x + cycle - 4) emptyEntry s c (same-cell c _ h)
+cleared-there tb x s c h = store-same tb (slotOf x + cycle - 4) emptyEntry s c (cell c _ (h .0) (h .1))
 
-pub cleared-elsewhere : (tb : Table) (x : TdmaTime) → FourRowsOfEighteen tb → (c : ℕ) → (SameEntry c (slotOf x + cycle - 4) → ⊥) → entryAt (cleared tb x) c ≡ entryAt tb c
-cleared-elsewhere tb x s c h = store-other tb (slotOf x + cycle - 4) emptyEntry s c (λ e. h (cell-same c _ e))
+pub cleared-elsewhere : (tb : Table) (x : TdmaTime) → FourRowsOfEighteen tb → (c : ℕ) → (SameEntry c (slotOf x + cycle - 4) → ⊥)
+    → entryAt (cleared tb x) c ≡ entryAt tb c
+cleared-elsewhere tb x s c h = store-other tb (slotOf x + cycle - 4) emptyEntry s c (λ e. h (cell-parts c _ e))
 
 -- one of equal elements, written again
 pub set-replicate : {A : Type 0} (n k : ℕ) (x : A) → set (replicate n x) k x ≡ replicate n x

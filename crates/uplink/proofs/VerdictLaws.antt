@@ -1,22 +1,23 @@
--- What a grant rests on (`verdict-grant`, `grant-verdict`), and that two views that agree from now on give one verdict. Assumes nothing.
+-- What a grant rests on (`verdict-grant`), and that two views that agree from now on give one verdict. Assumes nothing.
 use mathlib.Core.Path.{_≡_, refl, ap}
 use mathlib.Core.Bool.{Bool, true, false, cond}
 use mathlib.Core.List.{List, [], _∷_}
 use mathlib.Core.Option.{Option, none, some}
-use Prim.Native.Nat.{ℕ, _+_, _≤_, _<_}
+use Prim.Native.Nat.{ℕ, _+_, _≤_, _<_, _*_}
 use native.Mathlib.Omega.{arith}
 use native.Mathlib.Nat.{not-suc-le-zero}
 use lib.ListN.{length, take, drop, length-drop}
 use lib.Seq.{length-take-le}
 use lib.Dec.{leb}
-use borrow.Author.Tests.{leb-true, le-leb}
+use borrow.Author.Tests.{leb-true}
+use Rattle.sizes.specs.Sizes.{framesSearched, latestDelay, timeslots}
+use Rattle.lists.proofs.Every.{All, all-take, all-drop, all-weaken}
 use Rattle.tdma_time.specs.Time.{firstOf, framesOn}
-use Rattle.tdma_time.proofs.Basics.{All, all-take, all-drop, all-map}
 use Rattle.tdma_time.proofs.SlotLaws.{usableOf-all, framesOn-window}
 use Rattle.slot_codes.specs.Codes.{slotsWanted, wantsHalf}
 use Rattle.uplink.specs.HalfSlot.{Half, firstHalf, secondHalf, View}
-use Rattle.uplink.specs.Search.{runs, earliest, Run, runAt, found}
-use Rattle.uplink.specs.Request.{Request, candidates, fits, earliestRun, noRun, tooLate, grant, settle, verdict, capacity}
+use Rattle.uplink.specs.Search.{runs, earliest, Run}
+use Rattle.uplink.specs.Request.{Request, candidates, slotFits, earliestRun, noRun, tooLate, grant, settle, verdict, capacity}
 use Rattle.uplink.proofs.SearchLaws.{earliest-some, found-cong, runs-all, runs-length}
 use Rattle.uplink.proofs.RequestLaws.{wanted-pos, found-some}
 
@@ -31,28 +32,28 @@ tooLate≢grant g e = absurd (let z : _≡_ {A = ℕ} 0 1 = cc in omega arith)
 
 -- slot c is one of the 68 slots from n on
 abbrev pub Near : ℕ → ℕ → Type 0
-Near n c = (n ≤ c) × (c < n + 68)
+Near n c = (n ≤ c) × (c < n + timeslots * framesSearched)
 
 pub candidates-near : (t n : ℕ) → All (Near n) (candidates t n)
 unfolding candidates
 candidates-near t n =
-    let slots : List ℕ = framesOn (firstOf t n) 17 in
-    usableOf-all (Near n) slots (all-map (λ c h. omega (arith, h .0, h .1)) slots (framesOn-window t n 17))
+    let slots : List ℕ = framesOn (firstOf t n) framesSearched in
+    usableOf-all (Near n) slots (all-weaken _ _ (λ c h. omega (arith, h .0, h .1)) slots (framesOn-window t n framesSearched))
 
 -- ---- what a grant rests on
 
 pub record Granted (v : View) (n : ℕ) (r : Request) (g : Run) : Type 0 where
-  pub low : g .delay ≤ 13
-  pub place : earliest (fits (wantsHalf (r .code)) v) (slotsWanted (r .code)) (candidates (r .timeslot) n) ≡ some (g .delay)
+  pub low : g .delay ≤ latestDelay
+  pub place : earliest (slotFits (wantsHalf (r .code)) v) (slotsWanted (r .code)) (candidates (r .timeslot) n) ≡ some (g .delay)
   pub slots : g .slots ≡ take (slotsWanted (r .code)) (drop (g .delay) (candidates (r .timeslot) n))
 
-settle-grant : (o : Option Run) (g : Run) → settle o ≡ grant g → (o ≡ some g) × (g .delay ≤ 13)
+settle-grant : (o : Option Run) (g : Run) → settle o ≡ grant g → (o ≡ some g) × (g .delay ≤ latestDelay)
 unfolding settle
 settle-grant none g h = noRun≢grant g h
-settle-grant (some r) g h = go (leb (r .delay) 13) refl h
+settle-grant (some r) g h = go (leb (r .delay) latestDelay) refl h
   where
-    go : (b : Bool) → leb (r .delay) 13 ≡ b → cond b (grant r) tooLate ≡ grant g → (some r ≡ some g) × (g .delay ≤ 13)
-    go true e k = let same : r ≡ g = cc in (ap some same, rw same at (leb-true (r .delay) 13 e))
+    go : (b : Bool) → leb (r .delay) latestDelay ≡ b → cond b (grant r) tooLate ≡ grant g → (some r ≡ some g) × (g .delay ≤ latestDelay)
+    go true e k = let same : r ≡ g = cc in (ap some same, rw same at (leb-true (r .delay) latestDelay e))
     go false e k = tooLate≢grant g k
 
 pub verdict-grant : (v : View) (n : ℕ) (r : Request) (g : Run) → verdict v n r ≡ grant g → Granted v n r g
@@ -62,45 +63,44 @@ verdict-grant v n r g h =
     let f = found-some _ _ _ g (s .0) in
     record { low = s .1; place = f .0; slots = f .1 }
 
-pub grant-verdict : (v : View) (n : ℕ) (r : Request) (g : Run) → Granted v n r g → verdict v n r ≡ grant g
-unfolding verdict earliestRun settle found runAt
-grant-verdict v n r g h = rw (h .place, le-leb _ _ (h .low), ← h .slots)
-
 -- ---- the slots of a grant
 
 module _ (v : View) (n : ℕ) (r : Request) (g : Run) (h : Granted v n r g) where
   -- they are among the 68 slots from now on
   pub granted-near : All (Near n) (g .slots)
-  granted-near = rw (h .slots) (all-take (Near n) (slotsWanted (r .code)) (drop (g .delay) (candidates (r .timeslot) n)) (all-drop (Near n) (g .delay) (candidates (r .timeslot) n) (candidates-near (r .timeslot) n)))
+  granted-near =
+      rw (h .slots) (all-take (Near n) (slotsWanted (r .code)) (drop (g .delay) (candidates (r .timeslot) n))
+      (all-drop (Near n) (g .delay) (candidates (r .timeslot) n) (candidates-near (r .timeslot) n)))
 
-  granted-runs : runs (fits (wantsHalf (r .code)) v) (slotsWanted (r .code)) (drop (g .delay) (candidates (r .timeslot) n)) ≡ true
-  granted-runs = earliest-some (fits (wantsHalf (r .code)) v) (slotsWanted (r .code)) (candidates (r .timeslot) n) (g .delay) (h .place) .0
+  granted-runs : runs (slotFits (wantsHalf (r .code)) v) (slotsWanted (r .code)) (drop (g .delay) (candidates (r .timeslot) n)) ≡ true
+  granted-runs = earliest-some (slotFits (wantsHalf (r .code)) v) (slotsWanted (r .code)) (candidates (r .timeslot) n) (g .delay) (h .place) .0
 
   -- each passes the test
-  pub granted-fits : All (λ c. fits (wantsHalf (r .code)) v c ≡ true) (g .slots)
-  granted-fits = rw (h .slots) (runs-all (fits (wantsHalf (r .code)) v) (slotsWanted (r .code)) _ granted-runs)
+  pub granted-fits : All (λ c. slotFits (wantsHalf (r .code)) v c ≡ true) (g .slots)
+  granted-fits = rw (h .slots) (runs-all (slotFits (wantsHalf (r .code)) v) (slotsWanted (r .code)) _ granted-runs)
 
   -- they are as many as were asked for
   pub granted-length : length (g .slots) ≡ slotsWanted (r .code)
   granted-length =
-      let l : slotsWanted (r .code) ≤ length (drop (g .delay) (candidates (r .timeslot) n)) = runs-length (fits (wantsHalf (r .code)) v) _ _ granted-runs in
+      let l : slotsWanted (r .code) ≤ length (drop (g .delay) (candidates (r .timeslot) n)) = runs-length (slotFits (wantsHalf (r .code)) v) _ _ granted-runs in
       rw (h .slots) (length-take-le (slotsWanted (r .code)) _ l)
 
   pub granted-room : g .delay + slotsWanted (r .code) ≤ length (candidates (r .timeslot) n)
   granted-room =
-      omega (arith, runs-length (fits (wantsHalf (r .code)) v) _ _ granted-runs, length-drop (g .delay) (candidates (r .timeslot) n), wanted-pos (r .code))
+      omega (arith, runs-length (slotFits (wantsHalf (r .code)) v) _ _ granted-runs, length-drop (g .delay) (candidates (r .timeslot) n), wanted-pos (r .code))
 
 -- ---- two views that agree on the 68 slots from now on
 
 abbrev pub AgreeFrom : ℕ → View → View → Type 0
-AgreeFrom n v w = (c : ℕ) → n ≤ c → c < n + 68 → (h : Half) → v c h ≡ w c h
+AgreeFrom n v w = (c : ℕ) → n ≤ c → c < n + timeslots * framesSearched → (h : Half) → v c h ≡ w c h
 
-fits-cong : (half : Bool) (v w : View) (c : ℕ) → ((h : Half) → v c h ≡ w c h) → fits half v c ≡ fits half w c
+fits-cong : (half : Bool) (v w : View) (c : ℕ) → ((h : Half) → v c h ≡ w c h) → slotFits half v c ≡ slotFits half w c
 fits-cong half v w c h = rw (h firstHalf, h secondHalf)
 
 pub found-agree : (v w : View) (n t k : ℕ) (half : Bool) → AgreeFrom n v w → earliestRun v n t k half ≡ earliestRun w n t k half
 unfolding earliestRun
-found-agree v w n t k half a = found-cong _ _ _ _ (all-map (λ c (k : Near n c). fits-cong half v w c (a c (k .0) (k .1))) (candidates t n) (candidates-near t n))
+found-agree v w n t k half a =
+    found-cong _ _ _ _ (all-weaken _ _ (λ c (k : Near n c). fits-cong half v w c (a c (k .0) (k .1))) (candidates t n) (candidates-near t n))
 
 pub verdict-agree : (v w : View) (n : ℕ) (r : Request) → AgreeFrom n v w → verdict v n r ≡ verdict w n r
 unfolding verdict

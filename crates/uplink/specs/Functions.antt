@@ -36,8 +36,8 @@ unfoldable pub slotsFrom : TdmaTime → ℕ → ℕ → ℕ → List ℕ
 slotsFrom now t start n = take n (usableOf (framesOn (firstOf t (slotOf now) + start * timeslots) (framesSearched - start)))
 
 -- which halves of a slot a request takes, by the holder of the first: both, or for half a slot the first if it is free, else the second
-abbrev pub blockOf : Bool → OptU32 → PhyBlockNum
-blockOf half first = cond half (cond (vacant first) PhyBlockNum.Block1 PhyBlockNum.Block2) PhyBlockNum.Both
+abbrev pub blockTaken : Bool → OptU32 → PhyBlockNum
+blockTaken half first = cond half (cond (vacant first) PhyBlockNum.Block1 PhyBlockNum.Block2) PhyBlockNum.Both
 
 abbrev pub blockHalves : PhyBlockNum → List Half
 blockHalves PhyBlockNum.Both = firstHalf ∷ secondHalf ∷ []

@@ -15,7 +15,7 @@ use Rattle.uplink.specs.declared.Uplink.{Uplink}
 use Rattle.uplink.specs.HalfSlot.{firstHalf, vacant}
 use Rattle.uplink.specs.UplinkEntry.{FourRowsOfEighteen, SameEntry, entryAt, tableView}
 use Rattle.uplink.specs.Uplink.{soundUplink}
-use Rattle.uplink.specs.Request.{Request, candidates, fits, markerOf, markersAfter, replyNumber, answer}
+use Rattle.uplink.specs.Request.{Request, candidates, slotFits, markerOf, markersAfter, capNumber, answer}
 
 -- the n slots from the i-th of a list on are there, and each passes
 pub record Stretch (p : ℕ → Bool) (n : ℕ) (cs : List ℕ) (i : ℕ) : Type 0 where
@@ -29,11 +29,11 @@ pub record Earliest (p : ℕ → Bool) (n : ℕ) (cs : List ℕ) (i : ℕ) : Typ
 
 -- the slots asked for are free in succession, frame 18 passed over, from the i-th usable slot of the 17 frames on
 abbrev pub FreeFrom : Uplink → Request → ℕ → Type 0
-FreeFrom u r = Stretch (fits (wantsHalf (r .code)) (tableView (u .rows))) (slotsWanted (r .code)) (candidates (r .timeslot) (slotOf (u .time)))
+FreeFrom u r = Stretch (slotFits (wantsHalf (r .code)) (tableView (u .rows))) (slotsWanted (r .code)) (candidates (r .timeslot) (slotOf (u .time)))
 
 -- the earliest such run has i usable slots before it
 abbrev pub EarliestFrom : Uplink → Request → ℕ → Type 0
-EarliestFrom u r = Earliest (fits (wantsHalf (r .code)) (tableView (u .rows))) (slotsWanted (r .code)) (candidates (r .timeslot) (slotOf (u .time)))
+EarliestFrom u r = Earliest (slotFits (wantsHalf (r .code)) (tableView (u .rows))) (slotsWanted (r .code)) (candidates (r .timeslot) (slotOf (u .time)))
 
 -- the j-th slot of the run that has i usable slots before it
 abbrev pub slotOfRun : Uplink → Request → ℕ → ℕ → ℕ
@@ -77,7 +77,7 @@ pub record GrantedExactly (u : Uplink) (r : Request) : Type 0 where
   -- 10 exactly when more than 13 usable slots stand before the earliest
   pub too-late : (answer u r .reply ≡ CapReply.TooLate) ↔ ((i : ℕ) × EarliestFrom u r i × (latestDelay < i))
   -- a refusal changes nothing and draws no marker
-  pub refused : replyNumber (answer u r .reply) ≢ 0 → answer u r .uplink ≡ u
+  pub refused : capNumber (answer u r .reply) ≢ 0 → answer u r .uplink ≡ u
   -- the uplink stays sound
   pub sound : soundUplink (answer u r .uplink) ≡ true
 

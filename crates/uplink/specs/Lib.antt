@@ -5,4 +5,3 @@ pub mod Uplink
 pub mod Request
 pub mod Functions
 pub mod GrantedExactly
-pub mod StarredCases

@@ -31,16 +31,16 @@ unfoldable pub candidates : ℕ → ℕ → List ℕ
 candidates t now = usableOf (framesOn (firstOf t now) framesSearched)
 
 -- "the earliest n in succession with both halves free, or for half a slot the first with a free half"
-abbrev pub fits : Bool → View → ℕ → Bool
-fits half v c = freeFor half (v c firstHalf) (v c secondHalf)
+abbrev pub slotFits : Bool → View → ℕ → Bool
+slotFits half v c = freeFor half (v c firstHalf) (v c secondHalf)
 
 -- the earliest run of n slots (or of one half) of timeslot t from slot `now` on
 unfoldable pub earliestRun : View → ℕ → ℕ → ℕ → Bool → Option Run
-earliestRun v now t n half = found (fits half v) n (candidates t now)
+earliestRun v now t n half = found (slotFits half v) n (candidates t now)
 
 -- the same as the loop of `ul_find_grant_opportunity` in the Rust finds it
 unfoldable pub loopRun : View → ℕ → ℕ → ℕ → Bool → Option Run
-loopRun v now t n half = walk (fits half v) n 0 [] (framesOn (firstOf t now) framesSearched)
+loopRun v now t n half = walk (slotFits half v) n 0 [] (framesOn (firstOf t now) framesSearched)
 
 -- ---- the verdict
 
@@ -109,10 +109,10 @@ replyTo v ms r tooLate = CapReply.TooLate
 replyTo v ms r (grant g) = CapReply.Granted (capacity v (r .code) (g .slots)) (g .delay) (markerOf ms r)
 
 -- document 01's number of a reply: 0 done, else the question answered no
-abbrev pub replyNumber : CapReply → ℕ
-replyNumber (CapReply.Granted cap delay m) = 0
-replyNumber CapReply.NoRun = 9
-replyNumber CapReply.TooLate = 10
+abbrev pub capNumber : CapReply → ℕ
+capNumber (CapReply.Granted cap delay m) = 0
+capNumber CapReply.NoRun = 9
+capNumber CapReply.TooLate = 10
 
 -- "a refusal draws none": only a grant alters table and counters
 unfoldable pub tableAfter : Table → List ℕ → Request → Verdict → Table

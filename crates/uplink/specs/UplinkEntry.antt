@@ -144,7 +144,8 @@ unmarked (OptU8.Of m) = false
 -- "no second half without a first, a marker (4–62) only in a taken entry"
 abbrev pub soundEntry : Entry → Bool
 soundEntry e =
-    (not (vacant (e .ul1)) || (vacant (e .ul2) && unmarked (e .«usage_marker»))) && soundOwner (e .ul1) && soundOwner (e .ul2) && soundMarker (e .«usage_marker»)
+    (not (vacant (e .ul1)) || (vacant (e .ul2) && unmarked (e .«usage_marker»))) && soundOwner (e .ul1) && soundOwner (e .ul2)
+    && soundMarker (e .«usage_marker»)
 
 abbrev pub soundRow : List Entry → Bool
 soundRow = all soundEntry

@@ -7,7 +7,7 @@ ghost use mathlib.Core.Path.{_≡_};
 ghost use Rattle.tdma_time.specs.Time.{Valid, slotOf};
 ghost use Rattle.uplink.specs.HalfSlot.{vacant};
 ghost use Rattle.uplink.specs.UplinkEntry.{emptyTable, entryAt, ownerOf, sameOwner, usageOf, markerOrZero, cleared};
-ghost use Rattle.uplink.specs.UplinkEntry.{soundOwner, soundCounter, soundMarker, unmarked, soundEntry, soundRow, soundTable, soundCounters};
+ghost use Rattle.uplink.specs.UplinkEntry.{soundOwner, soundCounter, soundMarker, unmarked, soundEntry, soundTable, soundCounters};
 ghost use Rattle.uplink.specs.Uplink.{uplinkOf, newUplink, advancedUplink, withTable, soundUplink};
 
 // An entry of the uplink table: who holds each half of the slot, and the usage marker of the reservation.
@@ -179,12 +179,10 @@ fn is_same_owner(a: OptU32, b: OptU32) -> bool
     }
 }
 
-// Who holds the first half of the slot at a time, the second, or both.
-pub fn ul_get_slot_owner(u: Uplink, ts: TdmaTime, slot: PhyBlockNum) -> OptU32
-    requires { ⌜ Valid ts ⌝ }
-    ensures { λ r. ⌜ r ≡ ownerOf slot (entryAt (u .rows) (slotOf ts)) ⌝ }
+// Who holds the first half of an entry's slot, the second, or both.
+pub fn owner_of(e: Entry, slot: PhyBlockNum) -> OptU32
+    ensures { λ r. ⌜ r ≡ ownerOf slot e ⌝ }
 {
-    let e = ul_entry(u, ts);
     let ul1 = e.ul1;
     let ul2 = e.ul2;
     match slot {
@@ -199,12 +197,19 @@ pub fn ul_get_slot_owner(u: Uplink, ts: TdmaTime, slot: PhyBlockNum) -> OptU32
     }
 }
 
-// How the slot at a time is used.
-pub fn ul_get_usage(u: Uplink, ts: TdmaTime) -> AccessAssignUlUsage
+// Who holds the first half of the slot at a time, the second, or both.
+pub fn ul_get_slot_owner(u: Uplink, ts: TdmaTime, slot: PhyBlockNum) -> OptU32
     requires { ⌜ Valid ts ⌝ }
-    ensures { λ r. ⌜ r ≡ usageOf (entryAt (u .rows) (slotOf ts)) ⌝ }
+    ensures { λ r. ⌜ r ≡ ownerOf slot (entryAt (u .rows) (slotOf ts)) ⌝ }
 {
     let e = ul_entry(u, ts);
+    owner_of(e, slot)
+}
+
+// How an entry's slot is used.
+pub fn usage_of(e: Entry) -> AccessAssignUlUsage
+    ensures { λ r. ⌜ r ≡ usageOf e ⌝ }
+{
     let ul1 = e.ul1;
     let ul2 = e.ul2;
     let usage_marker = e.usage_marker;
@@ -222,6 +227,15 @@ pub fn ul_get_usage(u: Uplink, ts: TdmaTime) -> AccessAssignUlUsage
             AccessAssignUlUsage::AssignedOnly
         }
     }
+}
+
+// How the slot at a time is used.
+pub fn ul_get_usage(u: Uplink, ts: TdmaTime) -> AccessAssignUlUsage
+    requires { ⌜ Valid ts ⌝ }
+    ensures { λ r. ⌜ r ≡ usageOf (entryAt (u .rows) (slotOf ts)) ⌝ }
+{
+    let e = ul_entry(u, ts);
+    usage_of(e)
 }
 
 // The marker, 0 if there is none.
@@ -285,26 +299,16 @@ fn entry_is_sound(e: Entry) -> bool
     owner_is_sound(ul1) & owner_is_sound(ul2) & marker_is_sound(m)
 }
 
-// Is every entry of a timeslot sound?
-fn row_is_sound(row: [Entry; 18]) -> bool
-    ensures { λ r. ⌜ r ≡ soundRow row ⌝ }
-{
-    let mut sound = true;
-    for i in 0..18 {
-        let e = row[i];
-        sound = sound & entry_is_sound(e);
-    }
-    sound
-}
-
-// Is every row of the table sound?
+// Is every entry of every row sound? Each is looked at where it stands: a row that is taken out is copied.
 fn table_is_sound(table: [[Entry; 18]; 4]) -> bool
     ensures { λ r. ⌜ r ≡ soundTable table ⌝ }
 {
     let mut sound = true;
     for i in 0..4 {
-        let row = table[i];
-        sound = sound & row_is_sound(row);
+        for j in 0..18 {
+            let e = table[i][j];
+            sound = sound & entry_is_sound(e);
+        }
     }
     sound
 }

@@ -21,7 +21,7 @@ pub fn run() {
     }
     let store = [0u8; 256];
     let mut block = [0u8; 34];
-    let chunk = next_chunk::get_next_chunk(&mut block, 208, 268, &store, 0, r);
+    let chunk = bs_frag_chunk::get_next_chunk(&mut block, 208, 268, &store, 0, r);
     show::word(b"header 57, 60 bits left:");
     show::octets(&block);
     show::word(b" to");

@@ -164,10 +164,10 @@ fn plain(length: u8, number: u32) -> MacResource {
     }
 }
 
-// The reply of the lone writer, and its buffer.
+// The reply of the header writer, and its buffer.
 fn written(at: usize, h: MacResource) {
     let mut s = [0xffu8; 12];
-    let reply = lone_writer::write_header(&mut s, at, h);
+    let reply = mac_header_writer::write_header(&mut s, at, h);
     show::word(b"written at");
     show::number(at as u64);
     show::word(b":");

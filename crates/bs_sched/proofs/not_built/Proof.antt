@@ -1,6 +1,6 @@
 -- A build that writes nothing brings back no tags.
 use mathlib.Core.Path.{refl}
-use Rattle.dl_send.specs.Progress.{tagRow}
+use Rattle.dl_send.specs.Arrays.{tagRow}
 use Rattle.bs_sched.proofs.not_built.Statement.{statement}
 use Rattle.bs_sched.proofs.not_built.Tie as tie
 

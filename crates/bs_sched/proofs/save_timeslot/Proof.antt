@@ -9,12 +9,13 @@ use lib.Seq.{paste, paste-zero}
 use borrow.Author.Needs.{needs}
 use Rattle.sizes.specs.Sizes.{perTimeslot}
 use Rattle.dl_record.specs.Record.{emptyRecord}
-use Rattle.sdu_store.proofs.CellLaws.{paste-turn}
+use Rattle.dl_sdu_store.proofs.CellLaws.{paste-turn}
 use Rattle.bs_sched.proofs.save_timeslot.Statement.{statement}
 use Rattle.bs_sched.proofs.save_timeslot.Proof.Tie as tie
 
 abbrev Inv-loop : tie.InvT-loop
-Inv-loop queue₀ first records i₀ queue i = (i ≤ perTimeslot) × (length records ≡ perTimeslot) × (length queue ≡ length queue₀) × (queue ≡ paste queue₀ first records i)
+Inv-loop queue₀ first records i₀ queue i =
+    (i ≤ perTimeslot) × (length records ≡ perTimeslot) × (length queue ≡ length queue₀) × (queue ≡ paste queue₀ first records i)
 
 abbrev μ-loop : tie.MeasureT-loop
 μ-loop queue₀ first records i₀ queue i = perTimeslot - i
@@ -32,7 +33,8 @@ loop-again c =
       omega arith,
       l .loop .inv .1,
       ap length (p .put-record .ensures) ∙ simp length-set (l .loop .inv .2),
-      p .put-record .ensures ∙ paste-turn (s .args .queue .now) (s .args .first) (s .args .t3) (l .loop .queue) (l .loop .i) _ emptyRecord (l .loop .inv .3) (omega arith) (omega (arith, l .loop .inv .1)) refl,
+      p .put-record .ensures ∙ paste-turn (s .args .queue .now) (s .args .first) (s .args .t3) (l .loop .queue) (l .loop .i) _ emptyRecord (l .loop .inv .3)
+          (omega arith) (omega (arith, l .loop .inv .1)) refl,
     )
 
 same-length : tie.Need-same-length Inv-loop μ-loop

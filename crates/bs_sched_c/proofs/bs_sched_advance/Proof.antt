@@ -1,10 +1,11 @@
--- 228 words, and the station that they stand for. Assumes nothing.
+-- A station of its number of words, and what they stand for. Assumes nothing.
 use borrow.Author.Needs.{needs}
 use borrow.Author.Tests.{ne-eqb}
 use mathlib.Core.Path.{_∙_, ap}
-use Rattle.sched_core.specs.Calls.{advanceCall}
-use Rattle.bs_sched_c.specs.Exports.{stationLeft, answered, advanceLeft}
-use Rattle.bs_sched_c.proofs.LeftLaws.{is-228, answer-refused, answer-done}
+use Prim.Native.Nat.{ℕ}
+use Rattle.questions.proofs.AskLaws.{said-no, said-yes}
+use Rattle.bs_sched_c.specs.Exports.{stationLeft, advanceLeft}
+use Rattle.bs_sched_c.proofs.LeftLaws.{is-station, advance-no, advance-yes}
 use Rattle.bs_sched_c.proofs.bs_sched_advance.Statement.{statement}
 use Rattle.bs_sched_c.proofs.bs_sched_advance.Tie as tie
 
@@ -15,28 +16,30 @@ returns c = rw (ne-eqb _ _ (c .if1 .taken))
 returns-2 : tie.Need-returns-2
 unfolding advanceLeft
 returns-2 c =
-    let w = c .before .before .before in
-    let f = w .before in
-    let e = f .before .before in
+    let t = c .before in
+    let k = t .before in
+    let e = k .before .before in
     let ws = e .before .before .args .station .now in
-    is-228 ws (stationLeft 2 ws) (e .if1 .left)
-    (answer-refused ws (w .advance .result) _ (c .before .reply-number .ensures) (c .if2 .taken) ∙ ap (answered ws) (w .advance .ensures ∙ ap advanceCall (f .station-from .ensures)))
+    is-station ws (stationLeft 2 ws) (e .if1 .left)
+    (ap (λ (n : ℕ). stationLeft n ws) (c .number .ensures) ∙ advance-no ws (said-no (k .station-is-sound .ensures) (t .if2 .taken)))
+
+advance-requires : tie.Need-advance-requires
+advance-requires c κs =
+    let t = c .before in
+    let k = t .before in
+    (k .before .before .if1 .left, said-yes (k .station-is-sound .ensures) (t .if2 .left))
 
 returns-3 : tie.Need-returns-3
 unfolding advanceLeft
 returns-3 c =
     let p = c .before .before in
-    let k = p .before .before in
-    let w = k .before .before .before in
-    let f = w .before in
-    let e = f .before .before in
+    let t = p .before .before in
+    let k = t .before in
+    let e = k .before .before in
     let ws = e .before .before .args .station .now in
-    is-228 ws (stationLeft 2 ws) (e .if1 .left)
-    (answer-done ws (w .advance .result) _ (k .before .reply-number .ensures) (k .if2 .left) _ (p .put-station .ensures)
-    ∙ ap (answered ws) (w .advance .ensures ∙ ap advanceCall (f .station-from .ensures)))
+    is-station ws (stationLeft 2 ws) (e .if1 .left) (advance-yes ws (said-yes (k .station-is-sound .ensures) (t .if2 .left)) _ (p .advance .ensures))
 
 pub bs-sched-advance-spec : {M : Type 1} → statement M
 bs-sched-advance-spec =
     tie.close
-    (tie.spec returns (λ c κs. search needs) (λ c κs. search needs) (λ c κs. search needs) (λ c. search needs) returns-2 (λ c κs. search needs)
-    (λ c. search needs) returns-3)
+    (tie.spec returns (λ c κs. search needs) (λ c κs. search needs) (λ c. search needs) returns-2 advance-requires (λ c. search needs) returns-3)

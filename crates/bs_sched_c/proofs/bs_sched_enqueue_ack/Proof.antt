@@ -1,31 +1,48 @@
 -- Exit by exit. Assumes nothing.
 use borrow.Author.Needs.{needs}
 use borrow.Author.Tests.{ne-eqb}
-use mathlib.Core.Path.{refl, sym, _∙_}
+use mathlib.Core.Path.{_≡_, refl, sym, _∙_}
 use mathlib.Core.Bool.{true}
+use Rattle.sched_core.specs.declared.Reply.{Reply}
 use Rattle.sched_core.specs.Questions.{Memory}
-use Rattle.sched_core.specs.Calls.{ackCall}
-use Rattle.enqueue_core.proofs.PlanLaws.{Told}
-use Rattle.sched_words.specs.Words.{recordsFrom}
+use Rattle.sched_core.specs.Calls.{Outcome, ackCall}
+use Rattle.sched_enqueue.specs.Plan.{planOf, QueuePlanned}
+use Rattle.sched_enqueue.proofs.PlanLaws.{Told}
+use Rattle.sched_words.specs.Words.{stationFrom, recordsFrom}
 use Rattle.bs_sched_c.specs.Exports.{ackLeft}
 use Rattle.bs_sched_c.proofs.AskedLaws.{all-words, asked-yes}
-use Rattle.bs_sched_c.proofs.LeftLaws.{queueReplies, exit-no, exit-refused, exit-done}
+use Rattle.bs_sched_c.proofs.LeftLaws.{queueReplies, by-counts, exit-no, exit-refused, exit-done}
 use Rattle.bs_sched_c.proofs.bs_sched_enqueue_ack.Statement.{statement}
 use Rattle.bs_sched_c.proofs.bs_sched_enqueue_ack.Tie as tie
 
--- from the questions back to the station
-abbrev station : tie.After-memory-number → tie.After-station-from
-station q = q .before .before
+-- from the questions back to the length of the station, and to the start
+abbrev sized : tie.After-memory-number → tie.Else1
+sized q = q .before .before .before
 
-abbrev start : tie.After-station-from → tie.Start
-start f = f .before .before .before .before .before .before
+abbrev start : tie.After-memory-number → tie.Start
+start q = sized q .before .before .before .before
 
 -- what the questions have told
-passed : (c : tie.Else2)
-    → let f = station (c .before) in
-    let a = start f .args in
-    Told (f .station-from .result) (recordsFrom (a .queue .now)) (a .store .now) true
+passed : (c : tie.Else2) → let a = start (c .before) .args in Told (stationFrom (a .station .now)) (recordsFrom (a .queue .now)) (a .store .now) true
 passed c = asked-yes _ _ _ true _ (c .before .memory-number .ensures) (c .if2 .left)
+
+-- back to the questions
+abbrev asked : tie.After-ack-joins → tie.Else2
+asked p = p .before .before .before
+
+abbrev called : tie.After-ack-joins → Memory → Outcome Reply
+called p m = let a = start (asked p .before) .args in ackCall m (a .timeslot) (a .kind) (a .number)
+
+-- the plan is that of the station that the words stand for
+planned : (p : tie.After-ack-joins)
+    → let a = start (asked p .before) .args in
+    let s = stationFrom (a .station .now) in
+    QueuePlanned (called p) s (a .store .now) (a .store .now) (planOf (s .uplink) (p .ack-joins .result))
+planned p =
+    let a = start (asked p .before) .args in
+    let s = stationFrom (a .station .now) in
+    by-counts s _ (p .before .queued-of .ensures) (called p) (a .store .now) (a .store .now) (planOf (s .uplink) (p .ack-joins .result))
+    (p .ack-joins .ensures (s .uplink) (a .store .now)) (passed (asked p) .station)
 
 returns : tie.Need-returns
 unfolding ackLeft
@@ -35,32 +52,34 @@ returns-2 : tie.Need-returns-2
 unfolding ackLeft ackCall
 returns-2 c =
     let q = c .before in
-    let f = station q in
-    let a = start f .args in
-    exit-no queueReplies (a .station .now) (a .queue .now) (a .store .now) (f .before .before .if1 .left) _ (f .station-from .ensures) _ _ _
-    (q .memory-number .ensures) (c .if2 .taken) _ refl
+    let a = start q .args in
+    exit-no queueReplies (a .station .now) (a .queue .now) (a .store .now) (sized q .if1 .left) _ _ _ (q .memory-number .ensures) (c .if2 .taken) _ refl
 
-ack-plan-requires : tie.Need-ack-plan-requires
-ack-plan-requires c κs = passed c .station
+queued-of-requires : tie.Need-queued-of-requires
+queued-of-requires c κs = (sized (c .before .before) .if1 .left, passed (c .before) .station)
 
 returns-3 : tie.Need-returns-3
 unfolding ackLeft
 returns-3 c =
     let g = c .before in
     let p = g .before in
-    let t = p .before in
-    let f = station (t .before) in
-    let a = start f .args in
-    exit-refused queueReplies (a .station .now) (a .queue .now) (a .store .now) (f .before .before .if1 .left) _ (f .station-from .ensures) (passed t .queue)
-    (λ (m : Memory). ackCall m (a .timeslot) (a .kind) (a .number)) _ _ _ _ _ (p .ack-plan .ensures (a .store .now)) _ (g .reply-number .ensures) _ (g .reply-number .ensures) (c .if3 .taken)
+    let t = asked p in
+    let a = start (t .before) .args in
+    exit-refused queueReplies (a .station .now) (a .queue .now) (a .store .now) (sized (t .before) .if1 .left) (passed t .queue) (called p) _ _ _ _ _
+    (planned p) _ (g .reply-number .ensures) _ (g .reply-number .ensures) (c .if3 .taken)
+
+put-queued-requires : tie.Need-put-queued-requires
+put-queued-requires c κs =
+    let t = asked (c .before .before .before .before .before) in
+    (sized (t .before) .if1 .left, passed t .station)
 
 put-record-requires : tie.Need-put-record-requires
 put-record-requires c κs =
     let n = c .before .before .before .before .before .before .before in
     let p = n .before .before in
-    let t = p .before in
-    let a = start (station (t .before)) .args in
-    (p .ack-plan .ensures (a .store .now) .joins (sym (n .before .reply-number .ensures) ∙ n .if3 .left), all-words (a .queue .now) (passed t .queue .places))
+    let t = asked p in
+    let a = start (t .before) .args in
+    (planned p .joins (sym (n .before .reply-number .ensures) ∙ n .if3 .left), all-words (a .queue .now) (passed t .queue .places))
 
 returns-4 : tie.Need-returns-4
 unfolding ackLeft
@@ -70,15 +89,15 @@ returns-4 c =
     let n = v .before .before .before .before in
     let g = n .before in
     let p = g .before in
-    let t = p .before in
-    let f = station (t .before) in
-    let a = start f .args in
-    exit-done queueReplies (a .station .now) (a .queue .now) (a .store .now) (f .before .before .if1 .left) _ (f .station-from .ensures) (passed t .queue)
-    (λ (m : Memory). ackCall m (a .timeslot) (a .kind) (a .number)) _ _ _ _ _ (p .ack-plan .ensures (a .store .now)) _ (g .reply-number .ensures) _ (sym (n .if3 .left) ∙ g .reply-number .ensures)
-    (n .if3 .left) _ _ (v .put-station .ensures) (w .put-record .ensures)
+    let t = asked p in
+    let a = start (t .before) .args in
+    exit-done queueReplies (a .station .now) (a .queue .now) (a .store .now) (sized (t .before) .if1 .left) (passed t .queue) (called p) _ _ _ _ _
+    (planned p) _ (g .reply-number .ensures) _ (sym (n .if3 .left) ∙ g .reply-number .ensures) (n .if3 .left) _ _ (v .put-queued .ensures)
+    (w .put-record .ensures)
 
 pub bs-sched-enqueue-ack-spec : {M : Type 1} → statement M
 bs-sched-enqueue-ack-spec =
     tie.close
-    (tie.spec returns (λ c κs. search needs) (λ c κs. search needs) (λ c. search needs) (λ c. search needs) returns-2 ack-plan-requires (λ c κs. search needs)
-    (λ c. search needs) (λ c. search needs) returns-3 (λ c κs. search needs) put-record-requires (λ c. search needs) (λ c. search needs) returns-4)
+    (tie.spec returns (λ c κs. search needs) (λ c. search needs) (λ c. search needs) returns-2 queued-of-requires (λ c κs. search needs)
+    (λ c κs. search needs) (λ c. search needs) (λ c. search needs) returns-3 put-queued-requires put-record-requires (λ c. search needs)
+    (λ c. search needs) returns-4)

@@ -1,10 +1,10 @@
--- 228 words, and the time. Assumes nothing.
+-- A station of its number of words, and the time. Assumes nothing.
 use borrow.Author.Needs.{needs}
 use borrow.Author.Tests.{ne-eqb}
 use mathlib.Core.Path.{_∙_, ap}
 use Rattle.sched_core.specs.Calls.{newCall}
-use Rattle.bs_sched_c.specs.Exports.{stationLeft, answered, newLeft}
-use Rattle.bs_sched_c.proofs.LeftLaws.{is-228, answer-refused, answer-done}
+use Rattle.bs_sched_c.specs.Exports.{stationLeft, stationLeftBy, newLeft}
+use Rattle.bs_sched_c.proofs.LeftLaws.{is-station, answer-refused, answer-done}
 use Rattle.bs_sched_c.proofs.bs_sched_new.Statement.{statement}
 use Rattle.bs_sched_c.proofs.bs_sched_new.Tie as tie
 
@@ -18,8 +18,9 @@ returns-2 c =
     let w = c .before .before .before in
     let e = w .before .before in
     let ws = e .before .before .args .station .now in
-    is-228 ws (stationLeft 2 ws) (e .if1 .left)
-    (answer-refused ws (w .new .result) _ (c .before .reply-number .ensures) (c .if2 .taken) ∙ ap (answered ws) (w .new .ensures ∙ ap newCall (w .before .time-at .ensures)))
+    is-station ws (stationLeft 2 ws) (e .if1 .left)
+    (answer-refused ws (w .new .result) _ (c .before .reply-number .ensures) (c .if2 .taken)
+    ∙ ap (stationLeftBy ws) (w .new .ensures ∙ ap newCall (w .before .time-at .ensures)))
 
 returns-3 : tie.Need-returns-3
 unfolding newLeft
@@ -29,8 +30,9 @@ returns-3 c =
     let w = k .before .before .before in
     let e = w .before .before in
     let ws = e .before .before .args .station .now in
-    is-228 ws (stationLeft 2 ws) (e .if1 .left)
-    (answer-done ws (w .new .result) _ (k .before .reply-number .ensures) (k .if2 .left) _ (p .put-station .ensures) ∙ ap (answered ws) (w .new .ensures ∙ ap newCall (w .before .time-at .ensures)))
+    is-station ws (stationLeft 2 ws) (e .if1 .left)
+    (answer-done ws (w .new .result) _ (k .before .reply-number .ensures) (k .if2 .left) _ (p .put-station .ensures)
+    ∙ ap (stationLeftBy ws) (w .new .ensures ∙ ap newCall (w .before .time-at .ensures)))
 
 pub bs-sched-new-spec : {M : Type 1} → statement M
 bs-sched-new-spec =

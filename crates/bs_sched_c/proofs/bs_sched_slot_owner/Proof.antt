@@ -1,39 +1,82 @@
--- 228 words, and the station that they stand for. Assumes nothing.
+-- Question by question, then the entry of the time. Assumes nothing.
 use borrow.Author.Needs.{needs}
 use borrow.Author.Tests.{ne-eqb}
-use mathlib.Core.Path.{_∙_, ap}
-use Rattle.uplink.specs.declared.PhyBlockNum.{PhyBlockNum}
-use Rattle.sched_core.specs.Calls.{ownerNumber, ownerCall}
-use Rattle.bs_sched_c.specs.Exports.{ownerWord, ownerAnswer}
-use Rattle.bs_sched_c.proofs.LeftLaws.{is-228}
+use mathlib.Core.Path.{_≡_, _∙_, ap}
+use mathlib.Core.Bool.{true}
+use Prim.Native.Nat.{ℕ}
+use Rattle.questions.proofs.AskLaws.{said-no, said-yes}
+use Rattle.tdma_time.specs.declared.TdmaTime.{TdmaTime}
+use Rattle.tdma_time.specs.Time.{valid, slotOf}
+use Rattle.tdma_time.proofs.TimeLaws.{true-valid}
+use Rattle.uplink.specs.UplinkEntry.{entryAt}
+use Rattle.sched_core.specs.Questions.{soundStation}
+use Rattle.sched_words.specs.Words.{stationFrom}
+use Rattle.bs_sched_c.specs.Exports.{timeAt, noOwnersStruct, entryOwners, ownerAnswer}
+use Rattle.bs_sched_c.proofs.LeftLaws.{is-station, owner-unsound, owner-no-time, owner-yes}
 use Rattle.bs_sched_c.proofs.bs_sched_slot_owner.Statement.{statement}
 use Rattle.bs_sched_c.proofs.bs_sched_slot_owner.Tie as tie
 
+-- back to the start
+abbrev start : tie.After-station-is-sound → tie.Start
+start k = k .before .before .before .before
+
+abbrev time : tie.Start → TdmaTime
+time s = timeAt (s .args .h) (s .args .m) (s .args .f) (s .args .t)
+
+sound : (c : tie.Else2) → soundStation (stationFrom (start (c .before) .args .station .now)) ≡ true
+sound c = said-yes (c .before .station-is-sound .ensures) (c .if2 .left)
+
+valid-is : (v : tie.After-is-valid) → v .is-valid .result ≡ valid (time (start (v .before .before)))
+valid-is v = v .is-valid .ensures ∙ ap valid (v .before .before .before .time-at .ensures)
+
 returns : tie.Need-returns
 unfolding ownerAnswer
-returns c = rw (ne-eqb _ _ (c .if1 .taken))
+returns c = rw (c .no-owners .ensures, ne-eqb _ _ (c .before .if1 .taken))
 
 returns-2 : tie.Need-returns-2
 unfolding ownerAnswer
 returns-2 c =
-    let o3 = c .before .before .before .before in
-    let o2 = o3 .before in
-    let o1 = o2 .before in
-    let f = o1 .before .before in
-    let ws = f .before .before .before .args .station .now in
-    let e1 = o1 .ul-get-slot-owner .ensures ∙ (λ i. ownerCall (f .station-from .ensures i) (o1 .before .time-at .ensures i) PhyBlockNum.Both) in
-    let e2 = o2 .ul-get-slot-owner2 .ensures ∙ (λ i. ownerCall (f .station-from .ensures i) (o1 .before .time-at .ensures i) PhyBlockNum.Block1) in
-    let e3 = o3 .ul-get-slot-owner3 .ensures ∙ (λ i. ownerCall (f .station-from .ensures i) (o1 .before .time-at .ensures i) PhyBlockNum.Block2) in
-    is-228 ws (record { refusal = 2; both = 0; first = 0; second = 0 }) (f .before .if1 .left)
-    (λ i. record {
-      refusal = (c .before .before .before .owner-number .ensures ∙ ap ownerNumber e1) i;
-      both = (c .before .before .owner-word .ensures ∙ ap ownerWord e1) i;
-      first = (c .before .owner-word2 .ensures ∙ ap ownerWord e2) i;
-      second = (c .owner-word3 .ensures ∙ ap ownerWord e3) i;
-    })
+    let t = c .before .before in
+    let k = t .before in
+    let s = start k in
+    let ws = s .args .station .now in
+    is-station ws (noOwnersStruct 2) (k .before .before .if1 .left)
+    (c .no-owners2 .ensures ∙ ap noOwnersStruct (c .before .number .ensures)
+    ∙ owner-unsound (stationFrom ws) (time s) (said-no (k .station-is-sound .ensures) (t .if2 .taken)))
+
+returns-3 : tie.Need-returns-3
+unfolding ownerAnswer
+returns-3 c =
+    let t = c .before .before in
+    let v = t .before in
+    let k = v .before .before in
+    let s = start k in
+    let ws = s .args .station .now in
+    is-station ws (noOwnersStruct 2) (k .before .before .if1 .left)
+    (c .no-owners3 .ensures ∙ ap noOwnersStruct (c .before .number2 .ensures)
+    ∙ owner-no-time (stationFrom ws) (time s) (sound (v .before)) (said-no (valid-is v) (t .if3 .taken)))
+
+entry-at-requires : tie.Need-entry-at-requires
+entry-at-requires c κs =
+    let v = c .before in
+    (v .before .before .before .before .if1 .left, sound (v .before), true-valid _ (said-yes (v .is-valid .ensures) (c .if3 .left)))
+
+returns-4 : tie.Need-returns-4
+unfolding ownerAnswer
+returns-4 c =
+    let e = c .before in
+    let t = e .before in
+    let v = t .before in
+    let k = v .before .before in
+    let s = start k in
+    let ws = s .args .station .now in
+    let x = ap (λ (y : TdmaTime). entryAt (stationFrom ws .uplink .rows) (slotOf y)) (k .before .time-at .ensures) in
+    is-station ws (noOwnersStruct 2) (k .before .before .if1 .left)
+    (c .owners-of .ensures ∙ ap entryOwners (e .entry-at .ensures ∙ x)
+    ∙ owner-yes (stationFrom ws) (time s) (sound (v .before)) (said-yes (valid-is v) (t .if3 .left)))
 
 pub bs-sched-slot-owner-spec : {M : Type 1} → statement M
 bs-sched-slot-owner-spec =
     tie.close
-    (tie.spec returns (λ c κs. search needs) (λ c κs. search needs) (λ c κs. search needs) (λ c κs. search needs) (λ c κs. search needs)
-    (λ c κs. search needs) (λ c κs. search needs) (λ c κs. search needs) (λ c κs. search needs) returns-2)
+    (tie.spec (λ c κs. search needs) returns (λ c κs. search needs) (λ c κs. search needs) (λ c κs. search needs) (λ c κs. search needs) returns-2
+    (λ c κs. search needs) (λ c κs. search needs) (λ c κs. search needs) returns-3 entry-at-requires (λ c κs. search needs) returns-4)

@@ -13,7 +13,8 @@ use Rattle.dl_build.proofs.close_up.Tie as tie
 
 abbrev Inv-loop : tie.InvT-loop
 Inv-loop store₀ first n from p₀ store p =
-    (p ≤ n) × (length from ≡ perTimeslot) × (length store ≡ length store₀) × (store ≡ paste store₀ (cellOctets * first) (arranged (cellsAt store₀ first) from) (cellOctets * p))
+    (p ≤ n) × (length from ≡ perTimeslot) × (length store ≡ length store₀)
+    × (store ≡ paste store₀ (cellOctets * first) (arranged (cellsAt store₀ first) from) (cellOctets * p))
 
 abbrev μ-loop : tie.MeasureT-loop
 μ-loop store₀ first n from p₀ store p = n - p
@@ -27,8 +28,12 @@ loop-again : tie.Need-loop-again Inv-loop μ-loop
 loop-again c =
     let k = c .before .before in
     let a = k .before .before .args in
-    let l = k .loop in
-    (omega arith, l .inv .1, l .inv .2, stay-turn (a .store .now) (a .first) (a .t3) (omega arith) (l .inv .1) (l .store) (l .p) (omega arith) (l .inv .3) (c .if1 .taken))
+    let l = k .loop in (
+      omega arith,
+      l .inv .1,
+      l .inv .2,
+      stay-turn (a .store .now) (a .first) (a .t3) (omega arith) (l .inv .1) (l .store) (l .p) (omega arith) (l .inv .3) (c .if1 .taken),
+    )
 
 move-cell-requires : tie.Need-move-cell-requires Inv-loop μ-loop
 move-cell-requires c κs = (omega arith, omega arith)
@@ -44,7 +49,8 @@ loop-again-2 c =
       l .inv .1,
       o .move-cell .kept .0 ∙ l .inv .2,
       o .move-cell .ensures
-          ∙ move-turn (a .store .now) (a .first) (a .t3) (omega arith) (l .inv .1) (l .store) (l .p) (omega arith) (l .inv .3) (s .pre .2 (l .p) (omega arith)) (o .before .before .if2 .taken),
+          ∙ move-turn (a .store .now) (a .first) (a .t3) (omega arith) (l .inv .1) (l .store) (l .p) (omega arith) (l .inv .3)
+          (s .pre .2 (l .p) (omega arith)) (o .before .before .if2 .taken),
     )
 
 loop-again-3 : tie.Need-loop-again-3 Inv-loop μ-loop
@@ -57,7 +63,8 @@ loop-again-3 c =
       omega arith,
       l .inv .1,
       o .zero-octets .kept .0 ∙ l .inv .2,
-      o .zero-octets .ensures ∙ blank-turn (a .store .now) (a .first) (a .t3) (omega arith) (l .inv .1) (l .store) (l .p) (omega arith) (l .inv .3) (o .before .before .if2 .left),
+      o .zero-octets .ensures ∙ blank-turn (a .store .now) (a .first) (a .t3) (omega arith) (l .inv .1) (l .store) (l .p) (omega arith) (l .inv .3)
+          (o .before .before .if2 .left),
     )
 
 same-length : tie.Need-same-length Inv-loop μ-loop
@@ -73,4 +80,6 @@ returns c =
 pub close-up-spec : {M : Type 1} → statement M
 close-up-spec =
     tie.close
-    (tie.spec Inv-loop μ-loop loop-holds (λ c. search needs) (λ c. search needs) (λ c. search needs) (λ c. search needs) (λ c. search needs) (λ c. search needs) (λ c. search needs) loop-again (λ c. search needs) (λ c. search needs) (λ c. search needs) move-cell-requires (λ c. search needs) (λ c. search needs) loop-again-2 (λ c κs. search needs) (λ c. search needs) (λ c. search needs) loop-again-3 same-length returns)
+    (tie.spec Inv-loop μ-loop loop-holds (λ c. search needs) (λ c. search needs) (λ c. search needs) (λ c. search needs) (λ c. search needs)
+    (λ c. search needs) (λ c. search needs) loop-again (λ c. search needs) (λ c. search needs) (λ c. search needs) move-cell-requires
+    (λ c. search needs) (λ c. search needs) loop-again-2 (λ c κs. search needs) (λ c. search needs) (λ c. search needs) loop-again-3 same-length returns)

@@ -12,7 +12,8 @@ returns c =
     let w = c .before .before in
     let r = w .before .before .before .before in
     let a = r .before .before .before .before .args in
-    cell-moved (a .store .now) (replicate cellOctets 0) (a .to) (a .from) _ _ (length-replicate {A = ℕ} cellOctets 0) (r .copy-octets .ensures) (w .copy-octets2 .ensures)
+    cell-moved (a .store .now) (replicate cellOctets 0) (a .to) (a .from) _ _ (length-replicate {A = ℕ} cellOctets 0) (r .copy-octets .ensures)
+    (w .copy-octets2 .ensures)
 
 pub move-cell-spec : {M : Type 1} → statement M
 move-cell-spec =

@@ -11,7 +11,8 @@ use Rattle.dl_build.proofs.read_cells.Tie as tie
 returns : tie.Need-returns
 returns c =
     let a = c .before .before .before .before .args in
-    c .before .copy-octets .ensures ∙ read-list timeslotOctets (replicate timeslotOctets 0) (drop (cellOctets * a .first) (a .store .now)) (length-replicate {A = ℕ} timeslotOctets 0)
+    c .before .copy-octets .ensures ∙ read-list timeslotOctets (replicate timeslotOctets 0) (drop (cellOctets * a .first) (a .store .now))
+    (length-replicate {A = ℕ} timeslotOctets 0)
 
 pub read-cells-spec : {M : Type 1} → statement M
 read-cells-spec =

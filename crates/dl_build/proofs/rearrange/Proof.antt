@@ -37,4 +37,5 @@ returns-2 c =
 pub rearrange-spec : {M : Type 1} → statement M
 rearrange-spec =
     tie.close
-    (tie.spec (λ c κs. search needs) close-up-requires (λ c. search needs) returns (λ c κs. search needs) (λ c. search needs) (λ c κs. search needs) (λ c. search needs) returns-2)
+    (tie.spec (λ c κs. search needs) close-up-requires (λ c. search needs) returns (λ c κs. search needs) (λ c. search needs) (λ c κs. search needs)
+    (λ c. search needs) returns-2)

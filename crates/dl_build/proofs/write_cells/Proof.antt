@@ -12,7 +12,8 @@ use Rattle.dl_build.proofs.write_cells.Statement.{statement}
 use Rattle.dl_build.proofs.write_cells.Tie as tie
 
 abbrev Inv-loop : tie.InvT-loop
-Inv-loop store₀ first cells from p₀ store p = (p ≤ perTimeslot) × (length from ≡ perTimeslot) × (length store ≡ length store₀) × (store ≡ paste store₀ (cellOctets * first) (arranged cells from) (cellOctets * p))
+Inv-loop store₀ first cells from p₀ store p = (p ≤ perTimeslot) × (length from ≡ perTimeslot) × (length store ≡ length store₀)
+    × (store ≡ paste store₀ (cellOctets * first) (arranged cells from) (cellOctets * p))
 
 abbrev μ-loop : tie.MeasureT-loop
 μ-loop store₀ first cells from p₀ store p = perTimeslot - p
@@ -31,7 +32,8 @@ loop-again c =
       omega arith,
       l .inv .1,
       o .copy-octets .kept .0 ∙ l .inv .2,
-      o .copy-octets .ensures ∙ copy-turn (a .store .now) (a .first) (a .cells .now) (a .t4) (omega arith) (omega arith) (l .inv .1) (l .store) (l .p) (omega arith) (l .inv .3) (o .before .before .if1 .taken),
+      o .copy-octets .ensures ∙ copy-turn (a .store .now) (a .first) (a .cells .now) (a .t4) (omega arith) (omega arith) (l .inv .1) (l .store)
+          (l .p) (omega arith) (l .inv .3) (o .before .before .if1 .taken),
     )
 
 loop-again-2 : tie.Need-loop-again-2 Inv-loop μ-loop
@@ -43,7 +45,8 @@ loop-again-2 c =
       omega arith,
       l .inv .1,
       o .zero-octets .kept .0 ∙ l .inv .2,
-      o .zero-octets .ensures ∙ zero-turn (a .store .now) (a .first) (a .cells .now) (a .t4) (omega arith) (omega arith) (l .inv .1) (l .store) (l .p) (omega arith) (l .inv .3) (o .before .before .if1 .left),
+      o .zero-octets .ensures ∙ zero-turn (a .store .now) (a .first) (a .cells .now) (a .t4) (omega arith) (omega arith) (l .inv .1) (l .store)
+          (l .p) (omega arith) (l .inv .3) (o .before .before .if1 .left),
     )
 
 same-length : tie.Need-same-length Inv-loop μ-loop
@@ -59,4 +62,6 @@ returns c =
 pub write-cells-spec : {M : Type 1} → statement M
 write-cells-spec =
     tie.close
-    (tie.spec Inv-loop μ-loop loop-holds (λ c. search needs) (λ c. search needs) (λ c. search needs) (λ c. search needs) (λ c. search needs) (λ c. search needs) (λ c κs. search needs) (λ c. search needs) (λ c. search needs) loop-again (λ c κs. search needs) (λ c. search needs) (λ c. search needs) loop-again-2 same-length returns)
+    (tie.spec Inv-loop μ-loop loop-holds (λ c. search needs) (λ c. search needs) (λ c. search needs) (λ c. search needs) (λ c. search needs)
+    (λ c. search needs) (λ c κs. search needs) (λ c. search needs) (λ c. search needs) loop-again (λ c κs. search needs) (λ c. search needs)
+    (λ c. search needs) loop-again-2 same-length returns)

@@ -1,6 +1,6 @@
 -- The empty record has no bits.
 use Prim.Native.Nat.{ℕ}
-use Rattle.sdu_store.specs.Cells.{cleanPast}
+use Rattle.dl_sdu_store.specs.Cells.{cleanPast}
 use Rattle.dl_queue.proofs.PlaceLaws.{empty-bits}
 use Rattle.dl_queue.specs.Questions.{soundPlace}
 use borrow.Author.Needs.{needs}

@@ -11,9 +11,10 @@ returns c =
     let k = c .before .before in
     let l = k .before .before .before .before in
     let a = l .before .before .before .before .args in
-    built-as (a .block .now) _ _ _ _ (λ i. omega (arith, c .slice-known3 .given i)) (k .send-all .kept .0 ∙ l .zero-octets .kept .0) (l .zero-octets .ensures) (k .send-all .ensures)
+    built-as (a .block .now) _ _ _ _ (λ i. omega (arith, c .slice-known3 .given i)) (k .send-all .kept .0 ∙ l .zero-octets .kept .0) (l .zero-octets .ensures)
+    (k .send-all .ensures)
 
 pub build-records-spec : {M : Type 1} → statement M
 build-records-spec =
     tie.close
-    (tie.spec (λ c κs. search needs) (λ c κs. search needs) (λ c. search needs) returns)
+    (tie.spec (λ c κs. search needs) (λ c κs. (search needs, search needs)) (λ c. search needs) returns)

@@ -27,7 +27,8 @@ returns : tie.Need-returns Inv-loop μ-loop
 returns c =
     let k = c .before .before in
     let inv = k .before .before .loop .inv in
-    part-set _ _ _ _ _ _ _ (k .part-start .ensures .0) (omega (arith, k .part-start .ensures .1)) (c .before .fill-bits-before .ensures) (c .if1 .taken) (inv .1)
+    part-set _ _ _ _ _ _ _ (k .part-start .ensures .0) (omega (arith, k .part-start .ensures .1)) (c .before .fill-bits-before .ensures) (c .if1 .taken)
+    (inv .1)
 
 loop-again : tie.Need-loop-again Inv-loop μ-loop
 loop-again c =

@@ -6,16 +6,18 @@ use Prim.Native.Nat.{_-_, _<_, _≤_}
 use native.Mathlib.Omega.{arith}
 use lib.ListN.{length, drop}
 use borrow.Author.Needs.{needs}
+use Rattle.sizes.specs.Sizes.{storeOctets}
 use Rattle.sched_core.specs.Questions.{memory}
-use Rattle.interpreter.specs.Slotrun.{session, isWhole}
+use Rattle.interpreter.specs.Slotrun.{stageOctets, session, isWhole}
 use Rattle.interpreter.proofs.TextLaws.{length-wrote}
-use Rattle.interpreter.proofs.RunLaws.{Running, running-start, running-turn, running-advance, wrote-back, run-done, whole-inside, whole-fits, ends-inside, room-left}
+use Rattle.interpreter.proofs.RunLaws.{Running, running-start, running-turn, running-advance, run-done}
+use Rattle.interpreter.proofs.RunLaws.{wrote-back, whole-inside, whole-fits, ends-inside, room-left}
 use Rattle.interpreter.proofs.run.Statement.{statement}
 use Rattle.interpreter.proofs.run.Tie as tie
 
 abbrev Inv-loop : tie.InvT-loop
 Inv-loop store₀ stage₀ input out₀ here₀ records₀ taken₀ count₀ store stage out here records taken count =
-    (length store ≡ 16384) × (length stage ≡ 256) × (length out ≡ length out₀)
+    (length store ≡ storeOctets) × (length stage ≡ stageOctets) × (length out ≡ length out₀)
     × Running input (session (memory here₀ records₀ store₀) stage₀) (session (memory here records store) stage) out₀ out taken count
 
 abbrev μ-loop : tie.MeasureT-loop

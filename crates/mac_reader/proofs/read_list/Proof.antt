@@ -2,6 +2,7 @@
 use mathlib.Core.Path.{_≡_, refl, sym, _∙_}
 use Prim.Native.Nat.{_-_}
 use lib.ListN.{length}
+use Rattle.mac_reader.specs.Reader.{mostPdus}
 use Rattle.bitbuffer.specs.Bits.{bitsOf}
 use Rattle.mac_reader.proofs.ReadLoop.{Got, got-start, got-end, got-full, got-refused, got-last, got-more}
 use borrow.Author.Needs.{needs}
@@ -9,10 +10,10 @@ use Rattle.mac_reader.proofs.read_list.Statement.{statement}
 use Rattle.mac_reader.proofs.read_list.Tie as tie
 
 abbrev Inv-loop : tie.InvT-loop
-Inv-loop s w pdus₀ n₀ at₀ pdus n at = Got w (bitsOf s) pdus n at × (length pdus ≡ 16)
+Inv-loop s w pdus₀ n₀ at₀ pdus n at = Got w (bitsOf s) pdus n at × (length pdus ≡ mostPdus)
 
 abbrev μ-loop : tie.MeasureT-loop
-μ-loop s w pdus₀ n₀ at₀ pdus n at = 16 - n
+μ-loop s w pdus₀ n₀ at₀ pdus n at = mostPdus - n
 
 loop-holds : tie.Need-loop-holds Inv-loop μ-loop
 loop-holds c = (got-start _ _, refl)

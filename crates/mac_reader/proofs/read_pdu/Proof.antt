@@ -15,7 +15,9 @@ returns c =
     let t1 = read .before in
     let l = bitsOf (t1 .before .before .before .args .s .now) in
     let a = t1 .before .before .before .args in
-    rw (sym (t1 .before .read-bits .ensures .0) ∙ t1 .if1 .taken) (c .resource-step .ensures ∙ resource-then l (a .at) (read .read-resource .result) (λ r after. resourceStep (a .w) (a .at) r after) (read .read-resource .ensures))
+    rw (sym (t1 .before .read-bits .ensures .0) ∙ t1 .if1 .taken)
+    (c .resource-step .ensures ∙ resource-then l (a .at) (read .read-resource .result) (λ r after. resourceStep (a .w) (a .at) r after)
+    (read .read-resource .ensures))
 
 returns-2 : tie.Need-returns-2
 unfolding pduAt field

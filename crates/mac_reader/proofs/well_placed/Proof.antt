@@ -11,4 +11,5 @@ returns c = cc
 pub well-placed-spec : {M : Type 1} → statement M
 well-placed-spec =
     tie.close
-    (tie.spec (λ c. search needs) (λ c. search needs) (λ c. search needs) (λ c. search needs) (λ c. search needs) (λ c. search needs) (λ c. search needs) returns)
+    (tie.spec (λ c. search needs) (λ c. search needs) (λ c. search needs) (λ c. search needs) (λ c. search needs) (λ c. search needs)
+    (λ c. search needs) returns)

@@ -5,6 +5,7 @@ use Prim.Native.Nat.{_≤_, _-_}
 use native.Mathlib.Omega.{arith}
 use borrow.Author.Needs.{needs}
 use lib.ListN.{length, drop}
+use Rattle.sizes.specs.Sizes.{timeslots}
 use Rattle.uplink.specs.UplinkEntry.{all}
 use Rattle.uplink.proofs.Everywhere.{all-turn, all-done}
 use Rattle.sched_core.specs.Questions.{soundCount}
@@ -12,10 +13,10 @@ use Rattle.sched_core.proofs.counts_are_sound.Statement.{statement}
 use Rattle.sched_core.proofs.counts_are_sound.Tie as tie
 
 abbrev Inv-loop : tie.InvT-loop
-Inv-loop xs sound₀ i₀ sound i = (i ≤ 4) × (length xs ≡ 4) × (sound && all soundCount (drop i xs) ≡ all soundCount xs)
+Inv-loop xs sound₀ i₀ sound i = (i ≤ timeslots) × (length xs ≡ timeslots) × (sound && all soundCount (drop i xs) ≡ all soundCount xs)
 
 abbrev μ-loop : tie.MeasureT-loop
-μ-loop xs sound₀ i₀ sound i = 4 - i
+μ-loop xs sound₀ i₀ sound i = timeslots - i
 
 loop-again : tie.Need-loop-again Inv-loop μ-loop
 loop-again c =
@@ -26,4 +27,5 @@ returns : tie.Need-returns Inv-loop μ-loop
 returns c = sym (all-done soundCount (c .before .before .args .t1) (c .before .loop .i) (c .before .loop .sound) (omega arith)) ∙ c .before .loop .inv .2
 
 pub counts-are-sound-spec : {M : Type 1} → statement M
-counts-are-sound-spec = tie.close (tie.spec Inv-loop μ-loop (λ c. search needs) (λ c. search needs) (λ c. search needs) (λ c. search needs) (λ c. search needs) loop-again returns)
+counts-are-sound-spec =
+    tie.close (tie.spec Inv-loop μ-loop (λ c. search needs) (λ c. search needs) (λ c. search needs) (λ c. search needs) (λ c. search needs) loop-again returns)

@@ -24,7 +24,11 @@ unfolding ownerCall
 returns-3 c =
     let k = c .before .before in
     rw (c .ul-get-slot-owner .ensures)
-    (every-yes _ _ _ ((tt, said-yes (k .before .before .before .station-is-sound .ensures) (k .before .before .if1 .left)), said-yes (k .before .is-valid .ensures) (k .if2 .left)))
+    (every-yes _ _ _ (
+      (tt, said-yes (k .before .before .before .station-is-sound .ensures) (k .before .before .if1 .left)),
+      said-yes
+          (k .before .is-valid .ensures) (k .if2 .left),
+    ))
 
 pub ul-get-slot-owner-spec : {M : Type 1} → statement M
 ul-get-slot-owner-spec =

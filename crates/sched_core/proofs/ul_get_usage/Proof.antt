@@ -24,7 +24,11 @@ unfolding usageCall
 returns-3 c =
     let k = c .before .before in
     rw (c .ul-get-usage .ensures)
-    (every-yes _ _ _ ((tt, said-yes (k .before .before .before .station-is-sound .ensures) (k .before .before .if1 .left)), said-yes (k .before .is-valid .ensures) (k .if2 .left)))
+    (every-yes _ _ _ (
+      (tt, said-yes (k .before .before .before .station-is-sound .ensures) (k .before .before .if1 .left)),
+      said-yes
+          (k .before .is-valid .ensures) (k .if2 .left),
+    ))
 
 pub ul-get-usage-spec : {M : Type 1} → statement M
 ul-get-usage-spec =

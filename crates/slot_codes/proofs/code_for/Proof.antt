@@ -27,13 +27,16 @@ returns-7 : tie.Need-returns-7
 returns-7 c = sym (code-at 11 24 (c .before .before .before .before .before .before .before .args .req) refl (search needs) (search needs) (search needs))
 
 returns-8 : tie.Need-returns-8
-returns-8 c = sym (code-at 12 34 (c .before .before .before .before .before .before .before .before .args .req) refl (search needs) (search needs) (search needs))
+returns-8 c =
+    sym (code-at 12 34 (c .before .before .before .before .before .before .before .before .args .req) refl (search needs) (search needs) (search needs))
 
 returns-9 : tie.Need-returns-9
-returns-9 c = sym (code-at 13 51 (c .before .before .before .before .before .before .before .before .before .args .req) refl (search needs) (search needs) (search needs))
+returns-9 c =
+    sym (code-at 13 51 (c .before .before .before .before .before .before .before .before .before .args .req) refl (search needs) (search needs) (search needs))
 
 returns-10 : tie.Need-returns-10
-returns-10 c = sym (code-at 14 68 (c .before .before .before .before .before .before .before .before .before .args .req) refl (search needs) (search needs) (search needs))
+returns-10 c =
+    sym (code-at 14 68 (c .before .before .before .before .before .before .before .before .before .args .req) refl (search needs) (search needs) (search needs))
 
 pub code-for-spec : {M : Type 1} → statement M
 code-for-spec = tie.close (tie.spec (λ c. search needs) returns returns-2 returns-3 returns-4 returns-5 returns-6 returns-7 returns-8 returns-9 returns-10)

@@ -5,9 +5,10 @@ use Prim.Native.Nat.{_≤_}
 use lib.ListN.{length, take}
 use borrow.Author.Needs.{needs}
 use borrow.Author.Tests.{not-false}
+use Rattle.sizes.specs.Sizes.{storeOctets}
 use Rattle.sched_core.specs.Questions.{memory}
 use Rattle.sched_core.specs.Calls.{newMemory}
-use Rattle.interpreter.specs.Slotrun.{session, start}
+use Rattle.interpreter.specs.Slotrun.{stageOctets, session, start}
 use Rattle.slotrun.specs.Turned.{Reached}
 use Rattle.slotrun.proofs.TurnedLaws.{reached-start, reached-next, room-to-read}
 use Rattle.slotrun.proofs.main.Statement.{statement}
@@ -15,7 +16,7 @@ use Rattle.slotrun.proofs.main.Tie as tie
 
 abbrev Inv-loop : tie.InvT-loop
 Inv-loop station₀ queue₀ store₀ stage₀ input₀ out₀ held₀ turns₀ station queue store stage input out held turns =
-    (length store ≡ 16384) × (length stage ≡ 256) × (length input ≡ 256) × (length out ≡ 65536) × (held ≤ 33)
+    (length store ≡ storeOctets) × (length stage ≡ stageOctets) × (length input ≡ 256) × (length out ≡ 65536) × (held ≤ 33)
     × Reached (session (memory station queue store) stage) (take held input)
 
 abbrev μ-loop : tie.MeasureT-loop

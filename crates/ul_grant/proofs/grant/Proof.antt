@@ -36,7 +36,8 @@ returns c =
     (granted-by (a .u) (asked w) (a .start) (a .skips) (pre .1 .0 .2) (pre .1 .1) _ _ _ _ _ _ _
     (f .before .to-req-slotcount .ensures)
     (ap (λ (t : Table). getD (getD t (a .timeslot - 1) []) ((f .forward-to-timeslot .result .f - 1 + a .start) % 18) emptyEntry .ul1) tb
-    ∙ ap (λ (e : Entry). e .ul1) (entry-read (a .u .rows) (a .u .time) (a .timeslot) (a .start) _ (pre .1 .0 .0) (pre .1 .0 .1) (f .forward-to-timeslot .ensures .0)))
+    ∙ ap (λ (e : Entry). e .ul1) (entry-read (a .u .rows) (a .u .time) (a .timeslot) (a .start) _ (pre .1 .0 .0) (pre .1 .0 .1)
+    (f .forward-to-timeslot .ensures .0)))
     (rw (k .before .is-vacant .ensures, code) at (k .capacity-for .ensures))
     (rw code at (k .before .before .free-block .ensures))
     (ap OptU8.Of (m .alloc-usage-marker .ensures .0) ∙ sym (d .0))
@@ -58,7 +59,8 @@ returns-2 c =
     (granted-by (a .u) (asked w) (a .start) (a .skips) (pre .1 .0 .2) (pre .1 .1) _ _ _ _ _ _ _
     (f .before .to-req-slotcount .ensures)
     (ap (λ (t : Table). getD (getD t (a .timeslot - 1) []) ((f .forward-to-timeslot .result .f - 1 + a .start) % 18) emptyEntry .ul1) tb
-    ∙ ap (λ (e : Entry). e .ul1) (entry-read (a .u .rows) (a .u .time) (a .timeslot) (a .start) _ (pre .1 .0 .0) (pre .1 .0 .1) (f .forward-to-timeslot .ensures .0)))
+    ∙ ap (λ (e : Entry). e .ul1) (entry-read (a .u .rows) (a .u .time) (a .timeslot) (a .start) _ (pre .1 .0 .0) (pre .1 .0 .1)
+    (f .forward-to-timeslot .ensures .0)))
     (rw (k .before .is-vacant .ensures, code) at (k .capacity-for .ensures))
     (rw code at (k .before .before .free-block .ensures))
     (sym (d .0))

@@ -3,7 +3,7 @@ use mathlib.Core.Path.{_≡_, sym, _∙_}
 use Prim.Native.Nat.{ℕ, _-_, _≤_, _<_}
 use native.Mathlib.Omega.{arith}
 use borrow.Author.Needs.{needs}
-use Rattle.sizes.specs.Sizes.{framesSearched}
+use Rattle.sizes.specs.Sizes.{framesSearched, timeslots}
 use Rattle.tdma_time.specs.Time.{firstOf, slotOf}
 use Rattle.uplink.specs.Functions.{blockHalves}
 use Rattle.uplink.proofs.FrameWalk.{At, first-at, fill, fill-none, fill-end, fill-18, fill-one, fill-from}
@@ -12,7 +12,8 @@ use Rattle.ul_reserve.proofs.ul_reserve_grant.Tie as tie
 
 abbrev Inv-loop : tie.InvT-loop
 Inv-loop t start num-slots ssi block marker row first out₀ left₀ dist₀ out left dist =
-    (dist ≤ framesSearched) × (first < 18) × (row < 4) × ((u : ℕ) → At u row first → fill (blockHalves block) ssi marker left u dist out ≡ fill (blockHalves block) ssi marker num-slots u start out₀)
+    (dist ≤ framesSearched) × (first < 18) × (row < timeslots) ×
+    ((u : ℕ) → At u row first → fill (blockHalves block) ssi marker left u dist out ≡ fill (blockHalves block) ssi marker num-slots u start out₀)
 
 abbrev μ-loop : tie.MeasureT-loop
 μ-loop t start num-slots ssi block marker row first out₀ left₀ dist₀ out left dist = framesSearched - dist
@@ -26,13 +27,24 @@ returns c =
     ∙ fill-from _ _ _ _ (a .now) (a .t) _ _
 
 loop-again : tie.Need-loop-again Inv-loop μ-loop
-loop-again c =
-    (omega arith, omega arith, omega arith, λ u a. sym (fill-18 _ _ _ _ u (c .before .before .before .loop .dist) _ _ _ a (omega arith) (c .if2 .taken)) ∙ c .before .before .before .loop .inv .3 u a)
+loop-again c = (
+  omega arith,
+  omega arith,
+  omega arith,
+  λ u a. sym (fill-18 _ _ _ _ u (c .before .before .before .loop .dist) _ _ _ a (omega arith) (c .if2 .taken))
+      ∙ c .before .before .before .loop .inv .3 u a,
+)
 
 loop-again-2 : tie.Need-loop-again-2 Inv-loop μ-loop
 loop-again-2 c =
-    let k = c .before .before in
-    (omega arith, omega arith, omega arith, λ u a. rw (c .taken .ensures) (sym (fill-one _ _ _ _ u (k .before .before .before .loop .dist) _ _ _ a (omega arith) (k .if2 .left) (k .before .if1 .left)) ∙ k .before .before .before .loop .inv .3 u a))
+    let k = c .before .before in (
+      omega arith,
+      omega arith,
+      omega arith,
+      λ u a. rw (c .taken .ensures)
+          (sym (fill-one _ _ _ _ u (k .before .before .before .loop .dist) _ _ _ a (omega arith) (k .if2 .left) (k .before .if1 .left))
+          ∙ k .before .before .before .loop .inv .3 u a),
+    )
 
 returns-2 : tie.Need-returns-2 Inv-loop μ-loop
 returns-2 c =

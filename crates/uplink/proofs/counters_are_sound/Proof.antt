@@ -5,21 +5,26 @@ use Prim.Native.Nat.{_≤_, _-_}
 use native.Mathlib.Omega.{arith}
 use borrow.Author.Needs.{needs}
 use lib.ListN.{length, drop}
+use Rattle.sizes.specs.Sizes.{timeslots}
 use Rattle.uplink.specs.UplinkEntry.{all, soundCounter}
 use Rattle.uplink.proofs.Everywhere.{all-turn, all-done}
 use Rattle.uplink.proofs.counters_are_sound.Statement.{statement}
 use Rattle.uplink.proofs.counters_are_sound.Tie as tie
 
 abbrev Inv-loop : tie.InvT-loop
-Inv-loop xs sound₀ i₀ sound i = (i ≤ 4) × (length xs ≡ 4) × (sound && all soundCounter (drop i xs) ≡ all soundCounter xs)
+Inv-loop xs sound₀ i₀ sound i = (i ≤ timeslots) × (length xs ≡ timeslots) × (sound && all soundCounter (drop i xs) ≡ all soundCounter xs)
 
 abbrev μ-loop : tie.MeasureT-loop
-μ-loop xs sound₀ i₀ sound i = 4 - i
+μ-loop xs sound₀ i₀ sound i = timeslots - i
 
 loop-again : tie.Need-loop-again Inv-loop μ-loop
 loop-again c =
-    let k = c .before .before in
-    (omega arith, k .loop .inv .1, rw (c .counter-is-sound .ensures) (sym (all-turn soundCounter (k .before .args .t1) (k .loop .k) _ (k .loop .in-range) (omega arith)) ∙ k .loop .inv .2))
+    let k = c .before .before in (
+      omega arith,
+      k .loop .inv .1,
+      rw (c .counter-is-sound .ensures)
+          (sym (all-turn soundCounter (k .before .args .t1) (k .loop .k) _ (k .loop .in-range) (omega arith)) ∙ k .loop .inv .2),
+    )
 
 returns : tie.Need-returns Inv-loop μ-loop
 returns c = sym (all-done soundCounter (c .before .before .args .t1) (c .before .loop .k) (c .before .loop .in-range) (omega arith)) ∙ c .before .loop .inv .2

@@ -116,7 +116,8 @@ module _ {M : Type 1} (𝓤 : URA M) (H : wp.Heap 𝓤) (A : Atoms 𝓤) (W : Gi
   walked : typed.Typed 𝓤 H A 𝓣 E start body outs (after bs)
   walked =
       typed.s-seq 𝓤 H A W 𝓣 E start read copies syntax.return outs (typed.both (copied bs)) (λ Ψ. typed.pass read end dropped (typed.atRet outs Ψ))
-      (t-way-copy-out 𝓤 H A W E 𝓣 table refl (cArr row (elem .cp) 4 .copy 𝓤 H A W) (λ ρ. Unit {0}) start (table-row.out 1 (start .locals)) (λ u. table-row.drop 1 (start .locals) u) [] 1 (λ t. syntax.field 1 ∷ t) tableTy tableTy 0
+      (t-way-copy-out 𝓤 H A W E 𝓣 table refl (cArr row (elem .cp) 4 .copy 𝓤 H A W) (λ ρ. Unit {0}) start (table-row.out 1 (start .locals))
+      (λ u. table-row.drop 1 (start .locals) u) [] 1 (λ t. syntax.field 1 ∷ t) tableTy tableTy 0
       result (λ x. x) field (λ u. (base, 0 + before))
       (λ T. record { locals = table-row.setRow 1 (1, held) T; slots = [] })
       (λ u T m. table-row.set 1 (1, held) (u .1 .0) T m)

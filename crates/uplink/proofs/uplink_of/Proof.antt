@@ -59,7 +59,8 @@ abbrev hs : List syntax.Home
 hs = syntax.valueLocal ∷ syntax.valueLocal ∷ syntax.valueLocal ∷ syntax.valueLocal ∷ []
 
 abbrev makes : syntax.Body
-makes = syntax.assign (syntax.place 0 []) (syntax.aggregate (syntax.copy (syntax.place 1 []) ∷ syntax.copy (syntax.place 2 []) ∷ syntax.copy (syntax.place 3 []) ∷ []))
+makes = syntax.assign (syntax.place 0 []) (syntax.aggregate (syntax.copy (syntax.place 1 []) ∷ syntax.copy (syntax.place 2 []) ∷ syntax.copy
+    (syntax.place 3 []) ∷ []))
 
 abbrev body : syntax.Body
 body = syntax.seq makes syntax.return

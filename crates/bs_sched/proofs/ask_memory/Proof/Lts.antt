@@ -2,9 +2,9 @@
 -- `bs_sched::ask_memory`: the derivation of its body.
 use Prim.Native.Nat
 use Rattle.bs_sched.proofs.Mirs as mirs
+use Rattle.bs_sched.proofs.Passage
+use Rattle.bs_sched.proofs.Passage.Laws as Laws''
 use Rattle.bs_sched.proofs.Rows_Record as in-Record
-use Rattle.bs_sched.proofs.Verdict
-use Rattle.bs_sched.proofs.Verdict.Laws as Laws''
 use Rattle.questions.proofs.Refusal
 use Rattle.questions.proofs.Refusal.Laws
 use Rattle.sched_core.proofs.Station
@@ -223,7 +223,7 @@ abbrev ε32 : Row.Entry
 ε32 = (46, Rows'.sc-here Row.sBool)
 
 abbrev ε33 : Row.Entry
-ε33 = (0, Rows'.any-gone mirs.Verdict)
+ε33 = (0, Rows'.any-gone mirs.Passage)
 
 abbrev ε34 : Row.Entry
 ε34 = (26, Rows'.any-gone Syntax.tyPtr)
@@ -346,7 +346,7 @@ abbrev ε73 : Row.Entry
 ε73 = (1, Rows'.any-gone mirs.sched_core-Station)
 
 abbrev ε74 : Row.Entry
-ε74 = (0, Rows'.whole (Declared.row Verdict.the-type))
+ε74 = (0, Rows'.whole (Declared.row Passage.the-type))
 
 abbrev ε75 : Row.Entry
 ε75 = (1, Rows'.whole (Declared'.row Station.the-type))
@@ -391,24 +391,24 @@ ps = (Value.pVal record {
 
 abbrev pub r : Kinds.RK 2
 r = Value.rVal record {
-  ty = Declared.row Verdict.the-type;
+  ty = Declared.row Passage.the-type;
   one = Path'.refl;
-  val = Laws'3.val Verdict.the-type Laws''.the-laws;
+  val = Laws'3.val Passage.the-type Laws''.the-laws;
   tells = Laws'3.tells
-      Verdict.the-type Laws''.the-laws;
-  still = Laws'3.still Verdict.the-type Laws''.the-copy Exit.yes;
+      Passage.the-type Laws''.the-laws;
+  still = Laws'3.still Passage.the-type Laws''.the-copy Exit.yes;
   row = Rows'.whole (Declared.row
-      Verdict.the-type);
+      Passage.the-type);
   rd = λ x. x;
   mk = λ x. x;
 } λ M 𝓤 H A W. record {
-  copies = Laws'3.copy Verdict.the-type Laws''.the-copy 𝓤 H A W;
+  copies = Laws'3.copy Passage.the-type Laws''.the-copy 𝓤 H A W;
   lawful =
-      Laws'3.lawful Verdict.the-type Laws''.the-laws 𝓤 H A W tt;
-  makes = Laws'3.makes Verdict.the-type Laws''.the-plain 𝓤 H A;
+      Laws'3.lawful Passage.the-type Laws''.the-laws 𝓤 H A W tt;
+  makes = Laws'3.makes Passage.the-type Laws''.the-plain 𝓤 H A;
   in-mem = Local.mem-whole
-      𝓤 H A W (Declared.row Verdict.the-type);
-  of-mem = Local.whole-mem 𝓤 H A W (Declared.row Verdict.the-type);
+      𝓤 H A W (Declared.row Passage.the-type);
+  of-mem = Local.whole-mem 𝓤 H A W (Declared.row Passage.the-type);
 }
 
 abbrev pub xs : List.List Syntax.Ty
@@ -1907,7 +1907,7 @@ module _ (claims· : Claims) where
   s6 = λ bs. Make.n-enum-make Refusal.the-type T8 20 λ m. Refusal.enum .make (Logic.inl tt)
 
   abbrev s7 : (bs : List.List Nat.ℕ) → Typed.Mo T9 → Typed.Mo T10
-  s7 = λ bs. Make.n-enum-make Verdict.the-type T9 0 λ m. Verdict.enum .make (Logic.inr (Logic.inl (
+  s7 = λ bs. Make.n-enum-make Passage.the-type T9 0 λ m. Passage.enum .make (Logic.inr (Logic.inl (
     m .1 .1 .1 .1 .1 .1 .1 .1 .1 .1 .1 .1 .1 .1 .1 .1
         .1 .1 .1 .1 .0,
     tt,
@@ -1941,7 +1941,7 @@ module _ (claims· : Claims) where
   s16 = λ bs. Make.n-enum-make Refusal.the-type T19 22 λ m. Refusal.enum .make (Logic.inr (Logic.inl tt))
 
   abbrev s17 : (bs : List.List Nat.ℕ) → Typed.Mo T20 → Typed.Mo T21
-  s17 = λ bs. Make.n-enum-make Verdict.the-type T20 0 λ m. Verdict.enum .make (Logic.inr (Logic.inl (
+  s17 = λ bs. Make.n-enum-make Passage.the-type T20 0 λ m. Passage.enum .make (Logic.inr (Logic.inl (
     m .1 .1 .1 .1 .1 .1 .1 .1 .1 .1 .1 .1 .1 .1 .1 .1
         .1 .1 .1 .1 .1 .1 .0,
     tt,
@@ -1975,7 +1975,7 @@ module _ (claims· : Claims) where
   s26 = λ bs. Make.n-enum-make Refusal.the-type T30 23 λ m. Refusal.enum .make (Logic.inr (Logic.inl tt))
 
   abbrev s27 : (bs : List.List Nat.ℕ) → Typed.Mo T31 → Typed.Mo T32
-  s27 = λ bs. Make.n-enum-make Verdict.the-type T31 0 λ m. Verdict.enum .make (Logic.inr (Logic.inl (
+  s27 = λ bs. Make.n-enum-make Passage.the-type T31 0 λ m. Passage.enum .make (Logic.inr (Logic.inl (
     m .1 .1 .1 .1 .1 .1 .1 .1 .1 .1 .1 .1 .1 .1 .1 .1
         .1 .1 .1 .1 .1 .1 .1 .0,
     tt,
@@ -2003,7 +2003,7 @@ module _ (claims· : Claims) where
   s34 = λ bs. Make.n-enum-make Refusal.the-type T39 24 λ m. Refusal.enum .make (Logic.inr (Logic.inl tt))
 
   abbrev s35 : (bs : List.List Nat.ℕ) → Typed.Mo T40 → Typed.Mo T41
-  s35 = λ bs. Make.n-enum-make Verdict.the-type T40 0 λ m. Verdict.enum .make (Logic.inr (Logic.inl (
+  s35 = λ bs. Make.n-enum-make Passage.the-type T40 0 λ m. Passage.enum .make (Logic.inr (Logic.inl (
     m .1 .1 .1 .1 .1 .1 .1 .1 .1 .1 .1 .1 .1 .1 .1 .1
         .1 .1 .1 .1 .1 .1 .1 .1 .0,
     tt,
@@ -2083,7 +2083,7 @@ module _ (claims· : Claims) where
   s57 = λ bs. Make.n-enum-make Refusal.the-type T65 29 λ m. Refusal.enum .make (Logic.inl tt)
 
   abbrev s58 : (bs : List.List Nat.ℕ) → Typed.Mo T66 → Typed.Mo T67
-  s58 = λ bs. Make.n-enum-make Verdict.the-type T66 0 λ m. Verdict.enum .make (Logic.inr (Logic.inl (
+  s58 = λ bs. Make.n-enum-make Passage.the-type T66 0 λ m. Passage.enum .make (Logic.inr (Logic.inl (
     m .1 .1 .1 .1 .1 .1 .1 .1 .1 .1 .1 .1 .1 .1 .1 .1
         .1 .1 .1 .1 .1 .1 .1 .1 .1 .1 .1 .1 .1 .0,
     tt,
@@ -2221,7 +2221,7 @@ module _ (claims· : Claims) where
   s94 = λ bs. Make.n-enum-make Refusal.the-type T105 38 λ m. Refusal.enum .make (Logic.inl tt)
 
   abbrev s95 : (bs : List.List Nat.ℕ) → Typed.Mo T106 → Typed.Mo T107
-  s95 = λ bs. Make.n-enum-make Verdict.the-type T106 0 λ m. Verdict.enum .make (Logic.inr (Logic.inl (
+  s95 = λ bs. Make.n-enum-make Passage.the-type T106 0 λ m. Passage.enum .make (Logic.inr (Logic.inl (
     m .1 .1 .1 .1 .1 .1 .1 .1 .1 .1 .1 .1 .1 .1 .1
         .1 .1 .1 .1 .1 .1 .1 .1 .1 .1 .1 .1 .1 .1 .1 .1 .1 .1 .1 .1 .1 .1 .1 .0,
     tt,
@@ -2387,7 +2387,7 @@ module _ (claims· : Claims) where
   s140 = λ bs. Make.n-enum-make Refusal.the-type T154 47 λ m. Refusal.enum .make (Logic.inl tt)
 
   abbrev s141 : (bs : List.List Nat.ℕ) → Typed.Mo T155 → Typed.Mo T156
-  s141 = λ bs. Make.n-enum-make Verdict.the-type T155 0 λ m. Verdict.enum .make (Logic.inr (Logic.inl (
+  s141 = λ bs. Make.n-enum-make Passage.the-type T155 0 λ m. Passage.enum .make (Logic.inr (Logic.inl (
     m .1 .1 .1 .1 .1 .1 .1 .1 .1 .1 .1 .1 .1 .1 .1
         .1 .1 .1 .1 .1 .1 .1 .1 .1 .1 .1 .1 .1 .1 .1 .1 .1 .1 .1 .1 .1 .1 .1 .1 .1 .1 .1 .1 .1 .1 .1 .1 .0,
     tt,
@@ -2438,7 +2438,7 @@ module _ (claims· : Claims) where
       (Row.sInt Syntax.w64 .of)
 
   abbrev s156 : (bs : List.List Nat.ℕ) → Typed.Mo T48 → Typed.Mo T171
-  s156 = λ bs. Make.n-enum-make Verdict.the-type T48 0 λ m. Verdict.enum .make (Logic.inl tt)
+  s156 = λ bs. Make.n-enum-make Passage.the-type T48 0 λ m. Passage.enum .make (Logic.inl tt)
 
   abbrev s157 : (bs : List.List Nat.ℕ) → Typed.Mo T171 → Typed.Mo T172
   s157 = λ bs. Scalar.n-room T171 4 Syntax.tyBool
@@ -3699,14 +3699,14 @@ module _ (claims· : Claims) where
               (Local.room-whole 𝓤 H A W (Declared.row Refusal.the-type) mirs.questions-Refusal Path'.refl)) d1
 
           d3 : Typed.Typed 𝓤 H A 𝓣 E G9 b5 Δ1 (at3 bs)
-          d3 = Typed.s-seq 𝓤 H A W 𝓣 E G9 G10 b3 b4 Δ1 (Typed.pass T9 T10 (s7 bs)) (at2 bs) (Make.t-enum-make-wt 𝓤 H A W E 𝓣 Verdict.the-type
+          d3 = Typed.s-seq 𝓤 H A W 𝓣 E G9 G10 b3 b4 Δ1 (Typed.pass T9 T10 (s7 bs)) (at2 bs) (Make.t-enum-make-wt 𝓤 H A W E 𝓣 Passage.the-type
               Laws''.the-laws Laws''.the-plain tt G9 0 ((Scalar.oInt Syntax.w8 1) ∷ (Scalar.oAt 20 mirs.questions-Refusal (Laws'3.val Refusal.the-type
-              Laws.the-laws)) ∷ []) (λ m. Verdict.enum .make (Logic.inr (Logic.inl (
+              Laws.the-laws)) ∷ []) (λ m. Passage.enum .make (Logic.inr (Logic.inl (
                 m .1 .1 .1 .1 .1 .1 .1 .1 .1 .1 .1 .1 .1 .1 .1 .1 .1 .1 .1 .1 .0,
                 tt,
-              )))) (Reads.room-gone 𝓤 H A mirs.Verdict) (tt, ((Whole.reads-enum 𝓤 H A W Refusal.the-type Laws.the-laws, Path'.refl), tt)) Path'.refl
-              (λ m wa. Make.made-val Verdict.the-type Laws''.the-laws ((Laws'3.val Refusal.the-type Laws.the-laws (m .1 .1 .1 .1 .1 .1 .1 .1 .1 .1 .1
-              .1 .1 .1 .1 .1 .1 .1 .1 .1 .0)) ∷ []) (Verdict.enum .make (Logic.inr (Logic.inl (
+              )))) (Reads.room-gone 𝓤 H A mirs.Passage) (tt, ((Whole.reads-enum 𝓤 H A W Refusal.the-type Laws.the-laws, Path'.refl), tt)) Path'.refl
+              (λ m wa. Make.made-val Passage.the-type Laws''.the-laws ((Laws'3.val Refusal.the-type Laws.the-laws (m .1 .1 .1 .1 .1 .1 .1 .1 .1 .1 .1
+              .1 .1 .1 .1 .1 .1 .1 .1 .1 .0)) ∷ []) (Passage.enum .make (Logic.inr (Logic.inl (
                 m .1 .1 .1 .1 .1 .1 .1 .1 .1 .1 .1 .1 .1 .1 .1 .1 .1 .1
                     .1 .1 .0,
                 tt,
@@ -3726,8 +3726,8 @@ module _ (claims· : Claims) where
                 )) (Refusal.the-type .to (m .1 .1 .1 .1 .1 .1 .1 .1 .1 .1 .1 .1 .1 .1 .1 .1 .1 .1
                     .1 .1 .0)),
                 tt,
-              ) (wa .1)) λ m wa. Make.made-is Verdict.the-type Laws''.the-laws ((Laws'3.val Refusal.the-type Laws.the-laws (m .1 .1 .1
-              .1 .1 .1 .1 .1 .1 .1 .1 .1 .1 .1 .1 .1 .1 .1 .1 .1 .0)) ∷ []) (Verdict.enum .make (Logic.inr (Logic.inl (
+              ) (wa .1)) λ m wa. Make.made-is Passage.the-type Laws''.the-laws ((Laws'3.val Refusal.the-type Laws.the-laws (m .1 .1 .1
+              .1 .1 .1 .1 .1 .1 .1 .1 .1 .1 .1 .1 .1 .1 .1 .1 .1 .0)) ∷ []) (Passage.enum .make (Logic.inr (Logic.inl (
                 m .1 .1 .1 .1 .1 .1 .1 .1 .1 .1
                     .1 .1 .1 .1 .1 .1 .1 .1 .1 .1 .0,
                 tt,
@@ -3778,13 +3778,13 @@ module _ (claims· : Claims) where
               (Local.room-whole 𝓤 H A W (Declared.row Refusal.the-type) mirs.questions-Refusal Path'.refl)) d12
 
           d14 : Typed.Typed 𝓤 H A 𝓣 E G20 b14 Δ2 (at14 bs)
-          d14 = Typed.s-seq 𝓤 H A W 𝓣 E G20 G21 b12 b13 Δ2 (Typed.pass T20 T21 (s17 bs)) (at13 bs) (Make.t-enum-make-wt 𝓤 H A W E 𝓣 Verdict.the-type
+          d14 = Typed.s-seq 𝓤 H A W 𝓣 E G20 G21 b12 b13 Δ2 (Typed.pass T20 T21 (s17 bs)) (at13 bs) (Make.t-enum-make-wt 𝓤 H A W E 𝓣 Passage.the-type
               Laws''.the-laws Laws''.the-plain tt G20 0 ((Scalar.oInt Syntax.w8 1) ∷ (Scalar.oAt 22 mirs.questions-Refusal (Laws'3.val
-              Refusal.the-type Laws.the-laws)) ∷ []) (λ m. Verdict.enum .make (Logic.inr (Logic.inl (
+              Refusal.the-type Laws.the-laws)) ∷ []) (λ m. Passage.enum .make (Logic.inr (Logic.inl (
                 m .1 .1 .1 .1 .1 .1 .1 .1 .1 .1 .1 .1 .1 .1 .1 .1
                     .1 .1 .1 .1 .1 .1 .0,
                 tt,
-              )))) (Reads.room-gone 𝓤 H A mirs.Verdict) (
+              )))) (Reads.room-gone 𝓤 H A mirs.Passage) (
                 tt,
                 (
                   (
@@ -3793,8 +3793,8 @@ module _ (claims· : Claims) where
                   ),
                   tt,
                 ),
-              ) Path'.refl (λ m wa. Make.made-val Verdict.the-type Laws''.the-laws ((Laws'3.val Refusal.the-type Laws.the-laws (m .1
-              .1 .1 .1 .1 .1 .1 .1 .1 .1 .1 .1 .1 .1 .1 .1 .1 .1 .1 .1 .1 .1 .0)) ∷ []) (Verdict.enum .make (Logic.inr (Logic.inl (
+              ) Path'.refl (λ m wa. Make.made-val Passage.the-type Laws''.the-laws ((Laws'3.val Refusal.the-type Laws.the-laws (m .1
+              .1 .1 .1 .1 .1 .1 .1 .1 .1 .1 .1 .1 .1 .1 .1 .1 .1 .1 .1 .1 .1 .0)) ∷ []) (Passage.enum .make (Logic.inr (Logic.inl (
                 m .1 .1 .1 .1 .1 .1
                     .1 .1 .1 .1 .1 .1 .1 .1 .1 .1 .1 .1 .1 .1 .1 .1 .0,
                 tt,
@@ -3803,9 +3803,9 @@ module _ (claims· : Claims) where
                     Refusal.the-type Laws.the-laws (tt, (tt, (tt, (tt, (tt, (tt, (tt, (tt, (tt, (tt, (tt, (tt, tt))))))))))))) (Refusal.the-type .to (m .1
                     .1 .1 .1 .1 .1 .1 .1 .1 .1 .1 .1 .1 .1 .1 .1 .1 .1 .1 .1 .1 .1 .0)),
                 tt,
-              ) (wa .1)) λ m wa. Make.made-is Verdict.the-type Laws''.the-laws
+              ) (wa .1)) λ m wa. Make.made-is Passage.the-type Laws''.the-laws
               ((Laws'3.val Refusal.the-type Laws.the-laws (m .1 .1 .1 .1 .1 .1 .1 .1 .1 .1 .1 .1 .1 .1 .1 .1 .1 .1 .1 .1 .1 .1 .0)) ∷ [])
-              (Verdict.enum .make (Logic.inr (Logic.inl (m .1 .1 .1 .1 .1 .1 .1 .1 .1 .1 .1 .1 .1 .1 .1 .1 .1 .1 .1 .1 .1 .1 .0, tt)))) (
+              (Passage.enum .make (Logic.inr (Logic.inl (m .1 .1 .1 .1 .1 .1 .1 .1 .1 .1 .1 .1 .1 .1 .1 .1 .1 .1 .1 .1 .1 .1 .0, tt)))) (
                 Signed.made-wt Refusal.the-field Laws.the-field-laws (Whole.enum-wt Refusal.the-type Laws.the-laws (
                   tt,
                   (
@@ -3873,13 +3873,13 @@ module _ (claims· : Claims) where
               (Local.room-whole 𝓤 H A W (Declared.row Refusal.the-type) mirs.questions-Refusal Path'.refl)) d23
 
           d25 : Typed.Typed 𝓤 H A 𝓣 E G31 b23 Δ3 (at25 bs)
-          d25 = Typed.s-seq 𝓤 H A W 𝓣 E G31 G32 b21 b22 Δ3 (Typed.pass T31 T32 (s27 bs)) (at24 bs) (Make.t-enum-make-wt 𝓤 H A W E 𝓣 Verdict.the-type
+          d25 = Typed.s-seq 𝓤 H A W 𝓣 E G31 G32 b21 b22 Δ3 (Typed.pass T31 T32 (s27 bs)) (at24 bs) (Make.t-enum-make-wt 𝓤 H A W E 𝓣 Passage.the-type
               Laws''.the-laws Laws''.the-plain tt G31 0 ((Scalar.oInt Syntax.w8 1) ∷ (Scalar.oAt 23 mirs.questions-Refusal (Laws'3.val
-              Refusal.the-type Laws.the-laws)) ∷ []) (λ m. Verdict.enum .make (Logic.inr (Logic.inl (
+              Refusal.the-type Laws.the-laws)) ∷ []) (λ m. Passage.enum .make (Logic.inr (Logic.inl (
                 m .1 .1 .1 .1 .1 .1 .1 .1 .1 .1 .1 .1 .1 .1 .1 .1
                     .1 .1 .1 .1 .1 .1 .1 .0,
                 tt,
-              )))) (Reads.room-gone 𝓤 H A mirs.Verdict) (
+              )))) (Reads.room-gone 𝓤 H A mirs.Passage) (
                 tt,
                 (
                   (
@@ -3888,8 +3888,8 @@ module _ (claims· : Claims) where
                   ),
                   tt,
                 ),
-              ) Path'.refl (λ m wa. Make.made-val Verdict.the-type Laws''.the-laws ((Laws'3.val Refusal.the-type Laws.the-laws (m .1
-              .1 .1 .1 .1 .1 .1 .1 .1 .1 .1 .1 .1 .1 .1 .1 .1 .1 .1 .1 .1 .1 .1 .0)) ∷ []) (Verdict.enum .make (Logic.inr (Logic.inl (
+              ) Path'.refl (λ m wa. Make.made-val Passage.the-type Laws''.the-laws ((Laws'3.val Refusal.the-type Laws.the-laws (m .1
+              .1 .1 .1 .1 .1 .1 .1 .1 .1 .1 .1 .1 .1 .1 .1 .1 .1 .1 .1 .1 .1 .1 .0)) ∷ []) (Passage.enum .make (Logic.inr (Logic.inl (
                 m .1 .1 .1 .1 .1
                     .1 .1 .1 .1 .1 .1 .1 .1 .1 .1 .1 .1 .1 .1 .1 .1 .1 .1 .0,
                 tt,
@@ -3898,9 +3898,9 @@ module _ (claims· : Claims) where
                     Refusal.the-type Laws.the-laws (tt, (tt, (tt, (tt, (tt, (tt, (tt, (tt, (tt, (tt, (tt, (tt, tt))))))))))))) (Refusal.the-type .to (m .1
                     .1 .1 .1 .1 .1 .1 .1 .1 .1 .1 .1 .1 .1 .1 .1 .1 .1 .1 .1 .1 .1 .1 .0)),
                 tt,
-              ) (wa .1)) λ m wa. Make.made-is Verdict.the-type
+              ) (wa .1)) λ m wa. Make.made-is Passage.the-type
               Laws''.the-laws ((Laws'3.val Refusal.the-type Laws.the-laws (m .1 .1 .1 .1 .1 .1 .1 .1 .1 .1 .1 .1 .1 .1 .1 .1 .1 .1 .1 .1 .1 .1 .1 .0))
-              ∷ []) (Verdict.enum .make (Logic.inr (Logic.inl (m .1 .1 .1 .1 .1 .1 .1 .1 .1 .1 .1 .1 .1 .1 .1 .1 .1 .1 .1 .1 .1 .1 .1 .0, tt)))) (
+              ∷ []) (Passage.enum .make (Logic.inr (Logic.inl (m .1 .1 .1 .1 .1 .1 .1 .1 .1 .1 .1 .1 .1 .1 .1 .1 .1 .1 .1 .1 .1 .1 .1 .0, tt)))) (
                 Signed.made-wt Refusal.the-field Laws.the-field-laws (Whole.enum-wt Refusal.the-type Laws.the-laws (
                   tt,
                   (
@@ -3968,13 +3968,13 @@ module _ (claims· : Claims) where
               (Local.room-whole 𝓤 H A W (Declared.row Refusal.the-type) mirs.questions-Refusal Path'.refl)) d34
 
           d36 : Typed.Typed 𝓤 H A 𝓣 E G40 b31 Δ4 (at36 bs)
-          d36 = Typed.s-seq 𝓤 H A W 𝓣 E G40 G41 b29 b30 Δ4 (Typed.pass T40 T41 (s35 bs)) (at35 bs) (Make.t-enum-make-wt 𝓤 H A W E 𝓣 Verdict.the-type
+          d36 = Typed.s-seq 𝓤 H A W 𝓣 E G40 G41 b29 b30 Δ4 (Typed.pass T40 T41 (s35 bs)) (at35 bs) (Make.t-enum-make-wt 𝓤 H A W E 𝓣 Passage.the-type
               Laws''.the-laws Laws''.the-plain tt G40 0 ((Scalar.oInt Syntax.w8 1) ∷ (Scalar.oAt 24 mirs.questions-Refusal (Laws'3.val
-              Refusal.the-type Laws.the-laws)) ∷ []) (λ m. Verdict.enum .make (Logic.inr (Logic.inl (
+              Refusal.the-type Laws.the-laws)) ∷ []) (λ m. Passage.enum .make (Logic.inr (Logic.inl (
                 m .1 .1 .1 .1 .1 .1 .1 .1 .1 .1 .1 .1 .1 .1 .1 .1
                     .1 .1 .1 .1 .1 .1 .1 .1 .0,
                 tt,
-              )))) (Reads.room-gone 𝓤 H A mirs.Verdict) (
+              )))) (Reads.room-gone 𝓤 H A mirs.Passage) (
                 tt,
                 (
                   (
@@ -3983,8 +3983,8 @@ module _ (claims· : Claims) where
                   ),
                   tt,
                 ),
-              ) Path'.refl (λ m wa. Make.made-val Verdict.the-type Laws''.the-laws ((Laws'3.val Refusal.the-type Laws.the-laws (m .1
-              .1 .1 .1 .1 .1 .1 .1 .1 .1 .1 .1 .1 .1 .1 .1 .1 .1 .1 .1 .1 .1 .1 .1 .0)) ∷ []) (Verdict.enum .make (Logic.inr (Logic.inl (
+              ) Path'.refl (λ m wa. Make.made-val Passage.the-type Laws''.the-laws ((Laws'3.val Refusal.the-type Laws.the-laws (m .1
+              .1 .1 .1 .1 .1 .1 .1 .1 .1 .1 .1 .1 .1 .1 .1 .1 .1 .1 .1 .1 .1 .1 .1 .0)) ∷ []) (Passage.enum .make (Logic.inr (Logic.inl (
                 m .1 .1 .1 .1
                     .1 .1 .1 .1 .1 .1 .1 .1 .1 .1 .1 .1 .1 .1 .1 .1 .1 .1 .1 .1 .0,
                 tt,
@@ -3994,8 +3994,8 @@ module _ (claims· : Claims) where
                     (Refusal.the-type .to (m .1 .1 .1 .1 .1 .1 .1 .1 .1 .1 .1 .1 .1 .1 .1 .1 .1 .1 .1 .1 .1 .1 .1 .1 .0)),
                 tt,
               ) (wa .1)) λ m wa.
-              Make.made-is Verdict.the-type Laws''.the-laws ((Laws'3.val Refusal.the-type Laws.the-laws (m .1 .1 .1 .1 .1 .1 .1 .1 .1 .1 .1 .1 .1 .1
-              .1 .1 .1 .1 .1 .1 .1 .1 .1 .1 .0)) ∷ []) (Verdict.enum .make (Logic.inr (Logic.inl (
+              Make.made-is Passage.the-type Laws''.the-laws ((Laws'3.val Refusal.the-type Laws.the-laws (m .1 .1 .1 .1 .1 .1 .1 .1 .1 .1 .1 .1 .1 .1
+              .1 .1 .1 .1 .1 .1 .1 .1 .1 .1 .0)) ∷ []) (Passage.enum .make (Logic.inr (Logic.inl (
                 m .1 .1 .1 .1 .1 .1 .1 .1 .1 .1 .1 .1 .1 .1 .1 .1 .1
                     .1 .1 .1 .1 .1 .1 .1 .0,
                 tt,
@@ -4076,13 +4076,13 @@ module _ (claims· : Claims) where
               (Local.room-whole 𝓤 H A W (Declared.row Refusal.the-type) mirs.questions-Refusal Path'.refl)) d53
 
           d55 : Typed.Typed 𝓤 H A 𝓣 E G66 b49 Δ9 (at55 bs)
-          d55 = Typed.s-seq 𝓤 H A W 𝓣 E G66 G67 b47 b48 Δ9 (Typed.pass T66 T67 (s58 bs)) (at54 bs) (Make.t-enum-make-wt 𝓤 H A W E 𝓣 Verdict.the-type
+          d55 = Typed.s-seq 𝓤 H A W 𝓣 E G66 G67 b47 b48 Δ9 (Typed.pass T66 T67 (s58 bs)) (at54 bs) (Make.t-enum-make-wt 𝓤 H A W E 𝓣 Passage.the-type
               Laws''.the-laws Laws''.the-plain tt G66 0 ((Scalar.oInt Syntax.w8 1) ∷ (Scalar.oAt 29 mirs.questions-Refusal (Laws'3.val
-              Refusal.the-type Laws.the-laws)) ∷ []) (λ m. Verdict.enum .make (Logic.inr (Logic.inl (
+              Refusal.the-type Laws.the-laws)) ∷ []) (λ m. Passage.enum .make (Logic.inr (Logic.inl (
                 m .1 .1 .1 .1 .1 .1 .1 .1 .1 .1 .1 .1 .1 .1 .1 .1
                     .1 .1 .1 .1 .1 .1 .1 .1 .1 .1 .1 .1 .1 .0,
                 tt,
-              )))) (Reads.room-gone 𝓤 H A mirs.Verdict) (
+              )))) (Reads.room-gone 𝓤 H A mirs.Passage) (
                 tt,
                 (
                   (
@@ -4092,8 +4092,8 @@ module _ (claims· : Claims) where
                   ),
                   tt,
                 ),
-              ) Path'.refl (λ m wa. Make.made-val Verdict.the-type Laws''.the-laws ((Laws'3.val Refusal.the-type
-              Laws.the-laws (m .1 .1 .1 .1 .1 .1 .1 .1 .1 .1 .1 .1 .1 .1 .1 .1 .1 .1 .1 .1 .1 .1 .1 .1 .1 .1 .1 .1 .1 .0)) ∷ []) (Verdict.enum .make
+              ) Path'.refl (λ m wa. Make.made-val Passage.the-type Laws''.the-laws ((Laws'3.val Refusal.the-type
+              Laws.the-laws (m .1 .1 .1 .1 .1 .1 .1 .1 .1 .1 .1 .1 .1 .1 .1 .1 .1 .1 .1 .1 .1 .1 .1 .1 .1 .1 .1 .1 .1 .0)) ∷ []) (Passage.enum .make
               (Logic.inr (Logic.inl (m .1 .1 .1 .1 .1 .1 .1 .1 .1 .1 .1 .1 .1 .1 .1 .1 .1 .1 .1 .1 .1 .1 .1 .1 .1 .1 .1 .1 .1 .0, tt)))) (
                 Signed.made-wt Refusal.the-field Laws.the-field-laws (Whole.enum-wt Refusal.the-type Laws.the-laws (
                   tt,
@@ -4119,8 +4119,8 @@ module _ (claims· : Claims) where
                 )) (Refusal.the-type .to (m .1 .1 .1 .1 .1 .1 .1 .1 .1 .1 .1 .1 .1 .1 .1 .1 .1 .1 .1 .1 .1 .1 .1
                     .1 .1 .1 .1 .1 .1 .0)),
                 tt,
-              ) (wa .1)) λ m wa. Make.made-is Verdict.the-type Laws''.the-laws ((Laws'3.val Refusal.the-type Laws.the-laws
-              (m .1 .1 .1 .1 .1 .1 .1 .1 .1 .1 .1 .1 .1 .1 .1 .1 .1 .1 .1 .1 .1 .1 .1 .1 .1 .1 .1 .1 .1 .0)) ∷ []) (Verdict.enum .make (Logic.inr
+              ) (wa .1)) λ m wa. Make.made-is Passage.the-type Laws''.the-laws ((Laws'3.val Refusal.the-type Laws.the-laws
+              (m .1 .1 .1 .1 .1 .1 .1 .1 .1 .1 .1 .1 .1 .1 .1 .1 .1 .1 .1 .1 .1 .1 .1 .1 .1 .1 .1 .1 .1 .0)) ∷ []) (Passage.enum .make (Logic.inr
               (Logic.inl (m .1 .1 .1 .1 .1 .1 .1 .1 .1 .1 .1 .1 .1 .1 .1 .1 .1 .1 .1 .1 .1 .1 .1 .1 .1 .1 .1 .1 .1 .0, tt)))) (
                 Signed.made-wt
                     Refusal.the-field Laws.the-field-laws (Whole.enum-wt Refusal.the-type Laws.the-laws (
@@ -4240,17 +4240,17 @@ module _ (claims· : Claims) where
 
           d77 : Typed.Typed 𝓤 H A 𝓣 E G106 b75 Δ14 (at77 bs)
           d77 = Typed.s-seq 𝓤 H A W 𝓣 E G106 G107 b73 b74 Δ14 (Typed.pass T106 T107 (s95 bs)) (at76 bs) (Make.t-enum-make-wt 𝓤 H A W E 𝓣
-              Verdict.the-type Laws''.the-laws Laws''.the-plain tt G106 0 ((Scalar.oInt Syntax.w8 1) ∷ (Scalar.oAt 38 mirs.questions-Refusal
-              (Laws'3.val Refusal.the-type Laws.the-laws)) ∷ []) (λ m. Verdict.enum .make (Logic.inr (Logic.inl (
+              Passage.the-type Laws''.the-laws Laws''.the-plain tt G106 0 ((Scalar.oInt Syntax.w8 1) ∷ (Scalar.oAt 38 mirs.questions-Refusal
+              (Laws'3.val Refusal.the-type Laws.the-laws)) ∷ []) (λ m. Passage.enum .make (Logic.inr (Logic.inl (
                 m .1 .1 .1 .1 .1 .1 .1 .1 .1 .1 .1 .1
                     .1 .1 .1 .1 .1 .1 .1 .1 .1 .1 .1 .1 .1 .1 .1 .1 .1 .1 .1 .1 .1 .1 .1 .1 .1 .1 .0,
                 tt,
-              )))) (Reads.room-gone 𝓤 H A mirs.Verdict) (
+              )))) (Reads.room-gone 𝓤 H A mirs.Passage) (
                 tt,
                 ((Whole.reads-enum 𝓤 H A W Refusal.the-type Laws.the-laws, Path'.refl), tt),
-              ) Path'.refl (λ m wa. Make.made-val Verdict.the-type
+              ) Path'.refl (λ m wa. Make.made-val Passage.the-type
               Laws''.the-laws ((Laws'3.val Refusal.the-type Laws.the-laws (m .1 .1 .1 .1 .1 .1 .1 .1 .1 .1 .1 .1 .1 .1 .1 .1 .1 .1 .1 .1 .1 .1 .1 .1
-              .1 .1 .1 .1 .1 .1 .1 .1 .1 .1 .1 .1 .1 .1 .0)) ∷ []) (Verdict.enum .make (Logic.inr (Logic.inl (
+              .1 .1 .1 .1 .1 .1 .1 .1 .1 .1 .1 .1 .1 .1 .0)) ∷ []) (Passage.enum .make (Logic.inr (Logic.inl (
                 m .1 .1 .1 .1 .1 .1 .1 .1 .1 .1 .1 .1 .1
                     .1 .1 .1 .1 .1 .1 .1 .1 .1 .1 .1 .1 .1 .1 .1 .1 .1 .1 .1 .1 .1 .1 .1 .1 .1 .0,
                 tt,
@@ -4295,9 +4295,9 @@ module _ (claims· : Claims) where
                     )) (Refusal.the-type .to (m .1 .1 .1 .1 .1 .1 .1 .1 .1 .1 .1 .1 .1 .1 .1 .1 .1 .1 .1 .1 .1 .1 .1 .1 .1 .1 .1 .1 .1 .1 .1 .1
                     .1 .1 .1 .1 .1 .1 .0)),
                 tt,
-              ) (wa .1)) λ m wa. Make.made-is Verdict.the-type Laws''.the-laws ((Laws'3.val Refusal.the-type Laws.the-laws
+              ) (wa .1)) λ m wa. Make.made-is Passage.the-type Laws''.the-laws ((Laws'3.val Refusal.the-type Laws.the-laws
               (m .1 .1 .1 .1 .1 .1 .1 .1 .1 .1 .1 .1 .1 .1 .1 .1 .1 .1 .1 .1 .1 .1 .1 .1 .1 .1 .1 .1 .1 .1 .1 .1 .1 .1 .1 .1 .1 .1 .0)) ∷ [])
-              (Verdict.enum .make (Logic.inr (Logic.inl (
+              (Passage.enum .make (Logic.inr (Logic.inl (
                 m .1 .1 .1 .1 .1 .1 .1 .1 .1 .1 .1 .1 .1 .1 .1 .1 .1 .1 .1 .1 .1 .1 .1 .1 .1 .1 .1 .1 .1 .1
                     .1 .1 .1 .1 .1 .1 .1 .1 .0,
                 tt,
@@ -4602,15 +4602,15 @@ module _ (claims· : Claims) where
 
           d132 : Typed.Typed 𝓤 H A 𝓣 E G155 b121 Δ19 (at132 bs)
           d132 = Typed.s-seq 𝓤 H A W 𝓣 E G155 G156 b119 b120 Δ19 (Typed.pass T155 T156 (s141 bs)) (at131 bs) (Make.t-enum-make-wt 𝓤 H A W E 𝓣
-              Verdict.the-type Laws''.the-laws Laws''.the-plain tt G155 0 ((Scalar.oInt Syntax.w8 1) ∷ (Scalar.oAt 47 mirs.questions-Refusal
-              (Laws'3.val Refusal.the-type Laws.the-laws)) ∷ []) (λ m. Verdict.enum .make (Logic.inr (Logic.inl (
+              Passage.the-type Laws''.the-laws Laws''.the-plain tt G155 0 ((Scalar.oInt Syntax.w8 1) ∷ (Scalar.oAt 47 mirs.questions-Refusal
+              (Laws'3.val Refusal.the-type Laws.the-laws)) ∷ []) (λ m. Passage.enum .make (Logic.inr (Logic.inl (
                 m .1 .1 .1 .1 .1 .1 .1 .1 .1 .1 .1 .1
                     .1 .1 .1 .1 .1 .1 .1 .1 .1 .1 .1 .1 .1 .1 .1 .1 .1 .1 .1 .1 .1 .1 .1 .1 .1 .1 .1 .1 .1 .1 .1 .1 .1 .1 .1 .0,
                 tt,
               )))) (Reads.room-gone 𝓤 H
-              A mirs.Verdict) (tt, ((Whole.reads-enum 𝓤 H A W Refusal.the-type Laws.the-laws, Path'.refl), tt)) Path'.refl (λ m wa. Make.made-val
-              Verdict.the-type Laws''.the-laws ((Laws'3.val Refusal.the-type Laws.the-laws (m .1 .1 .1 .1 .1 .1 .1 .1 .1 .1 .1 .1 .1 .1 .1 .1 .1 .1 .1
-              .1 .1 .1 .1 .1 .1 .1 .1 .1 .1 .1 .1 .1 .1 .1 .1 .1 .1 .1 .1 .1 .1 .1 .1 .1 .1 .1 .1 .0)) ∷ []) (Verdict.enum .make (Logic.inr (Logic.inl (
+              A mirs.Passage) (tt, ((Whole.reads-enum 𝓤 H A W Refusal.the-type Laws.the-laws, Path'.refl), tt)) Path'.refl (λ m wa. Make.made-val
+              Passage.the-type Laws''.the-laws ((Laws'3.val Refusal.the-type Laws.the-laws (m .1 .1 .1 .1 .1 .1 .1 .1 .1 .1 .1 .1 .1 .1 .1 .1 .1 .1 .1
+              .1 .1 .1 .1 .1 .1 .1 .1 .1 .1 .1 .1 .1 .1 .1 .1 .1 .1 .1 .1 .1 .1 .1 .1 .1 .1 .1 .1 .0)) ∷ []) (Passage.enum .make (Logic.inr (Logic.inl (
                 m .1 .1 .1 .1 .1 .1 .1 .1 .1 .1 .1 .1 .1 .1 .1 .1 .1 .1 .1 .1 .1 .1 .1 .1 .1 .1 .1 .1 .1 .1 .1 .1 .1 .1 .1 .1 .1 .1 .1 .1 .1 .1 .1 .1
                     .1 .1 .1 .0,
                 tt,
@@ -4628,8 +4628,8 @@ module _ (claims· : Claims) where
                     .1 .1 .1 .1 .1 .1 .1 .1 .1 .1 .1 .1 .1 .1 .1 .1 .1 .1 .1 .1 .1 .1 .1 .1 .1 .1 .1 .1 .1 .1 .0)),
                 tt,
               ) (wa .1)) λ m wa. Make.made-is
-              Verdict.the-type Laws''.the-laws ((Laws'3.val Refusal.the-type Laws.the-laws (m .1 .1 .1 .1 .1 .1 .1 .1 .1 .1 .1 .1 .1 .1 .1 .1 .1 .1 .1
-              .1 .1 .1 .1 .1 .1 .1 .1 .1 .1 .1 .1 .1 .1 .1 .1 .1 .1 .1 .1 .1 .1 .1 .1 .1 .1 .1 .1 .0)) ∷ []) (Verdict.enum .make (Logic.inr (Logic.inl (
+              Passage.the-type Laws''.the-laws ((Laws'3.val Refusal.the-type Laws.the-laws (m .1 .1 .1 .1 .1 .1 .1 .1 .1 .1 .1 .1 .1 .1 .1 .1 .1 .1 .1
+              .1 .1 .1 .1 .1 .1 .1 .1 .1 .1 .1 .1 .1 .1 .1 .1 .1 .1 .1 .1 .1 .1 .1 .1 .1 .1 .1 .1 .0)) ∷ []) (Passage.enum .make (Logic.inr (Logic.inl (
                 m .1 .1 .1 .1 .1 .1 .1 .1 .1 .1 .1 .1 .1 .1 .1 .1 .1 .1 .1 .1 .1 .1 .1 .1 .1 .1 .1 .1 .1 .1 .1 .1 .1 .1 .1 .1 .1 .1 .1 .1 .1 .1 .1 .1
                     .1 .1 .1 .0,
                 tt,
@@ -4970,9 +4970,9 @@ module _ (claims· : Claims) where
 
           d191 : Typed.Typed 𝓤 H A 𝓣 E G48 b162 Δ0 (at191 bs)
           d191 = Typed.s-seq 𝓤 H A W 𝓣 E G48 G171 b160 b161 Δ0 (Typed.pass T48 T171 (s156 bs)) (at190 bs) (Make.t-enum-make-wt 𝓤 H A W E 𝓣
-              Verdict.the-type Laws''.the-laws Laws''.the-plain tt G48 0 ((Scalar.oInt Syntax.w8 0) ∷ []) (λ m. Verdict.enum .make (Logic.inl tt))
-              (Reads.room-gone 𝓤 H A mirs.Verdict) (tt, tt) Path'.refl (λ m wa. Make.made-val Verdict.the-type Laws''.the-laws [] (Verdict.enum .make
-              (Logic.inl tt)) tt (wa .1)) λ m wa. Make.made-is Verdict.the-type Laws''.the-laws [] (Verdict.enum .make (Logic.inl tt)) tt (wa .1))
+              Passage.the-type Laws''.the-laws Laws''.the-plain tt G48 0 ((Scalar.oInt Syntax.w8 0) ∷ []) (λ m. Passage.enum .make (Logic.inl tt))
+              (Reads.room-gone 𝓤 H A mirs.Passage) (tt, tt) Path'.refl (λ m wa. Make.made-val Passage.the-type Laws''.the-laws [] (Passage.enum .make
+              (Logic.inl tt)) tt (wa .1)) λ m wa. Make.made-is Passage.the-type Laws''.the-laws [] (Passage.enum .make (Logic.inl tt)) tt (wa .1))
               d190
 
           d192 : Typed.Typed 𝓤 H A 𝓣 E G47 b163 Δ0 (at192 bs)

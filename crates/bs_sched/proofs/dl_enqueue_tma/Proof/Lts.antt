@@ -2,25 +2,25 @@
 -- `bs_sched::dl_enqueue_tma`: the derivation of its body.
 use Prim.Native.Nat
 use Rattle.bs_sched.proofs.Mirs as mirs
+use Rattle.bs_sched.proofs.Passage
+use Rattle.bs_sched.proofs.Passage.Laws as Laws'8
 use Rattle.bs_sched.proofs.Rows_Record as in-Record
-use Rattle.bs_sched.proofs.Verdict
-use Rattle.bs_sched.proofs.Verdict.Laws as Laws'8
 use Rattle.dl_record.proofs.QueuedHeader
 use Rattle.dl_record.proofs.QueuedHeader.Laws
 use Rattle.dl_record.proofs.Record
 use Rattle.dl_record.proofs.Record.Laws as Laws'
-use Rattle.enqueue_core.proofs.QueuePlan
-use Rattle.enqueue_core.proofs.QueuePlan.Laws as Laws''
 use Rattle.optional.proofs.OptU16
-use Rattle.optional.proofs.OptU16.Laws as Laws'3
+use Rattle.optional.proofs.OptU16.Laws as Laws''
 use Rattle.questions.proofs.Refusal
-use Rattle.questions.proofs.Refusal.Laws as Laws'4
+use Rattle.questions.proofs.Refusal.Laws as Laws'3
 use Rattle.sched_core.proofs.Answer
-use Rattle.sched_core.proofs.Answer.Laws as Laws'5
+use Rattle.sched_core.proofs.Answer.Laws as Laws'4
 use Rattle.sched_core.proofs.Reply
-use Rattle.sched_core.proofs.Reply.Laws as Laws'6
+use Rattle.sched_core.proofs.Reply.Laws as Laws'5
 use Rattle.sched_core.proofs.Station
-use Rattle.sched_core.proofs.Station.Laws as Laws'7
+use Rattle.sched_core.proofs.Station.Laws as Laws'6
+use Rattle.sched_enqueue.proofs.QueuePlan
+use Rattle.sched_enqueue.proofs.QueuePlan.Laws as Laws'7
 use borrow.Author.Called
 use borrow.Enum.Known
 use borrow.Enum.Make
@@ -151,7 +151,7 @@ abbrev ρ3 : Row.Row
 ρ3 = Rows.whole (Declared'.row Record.the-type)
 
 abbrev ρ4 : Row.Row
-ρ4 = Rows.whole (Declared.row Verdict.the-type)
+ρ4 = Rows.whole (Declared.row Passage.the-type)
 
 abbrev ρ5 : Row.Row
 ρ5 = Rows.whole (Declared'.row Station.the-type)
@@ -202,7 +202,7 @@ abbrev ε12 : Row.Entry
 ε12 = (27, Rows.any-gone τ10)
 
 abbrev ε13 : Row.Entry
-ε13 = (11, Rows.any-gone mirs.Verdict)
+ε13 = (11, Rows.any-gone mirs.Passage)
 
 abbrev ε14 : Row.Entry
 ε14 = (25, Rows.any-gone Syntax.tyUnit)
@@ -256,7 +256,7 @@ abbrev ε30 : Row.Entry
 ε30 = (17, Rows.any-gone mirs.sched_core-Station)
 
 abbrev ε31 : Row.Entry
-ε31 = (11, Rows.whole (Known.Known Verdict.enum 1))
+ε31 = (11, Rows.whole (Known.Known Passage.enum 1))
 
 abbrev ε32 : Row.Entry
 ε32 = (7, Rows.whole (Declared.row OptU16.the-type))
@@ -268,13 +268,13 @@ abbrev ε34 : Row.Entry
 ε34 = (16, Rows.whole (Declared.row Reply.the-type))
 
 abbrev ε35 : Row.Entry
-ε35 = (13, Rows.any-gone mirs.enqueue_core-QueuePlan)
+ε35 = (1, Rows.whole (Declared'.row Station.the-type))
 
 abbrev ε36 : Row.Entry
-ε36 = (1, Rows.whole (Declared'.row Station.the-type))
+ε36 = (13, Rows.any-gone mirs.sched_enqueue-QueuePlan)
 
 abbrev ε37 : Row.Entry
-ε37 = (11, Rows.whole (Declared.row Verdict.the-type))
+ε37 = (11, Rows.whole (Declared.row Passage.the-type))
 
 abbrev ε38 : Row.Entry
 ε38 = (12, Rows.whole (Declared.row Refusal.the-type))
@@ -319,19 +319,19 @@ abbrev pub ps : List.List (Kinds.PK 3)
 ps = (Value.pVal record {
   ty = Declared'.row Station.the-type;
   one = Path'.refl;
-  val = Laws'11.val Station.the-type Laws'7.the-laws;
+  val = Laws'11.val Station.the-type Laws'6.the-laws;
   tells =
-      Laws'11.tells Station.the-type Laws'7.the-laws;
-  still = Laws'11.still Station.the-type Laws'7.the-copy Exit.yes;
+      Laws'11.tells Station.the-type Laws'6.the-laws;
+  still = Laws'11.still Station.the-type Laws'6.the-copy Exit.yes;
   row = Rows.whole (Declared'.row
       Station.the-type);
   rd = λ x. x;
   mk = λ x. x;
 } λ M 𝓤 H A W. record {
-  copies = Laws'11.copy Station.the-type Laws'7.the-copy 𝓤 H A W;
+  copies = Laws'11.copy Station.the-type Laws'6.the-copy 𝓤 H A W;
   lawful =
-      Laws'11.lawful Station.the-type Laws'7.the-laws 𝓤 H A W;
-  makes = Laws'11.makes Station.the-type Laws'7.the-plain 𝓤 H A;
+      Laws'11.lawful Station.the-type Laws'6.the-laws 𝓤 H A W;
+  makes = Laws'11.makes Station.the-type Laws'6.the-plain 𝓤 H A;
   in-mem = Local.mem-whole 𝓤
       H A W (Declared'.row Station.the-type);
   of-mem = Local.whole-mem 𝓤 H A W (Declared'.row Station.the-type);
@@ -340,18 +340,18 @@ ps = (Value.pVal record {
     (Value.pVal record {
       ty = Declared.row OptU16.the-type;
       one = Path'.refl;
-      val = Laws'9.val OptU16.the-type Laws'3.the-laws;
+      val = Laws'9.val OptU16.the-type Laws''.the-laws;
       tells = Laws'9.tells
-          OptU16.the-type Laws'3.the-laws;
-      still = Laws'9.still OptU16.the-type Laws'3.the-copy Exit.yes;
+          OptU16.the-type Laws''.the-laws;
+      still = Laws'9.still OptU16.the-type Laws''.the-copy Exit.yes;
       row = Rows.whole (Declared.row OptU16.the-type);
       rd = λ x. x;
       mk = λ x. x;
     } λ M 𝓤 H A W. record {
-      copies = Laws'9.copy OptU16.the-type Laws'3.the-copy 𝓤 H A W;
+      copies = Laws'9.copy OptU16.the-type Laws''.the-copy 𝓤 H A W;
       lawful = Laws'9.lawful
-          OptU16.the-type Laws'3.the-laws 𝓤 H A W tt;
-      makes = Laws'9.makes OptU16.the-type Laws'3.the-plain 𝓤 H A;
+          OptU16.the-type Laws''.the-laws 𝓤 H A W tt;
+      makes = Laws'9.makes OptU16.the-type Laws''.the-plain 𝓤 H A;
       in-mem = Local.mem-whole 𝓤 H A W
           (Declared.row OptU16.the-type);
       of-mem = Local.whole-mem 𝓤 H A W (Declared.row OptU16.the-type);
@@ -382,25 +382,25 @@ abbrev pub r : Kinds.RK 3
 r = Value.rVal record {
   ty = Declared'.row Answer.the-type;
   one = Path'.refl;
-  val = Laws'11.val Answer.the-type Laws'5.the-laws;
+  val = Laws'11.val Answer.the-type Laws'4.the-laws;
   tells = Laws'11.tells
-      Answer.the-type Laws'5.the-laws;
-  still = Laws'11.still Answer.the-type Laws'5.the-copy Exit.yes;
+      Answer.the-type Laws'4.the-laws;
+  still = Laws'11.still Answer.the-type Laws'4.the-copy Exit.yes;
   row = Rows.whole (Declared'.row Answer.the-type);
   rd = λ x. x;
   mk = λ x. x;
 } λ M 𝓤 H A W. record {
-  copies = Laws'11.copy Answer.the-type Laws'5.the-copy 𝓤 H A W;
+  copies = Laws'11.copy Answer.the-type Laws'4.the-copy 𝓤 H A W;
   lawful = Laws'11.lawful
-      Answer.the-type Laws'5.the-laws 𝓤 H A W;
-  makes = Laws'11.makes Answer.the-type Laws'5.the-plain 𝓤 H A;
+      Answer.the-type Laws'4.the-laws 𝓤 H A W;
+  makes = Laws'11.makes Answer.the-type Laws'4.the-plain 𝓤 H A;
   in-mem = Local.mem-whole 𝓤 H A W
       (Declared'.row Answer.the-type);
   of-mem = Local.whole-mem 𝓤 H A W (Declared'.row Answer.the-type);
 }
 
 abbrev pub xs : List.List Syntax.Ty
-xs = mirs.Verdict ∷ mirs.questions-Refusal ∷ mirs.enqueue_core-QueuePlan ∷ τ1 ∷ mirs.dl_record-Record ∷ mirs.sched_core-Reply ∷
+xs = mirs.Passage ∷ mirs.questions-Refusal ∷ mirs.sched_enqueue-QueuePlan ∷ τ1 ∷ mirs.dl_record-Record ∷ mirs.sched_core-Reply ∷
     mirs.sched_core-Station ∷ τ4 ∷ τ9 ∷ τ7 ∷ τ13 ∷ mirs.sched_core-Reply ∷ τ8 ∷ τ14 ∷ Syntax.tyUnit ∷ τ5 ∷ τ10 ∷ []
 
 abbrev pub m : Nat.ℕ
@@ -410,19 +410,19 @@ abbrev pub ps·0 : List.List (Kinds.PK 2)
 ps·0 = (Value.pVal record {
   ty = Declared'.row Station.the-type;
   one = Path'.refl;
-  val = Laws'11.val Station.the-type Laws'7.the-laws;
+  val = Laws'11.val Station.the-type Laws'6.the-laws;
   tells =
-      Laws'11.tells Station.the-type Laws'7.the-laws;
-  still = Laws'11.still Station.the-type Laws'7.the-copy Exit.yes;
+      Laws'11.tells Station.the-type Laws'6.the-laws;
+  still = Laws'11.still Station.the-type Laws'6.the-copy Exit.yes;
   row = Rows.whole (Declared'.row
       Station.the-type);
   rd = λ x. x;
   mk = λ x. x;
 } λ M 𝓤 H A W. record {
-  copies = Laws'11.copy Station.the-type Laws'7.the-copy 𝓤 H A W;
+  copies = Laws'11.copy Station.the-type Laws'6.the-copy 𝓤 H A W;
   lawful =
-      Laws'11.lawful Station.the-type Laws'7.the-laws 𝓤 H A W;
-  makes = Laws'11.makes Station.the-type Laws'7.the-plain 𝓤 H A;
+      Laws'11.lawful Station.the-type Laws'6.the-laws 𝓤 H A W;
+  makes = Laws'11.makes Station.the-type Laws'6.the-plain 𝓤 H A;
   in-mem = Local.mem-whole 𝓤
       H A W (Declared'.row Station.the-type);
   of-mem = Local.whole-mem 𝓤 H A W (Declared'.row Station.the-type);
@@ -431,43 +431,43 @@ ps·0 = (Value.pVal record {
 
 abbrev pub r·0 : Kinds.RK 2
 r·0 = Value.rVal record {
-  ty = Declared.row Verdict.the-type;
+  ty = Declared.row Passage.the-type;
   one = Path'.refl;
-  val = Laws'9.val Verdict.the-type Laws'8.the-laws;
+  val = Laws'9.val Passage.the-type Laws'8.the-laws;
   tells =
-      Laws'9.tells Verdict.the-type Laws'8.the-laws;
-  still = Laws'9.still Verdict.the-type Laws'8.the-copy Exit.yes;
+      Laws'9.tells Passage.the-type Laws'8.the-laws;
+  still = Laws'9.still Passage.the-type Laws'8.the-copy Exit.yes;
   row = Rows.whole (Declared.row
-      Verdict.the-type);
+      Passage.the-type);
   rd = λ x. x;
   mk = λ x. x;
 } λ M 𝓤 H A W. record {
-  copies = Laws'9.copy Verdict.the-type Laws'8.the-copy 𝓤 H A W;
+  copies = Laws'9.copy Passage.the-type Laws'8.the-copy 𝓤 H A W;
   lawful =
-      Laws'9.lawful Verdict.the-type Laws'8.the-laws 𝓤 H A W tt;
-  makes = Laws'9.makes Verdict.the-type Laws'8.the-plain 𝓤 H A;
+      Laws'9.lawful Passage.the-type Laws'8.the-laws 𝓤 H A W tt;
+  makes = Laws'9.makes Passage.the-type Laws'8.the-plain 𝓤 H A;
   in-mem = Local.mem-whole
-      𝓤 H A W (Declared.row Verdict.the-type);
-  of-mem = Local.whole-mem 𝓤 H A W (Declared.row Verdict.the-type);
+      𝓤 H A W (Declared.row Passage.the-type);
+  of-mem = Local.whole-mem 𝓤 H A W (Declared.row Passage.the-type);
 }
 
 abbrev pub ps·1 : List.List (Kinds.PK 2)
 ps·1 = (Value.pVal record {
   ty = Declared'.row Station.the-type;
   one = Path'.refl;
-  val = Laws'11.val Station.the-type Laws'7.the-laws;
+  val = Laws'11.val Station.the-type Laws'6.the-laws;
   tells =
-      Laws'11.tells Station.the-type Laws'7.the-laws;
-  still = Laws'11.still Station.the-type Laws'7.the-copy Exit.yes;
+      Laws'11.tells Station.the-type Laws'6.the-laws;
+  still = Laws'11.still Station.the-type Laws'6.the-copy Exit.yes;
   row = Rows.whole (Declared'.row
       Station.the-type);
   rd = λ x. x;
   mk = λ x. x;
 } λ M 𝓤 H A W. record {
-  copies = Laws'11.copy Station.the-type Laws'7.the-copy 𝓤 H A W;
+  copies = Laws'11.copy Station.the-type Laws'6.the-copy 𝓤 H A W;
   lawful =
-      Laws'11.lawful Station.the-type Laws'7.the-laws 𝓤 H A W;
-  makes = Laws'11.makes Station.the-type Laws'7.the-plain 𝓤 H A;
+      Laws'11.lawful Station.the-type Laws'6.the-laws 𝓤 H A W;
+  makes = Laws'11.makes Station.the-type Laws'6.the-plain 𝓤 H A;
   in-mem = Local.mem-whole 𝓤
       H A W (Declared'.row Station.the-type);
   of-mem = Local.whole-mem 𝓤 H A W (Declared'.row Station.the-type);
@@ -476,19 +476,19 @@ ps·1 = (Value.pVal record {
       ty = Declared.row
           OptU16.the-type;
       one = Path'.refl;
-      val = Laws'9.val OptU16.the-type Laws'3.the-laws;
-      tells = Laws'9.tells OptU16.the-type Laws'3.the-laws;
+      val = Laws'9.val OptU16.the-type Laws''.the-laws;
+      tells = Laws'9.tells OptU16.the-type Laws''.the-laws;
       still =
-          Laws'9.still OptU16.the-type Laws'3.the-copy Exit.yes;
+          Laws'9.still OptU16.the-type Laws''.the-copy Exit.yes;
       row = Rows.whole (Declared.row OptU16.the-type);
       rd = λ x. x;
       mk = λ x. x;
     } λ M 𝓤 H A W.
     record {
-      copies = Laws'9.copy OptU16.the-type Laws'3.the-copy 𝓤 H A W;
-      lawful = Laws'9.lawful OptU16.the-type Laws'3.the-laws 𝓤 H A W tt;
+      copies = Laws'9.copy OptU16.the-type Laws''.the-copy 𝓤 H A W;
+      lawful = Laws'9.lawful OptU16.the-type Laws''.the-laws 𝓤 H A W tt;
       makes =
-          Laws'9.makes OptU16.the-type Laws'3.the-plain 𝓤 H A;
+          Laws'9.makes OptU16.the-type Laws''.the-plain 𝓤 H A;
       in-mem = Local.mem-whole 𝓤 H A W (Declared.row OptU16.the-type);
       of-mem = Local.whole-mem 𝓤 H
           A W (Declared.row OptU16.the-type);
@@ -519,19 +519,19 @@ abbrev pub r·1 : Kinds.RK 2
 r·1 = Value.rVal record {
   ty = Declared'.row QueuePlan.the-type;
   one = Path'.refl;
-  val = Laws'11.val QueuePlan.the-type Laws''.the-laws;
+  val = Laws'11.val QueuePlan.the-type Laws'7.the-laws;
   tells =
-      Laws'11.tells QueuePlan.the-type Laws''.the-laws;
-  still = Laws'11.still QueuePlan.the-type Laws''.the-copy Exit.yes;
+      Laws'11.tells QueuePlan.the-type Laws'7.the-laws;
+  still = Laws'11.still QueuePlan.the-type Laws'7.the-copy Exit.yes;
   row = Rows.whole
       (Declared'.row QueuePlan.the-type);
   rd = λ x. x;
   mk = λ x. x;
 } λ M 𝓤 H A W. record {
-  copies = Laws'11.copy QueuePlan.the-type Laws''.the-copy 𝓤 H
+  copies = Laws'11.copy QueuePlan.the-type Laws'7.the-copy 𝓤 H
       A W;
-  lawful = Laws'11.lawful QueuePlan.the-type Laws''.the-laws 𝓤 H A W;
-  makes = Laws'11.makes QueuePlan.the-type Laws''.the-plain 𝓤 H A;
+  lawful = Laws'11.lawful QueuePlan.the-type Laws'7.the-laws 𝓤 H A W;
+  makes = Laws'11.makes QueuePlan.the-type Laws'7.the-plain 𝓤 H A;
   in-mem =
       Local.mem-whole 𝓤 H A W (Declared'.row QueuePlan.the-type);
   of-mem = Local.whole-mem 𝓤 H A W (Declared'.row QueuePlan.the-type);
@@ -623,9 +623,9 @@ b15 = Syntax.assign (Syntax.place 24 []) (Syntax.aggregate ((Syntax.copy (Syntax
     []))) ∷ []))
 
 abbrev b16 : Syntax.Body
-b16 = Syntax.call "enqueue_core::tma_plan" ((Syntax.copy (Syntax.place 1 [])) ∷ (Syntax.copy (Syntax.place 24 [])) ∷ (Syntax.copy (Syntax.place 4 []))
-    ∷ (Syntax.copy (Syntax.place 5 [])) ∷ (Syntax.copy (Syntax.place 6 [])) ∷ (Syntax.copy (Syntax.place 7 [])) ∷ (Syntax.copy (Syntax.place 8 [])) ∷
-    (Syntax.copy (Syntax.place 9 [])) ∷ (Syntax.copy (Syntax.place 10 [])) ∷ []) (Syntax.place 13 [])
+b16 = Syntax.call "sched_enqueue::tma_plan" ((Syntax.copy (Syntax.place 1 [])) ∷ (Syntax.copy (Syntax.place 24 [])) ∷ (Syntax.copy (Syntax.place 4
+    [])) ∷ (Syntax.copy (Syntax.place 5 [])) ∷ (Syntax.copy (Syntax.place 6 [])) ∷ (Syntax.copy (Syntax.place 7 [])) ∷ (Syntax.copy (Syntax.place 8
+    [])) ∷ (Syntax.copy (Syntax.place 9 [])) ∷ (Syntax.copy (Syntax.place 10 [])) ∷ []) (Syntax.place 13 [])
 
 abbrev b17 : Syntax.Body
 b17 = Syntax.assign (Syntax.place 14 []) (Syntax.rvOpd (Syntax.copy (Syntax.place 13 ((Syntax.field 2) ∷ []))))
@@ -714,16 +714,16 @@ abbrev pub Claims : Type 1
 Claims = Kinds.In 2 ps·0 × Kinds.Out 2 ps·0 r·0 × Kinds.In 2 ps·1 × Kinds.Out 2 ps·1 r·1 × Kinds.In 1 ps·2 × Kinds.Out 1 ps·2 r·2
 
 abbrev pub t0 : List.List Row.Entry
-t0 = ε24 ∷ ε36 ∷ ε16 ∷ ε45 ∷ ε18 ∷ ε19 ∷ ε20 ∷ ε32 ∷ ε43 ∷ ε21 ∷ ε48 ∷ ε13 ∷ ε28 ∷ ε35 ∷ ε4 ∷ ε25 ∷ []
+t0 = ε24 ∷ ε35 ∷ ε16 ∷ ε45 ∷ ε18 ∷ ε19 ∷ ε20 ∷ ε32 ∷ ε43 ∷ ε21 ∷ ε48 ∷ ε13 ∷ ε28 ∷ ε36 ∷ ε4 ∷ ε25 ∷ []
 
 abbrev pub t1 : List.List Row.Entry
 t1 = ε26 ∷ ε30 ∷ ε5 ∷ ε6 ∷ ε7 ∷ ε10 ∷ ε27 ∷ ε8 ∷ ε11 ∷ ε14 ∷ ε9 ∷ ε12 ∷ []
 
 abbrev pub t2 : List.List Row.Entry
-t2 = (0, Rows.whole (Declared'.row Answer.the-type)) ∷ ε29 ∷ ε16 ∷ ε45 ∷ ε0 ∷ ε1 ∷ ε2 ∷ ε22 ∷ ε33 ∷ ε3 ∷ ε48 ∷ ε13 ∷ ε28 ∷ ε35 ∷ ε4 ∷ ε25 ∷ []
+t2 = (0, Rows.whole (Declared'.row Answer.the-type)) ∷ ε29 ∷ ε16 ∷ ε45 ∷ ε0 ∷ ε1 ∷ ε2 ∷ ε22 ∷ ε33 ∷ ε3 ∷ ε48 ∷ ε13 ∷ ε28 ∷ ε36 ∷ ε4 ∷ ε25 ∷ []
 
 abbrev pub t3 : List.List Row.Entry
-t3 = ε24 ∷ ε36 ∷ ε44 ∷ ε45 ∷ ε18 ∷ ε19 ∷ ε20 ∷ ε32 ∷ ε43 ∷ ε21 ∷ ε48 ∷ ε13 ∷ ε28 ∷ ε35 ∷ ε4 ∷ ε25 ∷ []
+t3 = ε24 ∷ ε35 ∷ ε44 ∷ ε45 ∷ ε18 ∷ ε19 ∷ ε20 ∷ ε32 ∷ ε43 ∷ ε21 ∷ ε48 ∷ ε13 ∷ ε28 ∷ ε36 ∷ ε4 ∷ ε25 ∷ []
 
 abbrev pub t4 : List.List Row.Entry
 t4 = ε26 ∷ ε30 ∷ (18, Relend.ssptr in-Record.row τ4 3) ∷ ε6 ∷ ε7 ∷ ε10 ∷ ε27 ∷ ε8 ∷ ε11 ∷ ε14 ∷ ε9 ∷ ε12 ∷ []
@@ -732,7 +732,7 @@ abbrev pub t5 : List.List Row.Entry
 t5 = ε26 ∷ ε30 ∷ ε5 ∷ ε17 ∷ ε7 ∷ ε10 ∷ ε27 ∷ ε8 ∷ ε11 ∷ ε14 ∷ ε9 ∷ ε12 ∷ []
 
 abbrev pub t6 : List.List Row.Entry
-t6 = ε24 ∷ ε36 ∷ ε44 ∷ ε50 ∷ ε18 ∷ ε19 ∷ ε20 ∷ ε32 ∷ ε43 ∷ ε21 ∷ ε48 ∷ ε13 ∷ ε28 ∷ ε35 ∷ ε4 ∷ ε25 ∷ []
+t6 = ε24 ∷ ε35 ∷ ε44 ∷ ε50 ∷ ε18 ∷ ε19 ∷ ε20 ∷ ε32 ∷ ε43 ∷ ε21 ∷ ε48 ∷ ε13 ∷ ε28 ∷ ε36 ∷ ε4 ∷ ε25 ∷ []
 
 abbrev pub t7 : List.List Row.Entry
 t7 = ε26 ∷ ε30 ∷ ε5 ∷ ε17 ∷ (20, Relend.ssptr (Referent.rtF (Referent.fInt Syntax.w8)) τ7 4) ∷ ε10 ∷ ε27 ∷ ε8 ∷ ε11 ∷ ε14 ∷ ε9 ∷ ε12 ∷ []
@@ -741,58 +741,58 @@ abbrev pub t8 : List.List Row.Entry
 t8 = ε26 ∷ ε30 ∷ ε5 ∷ ε17 ∷ ε7 ∷ ε47 ∷ ε27 ∷ ε8 ∷ ε11 ∷ ε14 ∷ ε9 ∷ ε12 ∷ []
 
 abbrev pub t9 : List.List Row.Entry
-t9 = ε24 ∷ ε36 ∷ ε44 ∷ ε50 ∷ ε18 ∷ ε19 ∷ ε20 ∷ ε32 ∷ ε43 ∷ ε21 ∷ ε48 ∷ ε37 ∷ ε28 ∷ ε35 ∷ ε4 ∷ ε25 ∷ []
+t9 = ε24 ∷ ε35 ∷ ε44 ∷ ε50 ∷ ε18 ∷ ε19 ∷ ε20 ∷ ε32 ∷ ε43 ∷ ε21 ∷ ε48 ∷ ε37 ∷ ε28 ∷ ε36 ∷ ε4 ∷ ε25 ∷ []
 
 abbrev pub t10 : List.List Row.Entry
 t10 = ε26 ∷ ε30 ∷ ε5 ∷ ε6 ∷ ε7 ∷ ε47 ∷ ε27 ∷ ε8 ∷ ε11 ∷ ε14 ∷ ε9 ∷ ε12 ∷ []
 
 abbrev pub t11 : List.List Row.Entry
-t11 = ε24 ∷ ε36 ∷ ε16 ∷ ε50 ∷ ε18 ∷ ε19 ∷ ε20 ∷ ε32 ∷ ε43 ∷ ε21 ∷ ε48 ∷ ε37 ∷ ε28 ∷ ε35 ∷ ε4 ∷ ε25 ∷ []
+t11 = ε24 ∷ ε35 ∷ ε16 ∷ ε50 ∷ ε18 ∷ ε19 ∷ ε20 ∷ ε32 ∷ ε43 ∷ ε21 ∷ ε48 ∷ ε37 ∷ ε28 ∷ ε36 ∷ ε4 ∷ ε25 ∷ []
 
 abbrev pub t12 : List.List Row.Entry
-t12 = ε24 ∷ ε36 ∷ ε16 ∷ ε45 ∷ ε18 ∷ ε19 ∷ ε20 ∷ ε32 ∷ ε43 ∷ ε21 ∷ ε48 ∷ ε37 ∷ ε28 ∷ ε35 ∷ ε4 ∷ ε25 ∷ []
+t12 = ε24 ∷ ε35 ∷ ε16 ∷ ε45 ∷ ε18 ∷ ε19 ∷ ε20 ∷ ε32 ∷ ε43 ∷ ε21 ∷ ε48 ∷ ε37 ∷ ε28 ∷ ε36 ∷ ε4 ∷ ε25 ∷ []
 
 abbrev pub t13 : List.List Row.Entry
-t13 = ε24 ∷ ε36 ∷ ε16 ∷ ε45 ∷ ε18 ∷ ε19 ∷ ε20 ∷ ε32 ∷ ε43 ∷ ε21 ∷ ε48 ∷ ε31 ∷ ε28 ∷ ε35 ∷ ε4 ∷ ε25 ∷ []
+t13 = ε24 ∷ ε35 ∷ ε16 ∷ ε45 ∷ ε18 ∷ ε19 ∷ ε20 ∷ ε32 ∷ ε43 ∷ ε21 ∷ ε48 ∷ ε31 ∷ ε28 ∷ ε36 ∷ ε4 ∷ ε25 ∷ []
 
 abbrev pub t14 : List.List Row.Entry
-t14 = ε24 ∷ ε36 ∷ ε16 ∷ ε45 ∷ ε18 ∷ ε19 ∷ ε20 ∷ ε22 ∷ ε43 ∷ ε21 ∷ ε48 ∷ ε31 ∷ ε28 ∷ ε35 ∷ ε4 ∷ ε25 ∷ []
+t14 = ε24 ∷ ε35 ∷ ε16 ∷ ε45 ∷ ε18 ∷ ε19 ∷ ε20 ∷ ε22 ∷ ε43 ∷ ε21 ∷ ε48 ∷ ε31 ∷ ε28 ∷ ε36 ∷ ε4 ∷ ε25 ∷ []
 
 abbrev pub t15 : List.List Row.Entry
-t15 = ε24 ∷ ε36 ∷ ε16 ∷ ε45 ∷ ε18 ∷ ε19 ∷ ε20 ∷ ε22 ∷ ε33 ∷ ε21 ∷ ε48 ∷ ε31 ∷ ε28 ∷ ε35 ∷ ε4 ∷ ε25 ∷ []
+t15 = ε24 ∷ ε35 ∷ ε16 ∷ ε45 ∷ ε18 ∷ ε19 ∷ ε20 ∷ ε22 ∷ ε33 ∷ ε21 ∷ ε48 ∷ ε31 ∷ ε28 ∷ ε36 ∷ ε4 ∷ ε25 ∷ []
 
 abbrev pub t16 : List.List Row.Entry
-t16 = ε24 ∷ ε36 ∷ ε16 ∷ ε45 ∷ ε18 ∷ ε19 ∷ ε20 ∷ ε22 ∷ ε33 ∷ ε21 ∷ ε48 ∷ ε31 ∷ ε38 ∷ ε35 ∷ ε4 ∷ ε25 ∷ []
+t16 = ε24 ∷ ε35 ∷ ε16 ∷ ε45 ∷ ε18 ∷ ε19 ∷ ε20 ∷ ε22 ∷ ε33 ∷ ε21 ∷ ε48 ∷ ε31 ∷ ε38 ∷ ε36 ∷ ε4 ∷ ε25 ∷ []
 
 abbrev pub t17 : List.List Row.Entry
-t17 = ε24 ∷ ε36 ∷ ε16 ∷ ε45 ∷ ε18 ∷ ε19 ∷ ε20 ∷ ε22 ∷ ε33 ∷ ε21 ∷ ε48 ∷ ε13 ∷ ε38 ∷ ε35 ∷ ε4 ∷ ε25 ∷ []
+t17 = ε24 ∷ ε35 ∷ ε16 ∷ ε45 ∷ ε18 ∷ ε19 ∷ ε20 ∷ ε22 ∷ ε33 ∷ ε21 ∷ ε48 ∷ ε13 ∷ ε38 ∷ ε36 ∷ ε4 ∷ ε25 ∷ []
 
 abbrev pub t18 : List.List Row.Entry
 t18 = ε26 ∷ ε30 ∷ ε5 ∷ ε6 ∷ ε7 ∷ ε10 ∷ (22, Rows.whole (Declared.row Reply.the-type)) ∷ ε8 ∷ ε11 ∷ ε14 ∷ ε9 ∷ ε12 ∷ []
 
 abbrev pub t19 : List.List Row.Entry
-t19 = ε24 ∷ ε36 ∷ ε16 ∷ ε45 ∷ ε18 ∷ ε19 ∷ ε20 ∷ ε22 ∷ ε33 ∷ ε21 ∷ ε48 ∷ ε13 ∷ ε28 ∷ ε35 ∷ ε4 ∷ ε25 ∷ []
+t19 = ε24 ∷ ε35 ∷ ε16 ∷ ε45 ∷ ε18 ∷ ε19 ∷ ε20 ∷ ε22 ∷ ε33 ∷ ε21 ∷ ε48 ∷ ε13 ∷ ε28 ∷ ε36 ∷ ε4 ∷ ε25 ∷ []
 
 abbrev pub t20 : List.List Row.Entry
-t20 = ε46 ∷ ε36 ∷ ε16 ∷ ε45 ∷ ε18 ∷ ε19 ∷ ε20 ∷ ε22 ∷ ε33 ∷ ε21 ∷ ε48 ∷ ε13 ∷ ε28 ∷ ε35 ∷ ε4 ∷ ε25 ∷ []
+t20 = ε46 ∷ ε35 ∷ ε16 ∷ ε45 ∷ ε18 ∷ ε19 ∷ ε20 ∷ ε22 ∷ ε33 ∷ ε21 ∷ ε48 ∷ ε13 ∷ ε28 ∷ ε36 ∷ ε4 ∷ ε25 ∷ []
 
 abbrev pub t21 : List.List Row.Entry
-t21 = ε46 ∷ ε29 ∷ ε16 ∷ ε45 ∷ ε18 ∷ ε19 ∷ ε20 ∷ ε22 ∷ ε33 ∷ ε21 ∷ ε48 ∷ ε13 ∷ ε28 ∷ ε35 ∷ ε4 ∷ ε25 ∷ []
+t21 = ε46 ∷ ε29 ∷ ε16 ∷ ε45 ∷ ε18 ∷ ε19 ∷ ε20 ∷ ε22 ∷ ε33 ∷ ε21 ∷ ε48 ∷ ε13 ∷ ε28 ∷ ε36 ∷ ε4 ∷ ε25 ∷ []
 
 abbrev pub t22 : List.List Row.Entry
-t22 = ε46 ∷ ε29 ∷ ε16 ∷ ε45 ∷ ε0 ∷ ε19 ∷ ε20 ∷ ε22 ∷ ε33 ∷ ε21 ∷ ε48 ∷ ε13 ∷ ε28 ∷ ε35 ∷ ε4 ∷ ε25 ∷ []
+t22 = ε46 ∷ ε29 ∷ ε16 ∷ ε45 ∷ ε0 ∷ ε19 ∷ ε20 ∷ ε22 ∷ ε33 ∷ ε21 ∷ ε48 ∷ ε13 ∷ ε28 ∷ ε36 ∷ ε4 ∷ ε25 ∷ []
 
 abbrev pub t23 : List.List Row.Entry
-t23 = ε46 ∷ ε29 ∷ ε16 ∷ ε45 ∷ ε0 ∷ ε1 ∷ ε20 ∷ ε22 ∷ ε33 ∷ ε21 ∷ ε48 ∷ ε13 ∷ ε28 ∷ ε35 ∷ ε4 ∷ ε25 ∷ []
+t23 = ε46 ∷ ε29 ∷ ε16 ∷ ε45 ∷ ε0 ∷ ε1 ∷ ε20 ∷ ε22 ∷ ε33 ∷ ε21 ∷ ε48 ∷ ε13 ∷ ε28 ∷ ε36 ∷ ε4 ∷ ε25 ∷ []
 
 abbrev pub t24 : List.List Row.Entry
-t24 = ε46 ∷ ε29 ∷ ε16 ∷ ε45 ∷ ε0 ∷ ε1 ∷ ε2 ∷ ε22 ∷ ε33 ∷ ε21 ∷ ε48 ∷ ε13 ∷ ε28 ∷ ε35 ∷ ε4 ∷ ε25 ∷ []
+t24 = ε46 ∷ ε29 ∷ ε16 ∷ ε45 ∷ ε0 ∷ ε1 ∷ ε2 ∷ ε22 ∷ ε33 ∷ ε21 ∷ ε48 ∷ ε13 ∷ ε28 ∷ ε36 ∷ ε4 ∷ ε25 ∷ []
 
 abbrev pub t25 : List.List Row.Entry
-t25 = ε46 ∷ ε29 ∷ ε16 ∷ ε45 ∷ ε0 ∷ ε1 ∷ ε2 ∷ ε22 ∷ ε33 ∷ ε3 ∷ ε48 ∷ ε13 ∷ ε28 ∷ ε35 ∷ ε4 ∷ ε25 ∷ []
+t25 = ε46 ∷ ε29 ∷ ε16 ∷ ε45 ∷ ε0 ∷ ε1 ∷ ε2 ∷ ε22 ∷ ε33 ∷ ε3 ∷ ε48 ∷ ε13 ∷ ε28 ∷ ε36 ∷ ε4 ∷ ε25 ∷ []
 
 abbrev pub t26 : List.List Row.Entry
-t26 = ε24 ∷ ε36 ∷ ε16 ∷ ε49 ∷ ε18 ∷ ε19 ∷ ε20 ∷ ε32 ∷ ε43 ∷ ε21 ∷ ε48 ∷ ε13 ∷ ε28 ∷ ε35 ∷ ε4 ∷ ε25 ∷ []
+t26 = ε24 ∷ ε35 ∷ ε16 ∷ ε49 ∷ ε18 ∷ ε19 ∷ ε20 ∷ ε32 ∷ ε43 ∷ ε21 ∷ ε48 ∷ ε13 ∷ ε28 ∷ ε36 ∷ ε4 ∷ ε25 ∷ []
 
 abbrev pub t27 : List.List Row.Entry
 t27 = ε26 ∷ ε30 ∷ ε5 ∷ ε6 ∷ ε7 ∷ ε10 ∷ ε27 ∷ (23, Relend.msptr (Referent.rtF (Referent.fInt Syntax.w8)) τ8 5) ∷ ε11 ∷ ε14 ∷ ε9 ∷ ε12 ∷ []
@@ -801,7 +801,7 @@ abbrev pub t28 : List.List Row.Entry
 t28 = ε26 ∷ ε30 ∷ ε5 ∷ ε6 ∷ ε7 ∷ ε10 ∷ ε27 ∷ ε8 ∷ (24, Mut.mslice (Referent.rtF (Referent.fInt Syntax.w8)) τ8 5) ∷ ε14 ∷ ε9 ∷ ε12 ∷ []
 
 abbrev pub t29 : List.List Row.Entry
-t29 = ε24 ∷ ε36 ∷ ε16 ∷ ε49 ∷ ε18 ∷ ε19 ∷ ε20 ∷ ε32 ∷ ε43 ∷ ε21 ∷ ε48 ∷ ε13 ∷ ε28 ∷ ε41 ∷ ε4 ∷ ε25 ∷ []
+t29 = ε24 ∷ ε35 ∷ ε16 ∷ ε49 ∷ ε18 ∷ ε19 ∷ ε20 ∷ ε32 ∷ ε43 ∷ ε21 ∷ ε48 ∷ ε13 ∷ ε28 ∷ ε41 ∷ ε4 ∷ ε25 ∷ []
 
 abbrev pub t30 : List.List Row.Entry
 t30 = ε26 ∷ ε30 ∷ ε5 ∷ ε6 ∷ ε7 ∷ ε10 ∷ ε27 ∷ ε8 ∷ (24, Mut.msleft (Referent.rtF (Referent.fInt Syntax.w8)) τ8) ∷ ε14 ∷ ε9 ∷ ε12 ∷ []
@@ -849,10 +849,10 @@ abbrev pub t44 : List.List Row.Entry
 t44 = ε34 ∷ ε40 ∷ ε5 ∷ ε6 ∷ ε7 ∷ ε10 ∷ ε27 ∷ ε8 ∷ ε11 ∷ ε14 ∷ ε9 ∷ ε12 ∷ []
 
 abbrev pub t45 : List.List Row.Entry
-t45 = ε24 ∷ ε29 ∷ ε16 ∷ ε45 ∷ ε18 ∷ ε19 ∷ ε20 ∷ ε22 ∷ ε33 ∷ ε21 ∷ ε48 ∷ ε13 ∷ ε28 ∷ ε35 ∷ ε23 ∷ ε25 ∷ []
+t45 = ε24 ∷ ε29 ∷ ε16 ∷ ε45 ∷ ε18 ∷ ε19 ∷ ε20 ∷ ε22 ∷ ε33 ∷ ε21 ∷ ε48 ∷ ε13 ∷ ε28 ∷ ε36 ∷ ε23 ∷ ε25 ∷ []
 
 abbrev pub t46 : List.List Row.Entry
-t46 = ε46 ∷ ε29 ∷ ε16 ∷ ε45 ∷ ε18 ∷ ε19 ∷ ε20 ∷ ε22 ∷ ε33 ∷ ε21 ∷ ε48 ∷ ε13 ∷ ε28 ∷ ε35 ∷ ε23 ∷ ε25 ∷ []
+t46 = ε46 ∷ ε29 ∷ ε16 ∷ ε45 ∷ ε18 ∷ ε19 ∷ ε20 ∷ ε22 ∷ ε33 ∷ ε21 ∷ ε48 ∷ ε13 ∷ ε28 ∷ ε36 ∷ ε23 ∷ ε25 ∷ []
 
 abbrev pub t47 : List.List Row.Entry
 t47 = ε26 ∷ ε40 ∷ ε5 ∷ ε6 ∷ ε7 ∷ ε10 ∷ ε27 ∷ ε8 ∷ ε11 ∷ ε14 ∷ ε9 ∷ ε12 ∷ []
@@ -1079,7 +1079,7 @@ module _ (claims· : Claims) where
         (Bool.bLit Bool'.true, tt),
       ),
     ),
-  ) 11 (3 ∷ 4 ∷ []) mirs.Verdict
+  ) 11 (3 ∷ 4 ∷ []) mirs.Passage
 
   abbrev s9 : (bs : List.List Nat.ℕ) → Typed.Mo T10 → Typed.Mo T12
   s9 = λ bs. Scalar.n-room T10 19 τ9
@@ -1094,10 +1094,10 @@ module _ (claims· : Claims) where
   s15 = λ bs. Reshare.n-back-sl-shr (Referent.rtF (Referent.fInt Syntax.w8)) T15 3 1 4 τ11 Row.off λ x. x
 
   abbrev s17 : (bs : List.List Nat.ℕ) → Typed.Both T18 T20
-  s17 = λ bs. Known.k-enum-known Verdict.enum 1 T18 11 λ x. x
+  s17 = λ bs. Known.k-enum-known Passage.enum 1 T18 11 λ x. x
 
   abbrev s18 : (bs : List.List Nat.ℕ) → Typed.Gives T20 T21
-  s18 = λ bs. Known.k-known-told Verdict.enum Laws'8.the-laws 1 T20 11 λ x. x
+  s18 = λ bs. Known.k-known-told Passage.enum Laws'8.the-laws 1 T20 11 λ x. x
 
   abbrev s19 : (bs : List.List Nat.ℕ) → Typed.Mo T21 → Typed.Mo T22
   s19 = λ bs. Scalar.n-room T21 7 mirs.optional-OptU16
@@ -1109,7 +1109,7 @@ module _ (claims· : Claims) where
   s21 = λ bs. Make'.n-make (Declared.row Refusal.the-type) T23 12 λ m. m .1 .1 .1 .1 .1 .1 .1 .1 .1 .1 .1 .0 .0
 
   abbrev s22 : (bs : List.List Nat.ℕ) → Typed.Mo T24 → Typed.Mo T25
-  s22 = λ bs. Scalar.n-room T24 11 mirs.Verdict
+  s22 = λ bs. Scalar.n-room T24 11 mirs.Passage
 
   abbrev s23 : (bs : List.List Nat.ℕ) → Typed.Mo T25 → Typed.Mo T26
   s23 = λ bs. Make.n-enum-make Reply.the-type T25 22 λ m. Reply.enum .make (Logic.inr (Logic.inl (m .1 .1 .1 .1 .1 .1 .1 .1 .1 .1 .1 .1 .0, tt)))
@@ -1146,10 +1146,10 @@ module _ (claims· : Claims) where
   s32 = λ bs. AtSlots.n-as-by T34 0 ρ2 λ v. Answer.struct .make v tt
 
   abbrev s33 : (bs : List.List Nat.ℕ) → Typed.Both T18 T36
-  s33 = λ bs. Known.k-enum-told Verdict.enum 0 T18 11 λ x. x
+  s33 = λ bs. Known.k-enum-told Passage.enum 0 T18 11 λ x. x
 
   abbrev s34 : (bs : List.List Nat.ℕ) → Typed.Mo T36 → Typed.Mo T37
-  s34 = λ bs. Scalar.n-room T36 11 mirs.Verdict
+  s34 = λ bs. Scalar.n-room T36 11 mirs.Passage
 
   abbrev s36 : (bs : List.List Nat.ℕ) → Typed.Gives T11 T39
   s36 = λ bs. Relend.k-sl-relend (Referent.rtF (Referent.fInt Syntax.w8)) T11 3 23 1 5 τ11 τ8 Row.off λ x. x
@@ -1202,7 +1202,7 @@ module _ (claims· : Claims) where
         ),
       ),
     ),
-  ) 13 (5 ∷ 2 ∷ []) mirs.enqueue_core-QueuePlan
+  ) 13 (5 ∷ 2 ∷ []) mirs.sched_enqueue-QueuePlan
 
   abbrev s39 : (bs : List.List Nat.ℕ) → Typed.Mo T41 → Typed.Mo T42
   s39 = λ bs. Scalar.n-room T41 1 mirs.sched_core-Station
@@ -1220,7 +1220,7 @@ module _ (claims· : Claims) where
   s44 = λ bs. Know.k-sl-known (Referent.fInt Syntax.w8) T46 3 1 τ11 Row.off 0 λ x. x
 
   abbrev s46 : (bs : List.List Nat.ℕ) → Typed.Mo T47 → Typed.Mo T49
-  s46 = λ bs. Scalar.n-use T47 (Scalar.oFld 13 ((Syntax.field 2) ∷ []) τ1 1464 (Reads.fieldV QueuePlan.the-type Laws''.the-laws 2)) 14 ρ1 (Row.sInt
+  s46 = λ bs. Scalar.n-use T47 (Scalar.oFld 13 ((Syntax.field 2) ∷ []) τ1 1464 (Reads.fieldV QueuePlan.the-type Laws'7.the-laws 2)) 14 ρ1 (Row.sInt
       Syntax.w64 .of)
 
   abbrev s47 : (bs : List.List Nat.ℕ) → Typed.Both T49 T50
@@ -1268,7 +1268,7 @@ module _ (claims· : Claims) where
       }) (λ u T′ m′. Row.set 13 ε41 (u .1 .1 .1 .1 .1 .1 .1 .1 .1 .1 .1 .1 .1 .0) T′ m′) (λ u. Unit) λ u. Unit
 
   abbrev s59 : (bs : List.List Nat.ℕ) → Typed.Mo T61 → Typed.Mo T62
-  s59 = λ bs. Scalar.n-room T61 13 mirs.enqueue_core-QueuePlan
+  s59 = λ bs. Scalar.n-room T61 13 mirs.sched_enqueue-QueuePlan
 
   abbrev s60 : (bs : List.List Nat.ℕ) → Typed.Mo T62 → Typed.Mo T63
   s60 = λ bs. Make'.n-make (Declared'.row (Apart.apartT Answer.the-type)) T62 0 λ m. (
@@ -1310,7 +1310,7 @@ module _ (claims· : Claims) where
       abbrev pub Closed : Type 2
       Closed = (𝓤 : URA.URA M) (H : Wp.Heap 𝓤) (A : Atoms.Atoms 𝓤) (W : Kit.Given 𝓤 H A) (𝓣 : Wp.Tables 𝓤 H) (known0 : Plain.Known 𝓤 H A W 𝓣 2 ps·0
           r·0 (claims· .0) (claims· .1) "bs_sched::ask_memory") (known1 : Plain.Known 𝓤 H A W 𝓣 2 ps·1 r·1 (claims· .2) (claims· .3)
-          "enqueue_core::tma_plan") (known2 : Plain.Known 𝓤 H A W 𝓣 1 ps·2 r·2 (claims· .4) (claims· .5) "bs_sched::put_record") → Statement.Triple 𝓤
+          "sched_enqueue::tma_plan") (known2 : Plain.Known 𝓤 H A W 𝓣 1 ps·2 r·2 (claims· .4) (claims· .5) "bs_sched::put_record") → Statement.Triple 𝓤
           (Wp.WpFn 𝓤 H (𝓣 .C) (𝓣 .Λ) (Function.fnOf 3 ps r xs m hs body)) (Function.plainOf 𝓤 H A 3 ps r Pre· Post·)
 
     module _ where
@@ -1375,7 +1375,7 @@ module _ (claims· : Claims) where
       at19 = λ bs. λ Ψ. Typed.both (s33 bs) (at18 bs Ψ)
 
       abbrev at20 : (bs : List.List Nat.ℕ) → Typed.TF T18 O1
-      at20 = λ bs. Switch.Φswitch T18 O1 11 (λ x. Declared.tagOf Verdict.the-type x) (Syntax.arm (1 ∷ []) b11 (Syntax.arm (0 ∷ []) b12
+      at20 = λ bs. Switch.Φswitch T18 O1 11 (λ x. Declared.tagOf Passage.the-type x) (Syntax.arm (1 ∷ []) b11 (Syntax.arm (0 ∷ []) b12
           Syntax.noDefault)) (at16 bs, (at19 bs, tt))
 
       abbrev at21 : (bs : List.List Nat.ℕ) → Typed.TF T18 O1
@@ -1543,39 +1543,39 @@ module _ (claims· : Claims) where
       module _ {M : Type 1} (𝓤 : URA.URA M) (H : Wp.Heap 𝓤) (A : Atoms.Atoms 𝓤) (W : Kit.Given 𝓤 H A) (𝓣 : Wp.Tables 𝓤 H) where
         abbrev Knowns : Type 1
         Knowns = Plain.Known 𝓤 H A W 𝓣 2 ps·0 r·0 (claims· .0) (claims· .1) "bs_sched::ask_memory" × Plain.Known 𝓤 H A W 𝓣 2 ps·1 r·1 (claims· .2)
-            (claims· .3) "enqueue_core::tma_plan" × Plain.Known 𝓤 H A W 𝓣 1 ps·2 r·2 (claims· .4) (claims· .5) "bs_sched::put_record"
+            (claims· .3) "sched_enqueue::tma_plan" × Plain.Known 𝓤 H A W 𝓣 1 ps·2 r·2 (claims· .4) (claims· .5) "bs_sched::put_record"
 
       module _ (κs : Lifetimes.Lfts 3) (qs : Lifetimes.Shares 3) where
         abbrev g3 : List.List Row.Entry
-        g3 = ε24 ∷ ε36 ∷ (2, Reshare.mslice-owedS in-Record.row τ6 0 3 (Row.lease (κs .0) (qs .0))) ∷ ε45 ∷ ε18 ∷ ε19 ∷ ε20 ∷ ε32 ∷ ε43 ∷ ε21 ∷ ε48 ∷
-            ε13 ∷ ε28 ∷ ε35 ∷ ε4 ∷ ε25 ∷ []
+        g3 = ε24 ∷ ε35 ∷ (2, Reshare.mslice-owedS in-Record.row τ6 0 3 (Row.lease (κs .0) (qs .0))) ∷ ε45 ∷ ε18 ∷ ε19 ∷ ε20 ∷ ε32 ∷ ε43 ∷ ε21 ∷ ε48 ∷
+            ε13 ∷ ε28 ∷ ε36 ∷ ε4 ∷ ε25 ∷ []
 
         abbrev g6 : List.List Row.Entry
-        g6 = ε24 ∷ ε36 ∷ (2, Reshare.mslice-owedS in-Record.row τ6 0 3 (Row.lease (κs .0) (qs .0))) ∷ (
+        g6 = ε24 ∷ ε35 ∷ (2, Reshare.mslice-owedS in-Record.row τ6 0 3 (Row.lease (κs .0) (qs .0))) ∷ (
           3,
           Reshare.mslice-owedS (Referent.rtF
               (Referent.fInt Syntax.w8)) τ11 1 4 (Row.lease (κs .1 .0) (qs .1 .0)),
-        ) ∷ ε18 ∷ ε19 ∷ ε20 ∷ ε32 ∷ ε43 ∷ ε21 ∷ ε48 ∷ ε13 ∷ ε28 ∷ ε35 ∷ ε4 ∷
+        ) ∷ ε18 ∷ ε19 ∷ ε20 ∷ ε32 ∷ ε43 ∷ ε21 ∷ ε48 ∷ ε13 ∷ ε28 ∷ ε36 ∷ ε4 ∷
             ε25 ∷ []
 
         abbrev g9 : List.List Row.Entry
-        g9 = ε24 ∷ ε36 ∷ (2, Reshare.mslice-owedS in-Record.row τ6 0 3 (Row.lease (κs .0) (qs .0))) ∷ (
+        g9 = ε24 ∷ ε35 ∷ (2, Reshare.mslice-owedS in-Record.row τ6 0 3 (Row.lease (κs .0) (qs .0))) ∷ (
           3,
           Reshare.mslice-owedS (Referent.rtF
               (Referent.fInt Syntax.w8)) τ11 1 4 (Row.lease (κs .1 .0) (qs .1 .0)),
-        ) ∷ ε18 ∷ ε19 ∷ ε20 ∷ ε32 ∷ ε43 ∷ ε21 ∷ ε48 ∷ ε37 ∷ ε28 ∷ ε35 ∷ ε4 ∷
+        ) ∷ ε18 ∷ ε19 ∷ ε20 ∷ ε32 ∷ ε43 ∷ ε21 ∷ ε48 ∷ ε37 ∷ ε28 ∷ ε36 ∷ ε4 ∷
             ε25 ∷ []
 
         abbrev g11 : List.List Row.Entry
-        g11 = ε24 ∷ ε36 ∷ ε16 ∷ (3, Reshare.mslice-owedS (Referent.rtF (Referent.fInt Syntax.w8)) τ11 1 4 (Row.lease (κs .1 .0) (qs .1 .0))) ∷ ε18 ∷
-            ε19 ∷ ε20 ∷ ε32 ∷ ε43 ∷ ε21 ∷ ε48 ∷ ε37 ∷ ε28 ∷ ε35 ∷ ε4 ∷ ε25 ∷ []
+        g11 = ε24 ∷ ε35 ∷ ε16 ∷ (3, Reshare.mslice-owedS (Referent.rtF (Referent.fInt Syntax.w8)) τ11 1 4 (Row.lease (κs .1 .0) (qs .1 .0))) ∷ ε18 ∷
+            ε19 ∷ ε20 ∷ ε32 ∷ ε43 ∷ ε21 ∷ ε48 ∷ ε37 ∷ ε28 ∷ ε36 ∷ ε4 ∷ ε25 ∷ []
 
         abbrev g26 : List.List Row.Entry
-        g26 = ε24 ∷ ε36 ∷ ε16 ∷ (3, Relend.mslice-owed (Referent.rtF (Referent.fInt Syntax.w8)) τ11 1 5 (Row.lease (κs .1 .0) (qs .1 .0))) ∷ ε18 ∷ ε19
-            ∷ ε20 ∷ ε32 ∷ ε43 ∷ ε21 ∷ ε48 ∷ ε13 ∷ ε28 ∷ ε35 ∷ ε4 ∷ ε25 ∷ []
+        g26 = ε24 ∷ ε35 ∷ ε16 ∷ (3, Relend.mslice-owed (Referent.rtF (Referent.fInt Syntax.w8)) τ11 1 5 (Row.lease (κs .1 .0) (qs .1 .0))) ∷ ε18 ∷ ε19
+            ∷ ε20 ∷ ε32 ∷ ε43 ∷ ε21 ∷ ε48 ∷ ε13 ∷ ε28 ∷ ε36 ∷ ε4 ∷ ε25 ∷ []
 
         abbrev g29 : List.List Row.Entry
-        g29 = ε24 ∷ ε36 ∷ ε16 ∷ (3, Relend.mslice-owed (Referent.rtF (Referent.fInt Syntax.w8)) τ11 1 5 (Row.lease (κs .1 .0) (qs .1 .0))) ∷ ε18 ∷ ε19
+        g29 = ε24 ∷ ε35 ∷ ε16 ∷ (3, Relend.mslice-owed (Referent.rtF (Referent.fInt Syntax.w8)) τ11 1 5 (Row.lease (κs .1 .0) (qs .1 .0))) ∷ ε18 ∷ ε19
             ∷ ε20 ∷ ε32 ∷ ε43 ∷ ε21 ∷ ε48 ∷ ε13 ∷ ε28 ∷ ε41 ∷ ε4 ∷ ε25 ∷ []
 
         abbrev g31 : List.List Row.Entry
@@ -2147,54 +2147,54 @@ module _ (claims· : Claims) where
 
           d8 : Typed.Typed 𝓤 H A 𝓣 E G27 b9 Δ1 (at8 bs)
           d8 = Typed.s-seq 𝓤 H A W 𝓣 E G27 G28 b7 b8 Δ1 (Typed.pass T27 T28 (s25 bs)) (at7 bs) (Make'.t-make-told 𝓤 H A W E 𝓣 (Declared'.row
-              (Apart.apartT Answer.the-type)) Path'.refl (Laws'11.val (Apart.apartT Answer.the-type) Laws'5.the-laws) (Laws'11.lawful (Apart.apartT
-              Answer.the-type) Laws'5.the-laws 𝓤 H A W) (Laws'11.makes (Apart.apartT Answer.the-type) Laws'5.the-plain 𝓤 H A) G27 0 ((Scalar.oAt 22
-              mirs.sched_core-Reply (Laws'9.val Reply.the-type Laws'6.the-laws)) ∷ (Scalar.oAt 1 mirs.sched_core-Station (Laws'11.val Station.the-type
-              Laws'7.the-laws)) ∷ []) (λ m. (m .1 .1 .1 .1 .1 .1 .1 .1 .1 .1 .1 .1 .1 .1 .1 .1 .1 .1 .1 .1 .1 .1 .0, (m .1 .0, tt))) (λ m. Laws'10.Is
+              (Apart.apartT Answer.the-type)) Path'.refl (Laws'11.val (Apart.apartT Answer.the-type) Laws'4.the-laws) (Laws'11.lawful (Apart.apartT
+              Answer.the-type) Laws'4.the-laws 𝓤 H A W) (Laws'11.makes (Apart.apartT Answer.the-type) Laws'4.the-plain 𝓤 H A) G27 0 ((Scalar.oAt 22
+              mirs.sched_core-Reply (Laws'9.val Reply.the-type Laws'5.the-laws)) ∷ (Scalar.oAt 1 mirs.sched_core-Station (Laws'11.val Station.the-type
+              Laws'6.the-laws)) ∷ []) (λ m. (m .1 .1 .1 .1 .1 .1 .1 .1 .1 .1 .1 .1 .1 .1 .1 .1 .1 .1 .1 .1 .1 .1 .0, (m .1 .0, tt))) (λ m. Laws'10.Is
               (Declared.row Reply.the-type) (m .1 .1 .1 .1 .1 .1 .1 .1 .1 .1 .1 .1 .1 .1 .1 .1 .1 .1 .1 .1 .1 .1 .0) (Laws'9.vals Reply.the-type
-              Laws'6.the-laws (m .1 .1 .1 .1 .1 .1 .1 .1 .1 .1 .1 .1 .1 .1 .1 .1 .1 .1 .1 .1 .1 .1 .0)) × Laws'10.Is (Declared'.row Station.the-type)
-              (m .1 .0) (Laws'11.vals Station.the-type Laws'7.the-laws (m .1 .0))) (Reads'.room-gone 𝓤 H A mirs.sched_core-Answer) (
+              Laws'5.the-laws (m .1 .1 .1 .1 .1 .1 .1 .1 .1 .1 .1 .1 .1 .1 .1 .1 .1 .1 .1 .1 .1 .1 .0)) × Laws'10.Is (Declared'.row Station.the-type)
+              (m .1 .0) (Laws'11.vals Station.the-type Laws'6.the-laws (m .1 .0))) (Reads'.room-gone 𝓤 H A mirs.sched_core-Answer) (
                 (
                   Whole.reads-enum
-                      𝓤 H A W Reply.the-type Laws'6.the-laws,
+                      𝓤 H A W Reply.the-type Laws'5.the-laws,
                   Path'.refl,
                 ),
-                ((Reads.reads-struct 𝓤 H A W Station.the-type Laws'7.the-laws, Path'.refl), tt),
+                ((Reads.reads-struct 𝓤 H A W Station.the-type Laws'6.the-laws, Path'.refl), tt),
               )
               Path'.refl (λ ρ m. Make'.tells-both 𝓤 H A W E ρ (Row.out 0 (G27 .locals)) m (Laws'10.Is (Declared.row Reply.the-type) (m .1 .1 .1 .1 .1
-              .1 .1 .1 .1 .1 .1 .1 .1 .1 .1 .1 .1 .1 .1 .1 .1 .1 .0) (Laws'9.vals Reply.the-type Laws'6.the-laws (m .1 .1 .1 .1 .1 .1 .1 .1 .1 .1 .1
+              .1 .1 .1 .1 .1 .1 .1 .1 .1 .1 .1 .1 .1 .1 .1 .1 .1 .0) (Laws'9.vals Reply.the-type Laws'5.the-laws (m .1 .1 .1 .1 .1 .1 .1 .1 .1 .1 .1
               .1 .1 .1 .1 .1 .1 .1 .1 .1 .1 .1 .0))) (Laws'10.Is (Declared'.row Station.the-type) (m .1 .0) (Laws'11.vals Station.the-type
-              Laws'7.the-laws (m .1 .0))) (Make'.tells-row 𝓤 H A W E ρ (Row.out 0 (G27 .locals)) m 22 (Laws'10.Is (Declared.row Reply.the-type) (m .1
-              .1 .1 .1 .1 .1 .1 .1 .1 .1 .1 .1 .1 .1 .1 .1 .1 .1 .1 .1 .1 .1 .0) (Laws'9.vals Reply.the-type Laws'6.the-laws (m .1 .1 .1 .1 .1 .1 .1
+              Laws'6.the-laws (m .1 .0))) (Make'.tells-row 𝓤 H A W E ρ (Row.out 0 (G27 .locals)) m 22 (Laws'10.Is (Declared.row Reply.the-type) (m .1
+              .1 .1 .1 .1 .1 .1 .1 .1 .1 .1 .1 .1 .1 .1 .1 .1 .1 .1 .1 .1 .1 .0) (Laws'9.vals Reply.the-type Laws'5.the-laws (m .1 .1 .1 .1 .1 .1 .1
               .1 .1 .1 .1 .1 .1 .1 .1 .1 .1 .1 .1 .1 .1 .1 .0))) (Make'.whole-is 𝓤 H A W E (Declared.row Reply.the-type) Path'.refl (Laws'9.val
-              Reply.the-type Laws'6.the-laws) (Laws'9.tells Reply.the-type Laws'6.the-laws) ρ 22 (m .1 .1 .1 .1 .1 .1 .1 .1 .1 .1 .1 .1 .1 .1 .1 .1 .1
+              Reply.the-type Laws'5.the-laws) (Laws'9.tells Reply.the-type Laws'5.the-laws) ρ 22 (m .1 .1 .1 .1 .1 .1 .1 .1 .1 .1 .1 .1 .1 .1 .1 .1 .1
               .1 .1 .1 .1 .1 .0))) (Make'.tells-row 𝓤 H A W E ρ (Row.out 0 (G27 .locals)) m 1 (Laws'10.Is (Declared'.row Station.the-type) (m .1 .0)
-              (Laws'11.vals Station.the-type Laws'7.the-laws (m .1 .0))) (Make'.whole-is 𝓤 H A W E (Declared'.row Station.the-type) Path'.refl
-              (Laws'11.val Station.the-type Laws'7.the-laws) (Laws'11.tells Station.the-type Laws'7.the-laws) ρ 1 (m .1 .0)))) (λ m q. Signed.made-val
-              (Apart.apartT Answer.the-type) Laws'5.the-laws ((Laws'9.val Reply.the-type Laws'6.the-laws (m .1 .1 .1 .1 .1 .1 .1 .1 .1 .1 .1 .1 .1 .1
-              .1 .1 .1 .1 .1 .1 .1 .1 .0)) ∷ (Laws'11.val Station.the-type Laws'7.the-laws (m .1 .0)) ∷ []) (
+              (Laws'11.vals Station.the-type Laws'6.the-laws (m .1 .0))) (Make'.whole-is 𝓤 H A W E (Declared'.row Station.the-type) Path'.refl
+              (Laws'11.val Station.the-type Laws'6.the-laws) (Laws'11.tells Station.the-type Laws'6.the-laws) ρ 1 (m .1 .0)))) (λ m q. Signed.made-val
+              (Apart.apartT Answer.the-type) Laws'4.the-laws ((Laws'9.val Reply.the-type Laws'5.the-laws (m .1 .1 .1 .1 .1 .1 .1 .1 .1 .1 .1 .1 .1 .1
+              .1 .1 .1 .1 .1 .1 .1 .1 .0)) ∷ (Laws'11.val Station.the-type Laws'6.the-laws (m .1 .0)) ∷ []) (
                 m .1 .1 .1 .1 .1 .1 .1 .1 .1 .1 .1 .1 .1
                     .1 .1 .1 .1 .1 .1 .1 .1 .1 .0,
                 (m .1 .0, tt),
               ) (
-                Make.made-enum Reply.the-type Laws'6.the-laws tt Laws'6.lowers (m .1 .1 .1 .1 .1 .1 .1 .1
+                Make.made-enum Reply.the-type Laws'5.the-laws tt Laws'5.lowers (m .1 .1 .1 .1 .1 .1 .1 .1
                     .1 .1 .1 .1 .1 .1 .1 .1 .1 .1 .1 .1 .1 .1 .0) (q .0),
                 (
-                  Signed.made-struct Station.the-type Laws'7.the-laws Laws'7.lowers (m .1 .0) (q
+                  Signed.made-struct Station.the-type Laws'6.the-laws Laws'6.lowers (m .1 .0) (q
                       .1),
                   tt,
                 ),
-              )) λ m q. Signed.made-is (Apart.apartT Answer.the-type) Laws'5.the-laws ((Laws'9.val Reply.the-type Laws'6.the-laws (m .1 .1 .1
-              .1 .1 .1 .1 .1 .1 .1 .1 .1 .1 .1 .1 .1 .1 .1 .1 .1 .1 .1 .0)) ∷ (Laws'11.val Station.the-type Laws'7.the-laws (m .1 .0)) ∷ []) (
+              )) λ m q. Signed.made-is (Apart.apartT Answer.the-type) Laws'4.the-laws ((Laws'9.val Reply.the-type Laws'5.the-laws (m .1 .1 .1
+              .1 .1 .1 .1 .1 .1 .1 .1 .1 .1 .1 .1 .1 .1 .1 .1 .1 .1 .1 .0)) ∷ (Laws'11.val Station.the-type Laws'6.the-laws (m .1 .0)) ∷ []) (
                 m .1 .1
                     .1 .1 .1 .1 .1 .1 .1 .1 .1 .1 .1 .1 .1 .1 .1 .1 .1 .1 .1 .1 .0,
                 (m .1 .0, tt),
               ) (
-                Make.made-enum Reply.the-type Laws'6.the-laws tt
-                    Laws'6.lowers (m .1 .1 .1 .1 .1 .1 .1 .1 .1 .1 .1 .1 .1 .1 .1 .1 .1 .1 .1 .1 .1 .1 .0) (q .0),
+                Make.made-enum Reply.the-type Laws'5.the-laws tt
+                    Laws'5.lowers (m .1 .1 .1 .1 .1 .1 .1 .1 .1 .1 .1 .1 .1 .1 .1 .1 .1 .1 .1 .1 .1 .1 .0) (q .0),
                 (
                   Signed.made-struct Station.the-type
-                      Laws'7.the-laws Laws'7.lowers (m .1 .0) (q .1),
+                      Laws'6.the-laws Laws'6.lowers (m .1 .0) (q .1),
                   tt,
                 ),
               )) d7
@@ -2205,13 +2205,13 @@ module _ (claims· : Claims) where
 
           d10 : Typed.Typed 𝓤 H A 𝓣 E G25 b10 Δ1 (at10 bs)
           d10 = Typed.s-seq 𝓤 H A W 𝓣 E G25 G26 b6 b9 Δ1 (Typed.pass T25 T26 (s23 bs)) (at9 bs) (Make.t-enum-make-wt 𝓤 H A W E 𝓣 Reply.the-type
-              Laws'6.the-laws Laws'6.the-plain tt G25 22 ((Scalar.oInt Syntax.w8 1) ∷ (Scalar.oAt 12 mirs.questions-Refusal (Laws'9.val
-              Refusal.the-type Laws'4.the-laws)) ∷ []) (λ m. Reply.enum .make (Logic.inr (Logic.inl (m .1 .1 .1 .1 .1 .1 .1 .1 .1 .1 .1 .1 .0, tt))))
-              (Reads'.room-gone 𝓤 H A mirs.sched_core-Reply) (tt, ((Whole.reads-enum 𝓤 H A W Refusal.the-type Laws'4.the-laws, Path'.refl), tt))
-              Path'.refl (λ m wa. Make.made-val Reply.the-type Laws'6.the-laws ((Laws'9.val Refusal.the-type Laws'4.the-laws (m .1 .1 .1 .1 .1 .1 .1
+              Laws'5.the-laws Laws'5.the-plain tt G25 22 ((Scalar.oInt Syntax.w8 1) ∷ (Scalar.oAt 12 mirs.questions-Refusal (Laws'9.val
+              Refusal.the-type Laws'3.the-laws)) ∷ []) (λ m. Reply.enum .make (Logic.inr (Logic.inl (m .1 .1 .1 .1 .1 .1 .1 .1 .1 .1 .1 .1 .0, tt))))
+              (Reads'.room-gone 𝓤 H A mirs.sched_core-Reply) (tt, ((Whole.reads-enum 𝓤 H A W Refusal.the-type Laws'3.the-laws, Path'.refl), tt))
+              Path'.refl (λ m wa. Make.made-val Reply.the-type Laws'5.the-laws ((Laws'9.val Refusal.the-type Laws'3.the-laws (m .1 .1 .1 .1 .1 .1 .1
               .1 .1 .1 .1 .1 .0)) ∷ []) (Reply.enum .make (Logic.inr (Logic.inl (m .1 .1 .1 .1 .1 .1 .1 .1 .1 .1 .1 .1 .0, tt)))) (
                 Signed.made-wt
-                    Refusal.the-field Laws'4.the-field-laws (Whole.enum-wt Refusal.the-type Laws'4.the-laws (
+                    Refusal.the-field Laws'3.the-field-laws (Whole.enum-wt Refusal.the-type Laws'3.the-laws (
                       tt,
                       (
                         tt,
@@ -2241,10 +2241,10 @@ module _ (claims· : Claims) where
                     )) (Refusal.the-type .to (m .1 .1 .1 .1 .1 .1 .1 .1 .1 .1 .1 .1 .0)),
                 tt,
               ) (wa .1)) λ m wa. Make.made-is
-              Reply.the-type Laws'6.the-laws ((Laws'9.val Refusal.the-type Laws'4.the-laws (m .1 .1 .1 .1 .1 .1 .1 .1 .1 .1 .1 .1 .0)) ∷ [])
+              Reply.the-type Laws'5.the-laws ((Laws'9.val Refusal.the-type Laws'3.the-laws (m .1 .1 .1 .1 .1 .1 .1 .1 .1 .1 .1 .1 .0)) ∷ [])
               (Reply.enum .make (Logic.inr (Logic.inl (m .1 .1 .1 .1 .1 .1 .1 .1 .1 .1 .1 .1 .0, tt)))) (
                 Signed.made-wt Refusal.the-field
-                    Laws'4.the-field-laws (Whole.enum-wt Refusal.the-type Laws'4.the-laws (
+                    Laws'3.the-field-laws (Whole.enum-wt Refusal.the-type Laws'3.the-laws (
                       tt,
                       (
                         tt,
@@ -2285,23 +2285,23 @@ module _ (claims· : Claims) where
               ) (wa .1)) d9
 
           d11 : Typed.Typed 𝓤 H A 𝓣 E G24 b10 Δ1 (at11 bs)
-          d11 = Typed.g-pre 𝓤 H A W 𝓣 E G24 G25 b10 Δ1 (Typed.pass T24 T25 (s22 bs)) (at10 bs) (Scalar.g-room 𝓤 H A W E G24 11 mirs.Verdict
-              (Local.room-whole 𝓤 H A W (Known.Known Verdict.enum 1) mirs.Verdict Path'.refl)) d10
+          d11 = Typed.g-pre 𝓤 H A W 𝓣 E G24 G25 b10 Δ1 (Typed.pass T24 T25 (s22 bs)) (at10 bs) (Scalar.g-room 𝓤 H A W E G24 11 mirs.Passage
+              (Local.room-whole 𝓤 H A W (Known.Known Passage.enum 1) mirs.Passage Path'.refl)) d10
 
           d12 : Typed.Typed 𝓤 H A 𝓣 E G23 b11 Δ1 (at12 bs)
           d12 = Typed.s-seq 𝓤 H A W 𝓣 E G23 G24 b5 b10 Δ1 (Typed.pass T23 T24 (s21 bs)) (at11 bs) (CopyOut.t-copy-told 𝓤 H A W E 𝓣 (Declared.row
-              Refusal.the-type) Path'.refl (Laws'9.val Refusal.the-type Laws'4.the-laws) (Laws'9.lawful Refusal.the-type Laws'4.the-laws 𝓤 H A W tt)
-              (Laws'9.makes Refusal.the-type Laws'4.the-plain 𝓤 H A) G23 12 (Scalar.oFld 11 ((Syntax.variant 1) ∷ (Syntax.field 1) ∷ [])
-              mirs.questions-Refusal 1 λ v. Laws'9.val Refusal.the-type Laws'4.the-laws (v .0)) (λ m. m .1 .1 .1 .1 .1 .1 .1 .1 .1 .1 .1 .0 .0) (λ m.
-              Laws'9.Fields (Declared.variants Verdict.the-type) (Laws'9.spellss (Verdict.enum .parts) Laws'8.the-laws) (Verdict.the-type .to
-              (Known.at Verdict.enum 1 (m .1 .1 .1 .1 .1 .1 .1 .1 .1 .1 .1 .0)))) (Reads'.room-gone 𝓤 H A mirs.questions-Refusal) (
+              Refusal.the-type) Path'.refl (Laws'9.val Refusal.the-type Laws'3.the-laws) (Laws'9.lawful Refusal.the-type Laws'3.the-laws 𝓤 H A W tt)
+              (Laws'9.makes Refusal.the-type Laws'3.the-plain 𝓤 H A) G23 12 (Scalar.oFld 11 ((Syntax.variant 1) ∷ (Syntax.field 1) ∷ [])
+              mirs.questions-Refusal 1 λ v. Laws'9.val Refusal.the-type Laws'3.the-laws (v .0)) (λ m. m .1 .1 .1 .1 .1 .1 .1 .1 .1 .1 .1 .0 .0) (λ m.
+              Laws'9.Fields (Declared.variants Passage.the-type) (Laws'9.spellss (Passage.enum .parts) Laws'8.the-laws) (Passage.the-type .to
+              (Known.at Passage.enum 1 (m .1 .1 .1 .1 .1 .1 .1 .1 .1 .1 .1 .0)))) (Reads'.room-gone 𝓤 H A mirs.questions-Refusal) (
                 Match.reads-payload
-                    𝓤 H A W Verdict.enum Laws'8.the-laws 1 Path'.refl Path'.refl (λ v. Val.vcons (Laws'9.val Refusal.the-type Laws'4.the-laws (v .0))
+                    𝓤 H A W Passage.enum Laws'8.the-laws 1 Path'.refl Path'.refl (λ v. Val.vcons (Laws'9.val Refusal.the-type Laws'3.the-laws (v .0))
                     Val.vnil) (λ v. Path'.refl) 0 mirs.questions-Refusal 1 Path'.refl,
                 Path'.refl,
               ) Path'.refl (λ ρ m. Make'.tells-row 𝓤 H A W E ρ (Row.out
-              12 (G23 .locals)) m 11 (Laws'9.Fields (Declared.variants Verdict.the-type) (Laws'9.spellss (Verdict.enum .parts) Laws'8.the-laws)
-              (Verdict.the-type .to (Known.at Verdict.enum 1 (m .1 .1 .1 .1 .1 .1 .1 .1 .1 .1 .1 .0)))) (Known.known-is 𝓤 H A W E Verdict.enum 1
+              12 (G23 .locals)) m 11 (Laws'9.Fields (Declared.variants Passage.the-type) (Laws'9.spellss (Passage.enum .parts) Laws'8.the-laws)
+              (Passage.the-type .to (Known.at Passage.enum 1 (m .1 .1 .1 .1 .1 .1 .1 .1 .1 .1 .1 .0)))) (Known.known-is 𝓤 H A W E Passage.enum 1
               Laws'8.the-laws ρ 11 (m .1 .1 .1 .1 .1 .1 .1 .1 .1 .1 .1 .0))) (λ m k wa. Path'.refl) λ m k wa. k .0) d11
 
           d13 : Typed.Typed 𝓤 H A 𝓣 E G22 b11 Δ1 (at13 bs)
@@ -2313,29 +2313,29 @@ module _ (claims· : Claims) where
               (Local.room-whole 𝓤 H A W (Declared.row OptU16.the-type) mirs.optional-OptU16 Path'.refl)) d13
 
           d15 : Typed.Typed 𝓤 H A 𝓣 E G20 b11 Δ1 (at15 bs)
-          d15 = Typed.g-pre 𝓤 H A W 𝓣 E G20 G21 b11 Δ1 (Typed.give (s18 bs)) (at14 bs) (Known.g-known-told 𝓤 H A W E Verdict.enum 1 G20 11
-              Laws'8.the-laws (λ x. x) (Reads'.as-is 𝓤 H A (Rows.whole (Known.Known Verdict.enum 1)))) d14
+          d15 = Typed.g-pre 𝓤 H A W 𝓣 E G20 G21 b11 Δ1 (Typed.give (s18 bs)) (at14 bs) (Known.g-known-told 𝓤 H A W E Passage.enum 1 G20 11
+              Laws'8.the-laws (λ x. x) (Reads'.as-is 𝓤 H A (Rows.whole (Known.Known Passage.enum 1)))) d14
 
           d16 : Typed.Typed 𝓤 H A 𝓣 E G19 b11 Δ1 (at16 bs)
-          d16 = Typed.g-pre 𝓤 H A W 𝓣 E G19 G20 b11 Δ1 (Typed.both (s17 bs)) (at15 bs) (Known.g-enum-known 𝓤 H A W E Verdict.enum 1 G19 11 (λ x. x)
+          d16 = Typed.g-pre 𝓤 H A W 𝓣 E G19 G20 b11 Δ1 (Typed.both (s17 bs)) (at15 bs) (Known.g-enum-known 𝓤 H A W E Passage.enum 1 G19 11 (λ x. x)
               (Reads'.as-is 𝓤 H A ρ4)) d15
 
           d17 : Typed.Typed 𝓤 H A 𝓣 E G37 b12 Δ1 (at17 bs)
           d17 = Typed.t-skip 𝓤 H A W 𝓣 E Δ1 tt
 
           d18 : Typed.Typed 𝓤 H A 𝓣 E G36 b12 Δ1 (at18 bs)
-          d18 = Typed.g-pre 𝓤 H A W 𝓣 E G36 G37 b12 Δ1 (Typed.pass T36 T37 (s34 bs)) (at17 bs) (Scalar.g-room 𝓤 H A W E G36 11 mirs.Verdict
-              (Local.room-whole 𝓤 H A W (Declared.row Verdict.the-type) mirs.Verdict Path'.refl)) d17
+          d18 = Typed.g-pre 𝓤 H A W 𝓣 E G36 G37 b12 Δ1 (Typed.pass T36 T37 (s34 bs)) (at17 bs) (Scalar.g-room 𝓤 H A W E G36 11 mirs.Passage
+              (Local.room-whole 𝓤 H A W (Declared.row Passage.the-type) mirs.Passage Path'.refl)) d17
 
           d19 : Typed.Typed 𝓤 H A 𝓣 E G19 b12 Δ1 (at19 bs)
-          d19 = Typed.g-pre 𝓤 H A W 𝓣 E G19 G36 b12 Δ1 (Typed.both (s33 bs)) (at18 bs) (Known.g-enum-told 𝓤 H A W E Verdict.enum 0 G19 11 λ x. x) d18
+          d19 = Typed.g-pre 𝓤 H A W 𝓣 E G19 G36 b12 Δ1 (Typed.both (s33 bs)) (at18 bs) (Known.g-enum-told 𝓤 H A W E Passage.enum 0 G19 11 λ x. x) d18
 
           d20 : Typed.Typed 𝓤 H A 𝓣 E G19 b13 Δ1 (at20 bs)
           d20 = Switch.t-switch-on 𝓤 H A W E 𝓣 G19 (Scalar.oFld 11 ((Syntax.variant 0) ∷ (Syntax.field 0) ∷ []) τ0 0 λ x. Val.vint Syntax.w8
-              (Declared.tagOf Verdict.the-type x)) Syntax.w8 (λ u. Declared.tagOf Verdict.the-type (u .1 .1 .1 .1 .1 .1 .1 .1 .1 .1 .1 .0))
+              (Declared.tagOf Passage.the-type x)) Syntax.w8 (λ u. Declared.tagOf Passage.the-type (u .1 .1 .1 .1 .1 .1 .1 .1 .1 .1 .1 .0))
               (Syntax.arm (1 ∷ []) b11 (Syntax.arm (0 ∷ []) b12 Syntax.noDefault)) Δ1 (at16 bs, (at19 bs, tt)) (
                 Match.reads-tag 𝓤 H A W
-                    Verdict.the-type Laws'8.the-laws ρ4 0 (λ x. x) (Whole.reads-enum 𝓤 H A W Verdict.the-type Laws'8.the-laws),
+                    Passage.the-type Laws'8.the-laws ρ4 0 (λ x. x) (Whole.reads-enum 𝓤 H A W Passage.the-type Laws'8.the-laws),
                 Path'.refl,
               ) (λ u.
               Path'.refl) (d16, (d19, tt))
@@ -2408,10 +2408,10 @@ module _ (claims· : Claims) where
 
           d38 : Typed.Typed 𝓤 H A 𝓣 E G62 b26 Δ0 (at38 bs)
           d38 = Typed.s-seq 𝓤 H A W 𝓣 E G62 G63 b24 b25 Δ0 (Typed.pass T62 T63 (s60 bs)) (at37 bs) (Make'.t-make-told 𝓤 H A W E 𝓣 (Declared'.row
-              (Apart.apartT Answer.the-type)) Path'.refl (Laws'11.val (Apart.apartT Answer.the-type) Laws'5.the-laws) (Laws'11.lawful (Apart.apartT
-              Answer.the-type) Laws'5.the-laws 𝓤 H A W) (Laws'11.makes (Apart.apartT Answer.the-type) Laws'5.the-plain 𝓤 H A) G62 0 ((Scalar.oAt 16
-              mirs.sched_core-Reply (Laws'9.val Reply.the-type Laws'6.the-laws)) ∷ (Scalar.oAt 17 mirs.sched_core-Station (Laws'11.val
-              Station.the-type Laws'7.the-laws)) ∷ []) (λ m. (
+              (Apart.apartT Answer.the-type)) Path'.refl (Laws'11.val (Apart.apartT Answer.the-type) Laws'4.the-laws) (Laws'11.lawful (Apart.apartT
+              Answer.the-type) Laws'4.the-laws 𝓤 H A W) (Laws'11.makes (Apart.apartT Answer.the-type) Laws'4.the-plain 𝓤 H A) G62 0 ((Scalar.oAt 16
+              mirs.sched_core-Reply (Laws'9.val Reply.the-type Laws'5.the-laws)) ∷ (Scalar.oAt 17 mirs.sched_core-Station (Laws'11.val
+              Station.the-type Laws'6.the-laws)) ∷ []) (λ m. (
                 m .1 .1 .1 .1 .1 .1 .1 .1 .1 .1 .1 .1 .1 .1 .1 .1 .0,
                 (
                   m .1 .1 .1 .1 .1 .1 .1 .1 .1 .1
@@ -2419,52 +2419,52 @@ module _ (claims· : Claims) where
                   tt,
                 ),
               )) (λ m. Laws'10.Is (Declared.row Reply.the-type) (m .1 .1 .1 .1 .1 .1 .1 .1 .1 .1 .1 .1 .1 .1 .1 .1 .0)
-              (Laws'9.vals Reply.the-type Laws'6.the-laws (m .1 .1 .1 .1 .1 .1 .1 .1 .1 .1 .1 .1 .1 .1 .1 .1 .0)) × Laws'10.Is (Declared'.row
-              Station.the-type) (m .1 .1 .1 .1 .1 .1 .1 .1 .1 .1 .1 .1 .1 .1 .1 .1 .1 .0) (Laws'11.vals Station.the-type Laws'7.the-laws (m .1 .1 .1
+              (Laws'9.vals Reply.the-type Laws'5.the-laws (m .1 .1 .1 .1 .1 .1 .1 .1 .1 .1 .1 .1 .1 .1 .1 .1 .0)) × Laws'10.Is (Declared'.row
+              Station.the-type) (m .1 .1 .1 .1 .1 .1 .1 .1 .1 .1 .1 .1 .1 .1 .1 .1 .1 .0) (Laws'11.vals Station.the-type Laws'6.the-laws (m .1 .1 .1
               .1 .1 .1 .1 .1 .1 .1 .1 .1 .1 .1 .1 .1 .1 .0))) (Reads'.room-gone 𝓤 H A mirs.sched_core-Answer) (
                 (
                   Whole.reads-enum 𝓤 H A W
-                      Reply.the-type Laws'6.the-laws,
+                      Reply.the-type Laws'5.the-laws,
                   Path'.refl,
                 ),
-                ((Reads.reads-struct 𝓤 H A W Station.the-type Laws'7.the-laws, Path'.refl), tt),
+                ((Reads.reads-struct 𝓤 H A W Station.the-type Laws'6.the-laws, Path'.refl), tt),
               ) Path'.refl
               (λ ρ m. Make'.tells-both 𝓤 H A W E ρ (Row.out 0 (G62 .locals)) m (Laws'10.Is (Declared.row Reply.the-type) (m .1 .1 .1 .1 .1 .1 .1 .1 .1
-              .1 .1 .1 .1 .1 .1 .1 .0) (Laws'9.vals Reply.the-type Laws'6.the-laws (m .1 .1 .1 .1 .1 .1 .1 .1 .1 .1 .1 .1 .1 .1 .1 .1 .0)))
+              .1 .1 .1 .1 .1 .1 .1 .0) (Laws'9.vals Reply.the-type Laws'5.the-laws (m .1 .1 .1 .1 .1 .1 .1 .1 .1 .1 .1 .1 .1 .1 .1 .1 .0)))
               (Laws'10.Is (Declared'.row Station.the-type) (m .1 .1 .1 .1 .1 .1 .1 .1 .1 .1 .1 .1 .1 .1 .1 .1 .1 .0) (Laws'11.vals Station.the-type
-              Laws'7.the-laws (m .1 .1 .1 .1 .1 .1 .1 .1 .1 .1 .1 .1 .1 .1 .1 .1 .1 .0))) (Make'.tells-row 𝓤 H A W E ρ (Row.out 0 (G62 .locals)) m 16
+              Laws'6.the-laws (m .1 .1 .1 .1 .1 .1 .1 .1 .1 .1 .1 .1 .1 .1 .1 .1 .1 .0))) (Make'.tells-row 𝓤 H A W E ρ (Row.out 0 (G62 .locals)) m 16
               (Laws'10.Is (Declared.row Reply.the-type) (m .1 .1 .1 .1 .1 .1 .1 .1 .1 .1 .1 .1 .1 .1 .1 .1 .0) (Laws'9.vals Reply.the-type
-              Laws'6.the-laws (m .1 .1 .1 .1 .1 .1 .1 .1 .1 .1 .1 .1 .1 .1 .1 .1 .0))) (Make'.whole-is 𝓤 H A W E (Declared.row Reply.the-type)
-              Path'.refl (Laws'9.val Reply.the-type Laws'6.the-laws) (Laws'9.tells Reply.the-type Laws'6.the-laws) ρ 16 (m .1 .1 .1 .1 .1 .1 .1 .1 .1
+              Laws'5.the-laws (m .1 .1 .1 .1 .1 .1 .1 .1 .1 .1 .1 .1 .1 .1 .1 .1 .0))) (Make'.whole-is 𝓤 H A W E (Declared.row Reply.the-type)
+              Path'.refl (Laws'9.val Reply.the-type Laws'5.the-laws) (Laws'9.tells Reply.the-type Laws'5.the-laws) ρ 16 (m .1 .1 .1 .1 .1 .1 .1 .1 .1
               .1 .1 .1 .1 .1 .1 .1 .0))) (Make'.tells-row 𝓤 H A W E ρ (Row.out 0 (G62 .locals)) m 17 (Laws'10.Is (Declared'.row Station.the-type) (m
-              .1 .1 .1 .1 .1 .1 .1 .1 .1 .1 .1 .1 .1 .1 .1 .1 .1 .0) (Laws'11.vals Station.the-type Laws'7.the-laws (m .1 .1 .1 .1 .1 .1 .1 .1 .1 .1
+              .1 .1 .1 .1 .1 .1 .1 .1 .1 .1 .1 .1 .1 .1 .1 .1 .1 .0) (Laws'11.vals Station.the-type Laws'6.the-laws (m .1 .1 .1 .1 .1 .1 .1 .1 .1 .1
               .1 .1 .1 .1 .1 .1 .1 .0))) (Make'.whole-is 𝓤 H A W E (Declared'.row Station.the-type) Path'.refl (Laws'11.val Station.the-type
-              Laws'7.the-laws) (Laws'11.tells Station.the-type Laws'7.the-laws) ρ 17 (m .1 .1 .1 .1 .1 .1 .1 .1 .1 .1 .1 .1 .1 .1 .1 .1 .1 .0)))) (λ m
-              q. Signed.made-val (Apart.apartT Answer.the-type) Laws'5.the-laws ((Laws'9.val Reply.the-type Laws'6.the-laws (m .1 .1 .1 .1 .1 .1 .1 .1
-              .1 .1 .1 .1 .1 .1 .1 .1 .0)) ∷ (Laws'11.val Station.the-type Laws'7.the-laws (m .1 .1 .1 .1 .1 .1 .1 .1 .1 .1 .1 .1 .1 .1 .1 .1 .1 .0))
+              Laws'6.the-laws) (Laws'11.tells Station.the-type Laws'6.the-laws) ρ 17 (m .1 .1 .1 .1 .1 .1 .1 .1 .1 .1 .1 .1 .1 .1 .1 .1 .1 .0)))) (λ m
+              q. Signed.made-val (Apart.apartT Answer.the-type) Laws'4.the-laws ((Laws'9.val Reply.the-type Laws'5.the-laws (m .1 .1 .1 .1 .1 .1 .1 .1
+              .1 .1 .1 .1 .1 .1 .1 .1 .0)) ∷ (Laws'11.val Station.the-type Laws'6.the-laws (m .1 .1 .1 .1 .1 .1 .1 .1 .1 .1 .1 .1 .1 .1 .1 .1 .1 .0))
               ∷ []) (m .1 .1 .1 .1 .1 .1 .1 .1 .1 .1 .1 .1 .1 .1 .1 .1 .0, (m .1 .1 .1 .1 .1 .1 .1 .1 .1 .1 .1 .1 .1 .1 .1 .1 .1 .0, tt)) (
-                Make.made-enum Reply.the-type Laws'6.the-laws tt Laws'6.lowers (m .1 .1 .1 .1 .1 .1 .1 .1 .1 .1 .1 .1 .1 .1 .1 .1 .0) (q .0),
+                Make.made-enum Reply.the-type Laws'5.the-laws tt Laws'5.lowers (m .1 .1 .1 .1 .1 .1 .1 .1 .1 .1 .1 .1 .1 .1 .1 .1 .0) (q .0),
                 (
-                  Signed.made-struct Station.the-type Laws'7.the-laws Laws'7.lowers (m .1 .1 .1 .1 .1 .1 .1 .1 .1 .1 .1 .1 .1 .1 .1 .1 .1 .0) (q .1),
+                  Signed.made-struct Station.the-type Laws'6.the-laws Laws'6.lowers (m .1 .1 .1 .1 .1 .1 .1 .1 .1 .1 .1 .1 .1 .1 .1 .1 .1 .0) (q .1),
                   tt,
                 ),
-              )) λ m q. Signed.made-is (Apart.apartT Answer.the-type) Laws'5.the-laws ((Laws'9.val Reply.the-type Laws'6.the-laws (m .1 .1 .1 .1 .1
-              .1 .1 .1 .1 .1 .1 .1 .1 .1 .1 .1 .0)) ∷ (Laws'11.val Station.the-type Laws'7.the-laws (m .1 .1 .1 .1 .1 .1 .1 .1 .1 .1 .1 .1 .1 .1 .1 .1
+              )) λ m q. Signed.made-is (Apart.apartT Answer.the-type) Laws'4.the-laws ((Laws'9.val Reply.the-type Laws'5.the-laws (m .1 .1 .1 .1 .1
+              .1 .1 .1 .1 .1 .1 .1 .1 .1 .1 .1 .0)) ∷ (Laws'11.val Station.the-type Laws'6.the-laws (m .1 .1 .1 .1 .1 .1 .1 .1 .1 .1 .1 .1 .1 .1 .1 .1
               .1 .0)) ∷ []) (m .1 .1 .1 .1 .1 .1 .1 .1 .1 .1 .1 .1 .1 .1 .1 .1 .0, (m .1 .1 .1 .1 .1 .1 .1 .1 .1 .1 .1 .1 .1 .1 .1 .1 .1 .0, tt)) (
-                Make.made-enum Reply.the-type Laws'6.the-laws tt Laws'6.lowers (m .1 .1 .1 .1 .1 .1 .1 .1 .1 .1 .1 .1 .1 .1 .1 .1 .0) (q .0),
+                Make.made-enum Reply.the-type Laws'5.the-laws tt Laws'5.lowers (m .1 .1 .1 .1 .1 .1 .1 .1 .1 .1 .1 .1 .1 .1 .1 .1 .0) (q .0),
                 (
-                  Signed.made-struct Station.the-type Laws'7.the-laws Laws'7.lowers (m .1 .1 .1 .1 .1 .1 .1 .1 .1 .1 .1 .1 .1 .1 .1 .1 .1 .0) (q .1),
+                  Signed.made-struct Station.the-type Laws'6.the-laws Laws'6.lowers (m .1 .1 .1 .1 .1 .1 .1 .1 .1 .1 .1 .1 .1 .1 .1 .1 .1 .0) (q .1),
                   tt,
                 ),
               )) d37
 
           d39 : Typed.Typed 𝓤 H A 𝓣 E G61 b26 Δ0 (at39 bs)
           d39 = Typed.g-pre 𝓤 H A W 𝓣 E G61 G62 b26 Δ0 (Typed.pass T61 T62 (s59 bs)) (at38 bs) (Scalar.g-room 𝓤 H A W E G61 13
-              mirs.enqueue_core-QueuePlan (Local.room-whole 𝓤 H A W (Declared'.row QueuePlan.the-type) mirs.enqueue_core-QueuePlan Path'.refl)) d38
+              mirs.sched_enqueue-QueuePlan (Local.room-whole 𝓤 H A W (Declared'.row QueuePlan.the-type) mirs.sched_enqueue-QueuePlan Path'.refl)) d38
 
           d40 : Typed.Typed 𝓤 H A 𝓣 E G60 b27 Δ0 (at40 bs)
           d40 = Typed.s-seq 𝓤 H A W 𝓣 E G60 G61 b23 b26 Δ0 (Typed.both (s58 bs)) (at39 bs) (WayStmt.t-way-copy-out 𝓤 H A W E 𝓣 (Declared'.row
-              Station.the-type) Path'.refl (Copies.cStruct Station.the-type Laws'7.the-laws Laws'7.the-copy .copy 𝓤 H A W) (λ ρ. Unit) G60 (Row.out 13
+              Station.the-type) Path'.refl (Copies.cStruct Station.the-type Laws'6.the-laws Laws'6.the-copy .copy 𝓤 H A W) (λ ρ. Unit) G60 (Row.out 13
               (G60 .locals)) (λ u. Row.drop 13 (G60 .locals) u) (G60 .slots) 13 (λ t. ((Syntax.field 1) ∷ t)) mirs.sched_core-Station
               mirs.sched_core-Station 17 ρ5 (λ x. x) (λ u. At.getAt (QueuePlan.the-type .parts) 1 (QueuePlan.struct .as-values (u .1 .1 .1 .1 .1 .1 .1
               .1 .1 .1 .1 .1 .1 .0))) (λ u. (
@@ -2474,7 +2474,7 @@ module _ (claims· : Claims) where
               )) (λ T′. record { locals = Row.setRow 13 ε41 T′; slots = G60 .slots }) (λ u T′ m′. Row.set 13 ε41
               (u .1 .1 .1 .1 .1 .1 .1 .1 .1 .1 .1 .1 .1 .0) T′ m′) (λ u. Unit) (λ x. Unit) (Own.told-none 𝓤 H A (G60 .slots))
               (DerefMove.learns-nothing 𝓤 H A (Declared'.row Station.the-type)) (λ ρ told u asked. Way'.w-partˢ 𝓤 H A W E (Declared'.row
-              QueuePlan.the-type) (Declared'.row Station.the-type) mirs.enqueue_core-QueuePlan mirs.sched_core-Station 1 4 (u .1 .1 .1 .1 .1 .1 .1 .1
+              QueuePlan.the-type) (Declared'.row Station.the-type) mirs.sched_enqueue-QueuePlan mirs.sched_core-Station 1 4 (u .1 .1 .1 .1 .1 .1 .1 .1
               .1 .1 .1 .1 .1 .0) (At.getAt (QueuePlan.the-type .parts) 1 (QueuePlan.struct .as-values (u .1 .1 .1 .1 .1 .1 .1 .1 .1 .1 .1 .1 .1 .0)))
               (Row.hd 0 (Row.tl (Row.tl (Row.tl (Row.tl (Row.tl (Row.tl (Row.tl (Row.tl (Row.tl (Row.tl (Row.tl (Row.tl (Row.tl bs))))))))))))), 0)
               (Way.w-look 𝓤 H A W E (Way.w-local 𝓤 H A W E G60 ρ u (G60 .slots) 13 (Declared'.row QueuePlan.the-type) ρ6 (λ x. x) (λ x. x) (u .1 .1 .1
@@ -2486,7 +2486,7 @@ module _ (claims· : Claims) where
               .1 .1 .1 .1 .1 .1 .1 .1 .1 .1 .1 .0) (At.getAt (QueuePlan.the-type .parts) 1 (QueuePlan.struct .as-values (u .1 .1 .1 .1 .1 .1 .1 .1 .1
               .1 .1 .1 .1 .0))) (At.getAt (QueuePlan.the-type .parts) 1 (QueuePlan.struct .as-values (u .1 .1 .1 .1 .1 .1 .1 .1 .1 .1 .1 .1 .1 .0)))
               (Row.hd 0 (Row.tl (Row.tl (Row.tl (Row.tl (Row.tl (Row.tl (Row.tl (Row.tl (Row.tl (Row.tl (Row.tl (Row.tl (Row.tl bs))))))))))))), 0)
-              (Behind.look-at 𝓤 H A W q QueuePlan.the-type Laws''.the-laws 1 4 Path'.refl Path'.refl (
+              (Behind.look-at 𝓤 H A W q QueuePlan.the-type Laws'7.the-laws 1 4 Path'.refl Path'.refl (
                 Row.hd 0 (Row.tl (Row.tl (Row.tl (Row.tl (Row.tl
                     (Row.tl (Row.tl (Row.tl (Row.tl (Row.tl (Row.tl (Row.tl (Row.tl bs))))))))))))),
                 0,
@@ -2497,17 +2497,17 @@ module _ (claims· : Claims) where
 
           d41 : Typed.Typed 𝓤 H A 𝓣 E G59 b28 Δ0 (at41 bs)
           d41 = Typed.s-seq 𝓤 H A W 𝓣 E G59 G60 b22 b27 Δ0 (Typed.pass T58 T60 (s57 bs)) (at40 bs) (CopyOut.t-copy-told 𝓤 H A W E 𝓣 (Declared.row
-              Reply.the-type) Path'.refl (Laws'9.val Reply.the-type Laws'6.the-laws) (Laws'9.lawful Reply.the-type Laws'6.the-laws 𝓤 H A W tt)
-              (Laws'9.makes Reply.the-type Laws'6.the-plain 𝓤 H A) G59 16 (Scalar.oFld 13 ((Syntax.field 0) ∷ []) mirs.sched_core-Reply 0 λ x.
-              Laws'9.val Reply.the-type Laws'6.the-laws (QueuePlan.struct .as-values x .0)) (λ m. QueuePlan.struct .as-values (m .1 .1 .1 .1 .1 .1 .1
+              Reply.the-type) Path'.refl (Laws'9.val Reply.the-type Laws'5.the-laws) (Laws'9.lawful Reply.the-type Laws'5.the-laws 𝓤 H A W tt)
+              (Laws'9.makes Reply.the-type Laws'5.the-plain 𝓤 H A) G59 16 (Scalar.oFld 13 ((Syntax.field 0) ∷ []) mirs.sched_core-Reply 0 λ x.
+              Laws'9.val Reply.the-type Laws'5.the-laws (QueuePlan.struct .as-values x .0)) (λ m. QueuePlan.struct .as-values (m .1 .1 .1 .1 .1 .1 .1
               .1 .1 .1 .1 .1 .1 .0) .0) (λ m. Laws'10.Is (Declared'.row QueuePlan.the-type) (m .1 .1 .1 .1 .1 .1 .1 .1 .1 .1 .1 .1 .1 .0)
-              (Laws'11.vals QueuePlan.the-type Laws''.the-laws (m .1 .1 .1 .1 .1 .1 .1 .1 .1 .1 .1 .1 .1 .0))) (Reads'.room-gone 𝓤 H A
-              mirs.sched_core-Reply) (Reads.reads-field 𝓤 H A W QueuePlan.the-type Laws''.the-laws 0 mirs.sched_core-Reply 0 Path'.refl, Path'.refl)
+              (Laws'11.vals QueuePlan.the-type Laws'7.the-laws (m .1 .1 .1 .1 .1 .1 .1 .1 .1 .1 .1 .1 .1 .0))) (Reads'.room-gone 𝓤 H A
+              mirs.sched_core-Reply) (Reads.reads-field 𝓤 H A W QueuePlan.the-type Laws'7.the-laws 0 mirs.sched_core-Reply 0 Path'.refl, Path'.refl)
               Path'.refl (λ ρ m. Make'.tells-row 𝓤 H A W E ρ (Row.out 16 (G59 .locals)) m 13 (Laws'10.Is (Declared'.row QueuePlan.the-type) (m .1 .1
-              .1 .1 .1 .1 .1 .1 .1 .1 .1 .1 .1 .0) (Laws'11.vals QueuePlan.the-type Laws''.the-laws (m .1 .1 .1 .1 .1 .1 .1 .1 .1 .1 .1 .1 .1 .0)))
-              (Make'.whole-is 𝓤 H A W E (Declared'.row QueuePlan.the-type) Path'.refl (Laws'11.val QueuePlan.the-type Laws''.the-laws) (Laws'11.tells
-              QueuePlan.the-type Laws''.the-laws) ρ 13 (m .1 .1 .1 .1 .1 .1 .1 .1 .1 .1 .1 .1 .1 .0))) (λ m k wa. Path'.refl) λ m k wa. Laws'11.owed
-              QueuePlan.the-type Laws''.the-laws (m .1 .1 .1 .1 .1 .1 .1 .1 .1 .1 .1 .1 .1 .0) (Laws'11.vals QueuePlan.the-type Laws''.the-laws (m .1
+              .1 .1 .1 .1 .1 .1 .1 .1 .1 .1 .1 .0) (Laws'11.vals QueuePlan.the-type Laws'7.the-laws (m .1 .1 .1 .1 .1 .1 .1 .1 .1 .1 .1 .1 .1 .0)))
+              (Make'.whole-is 𝓤 H A W E (Declared'.row QueuePlan.the-type) Path'.refl (Laws'11.val QueuePlan.the-type Laws'7.the-laws) (Laws'11.tells
+              QueuePlan.the-type Laws'7.the-laws) ρ 13 (m .1 .1 .1 .1 .1 .1 .1 .1 .1 .1 .1 .1 .1 .0))) (λ m k wa. Path'.refl) λ m k wa. Laws'11.owed
+              QueuePlan.the-type Laws'7.the-laws (m .1 .1 .1 .1 .1 .1 .1 .1 .1 .1 .1 .1 .1 .0) (Laws'11.vals QueuePlan.the-type Laws'7.the-laws (m .1
               .1 .1 .1 .1 .1 .1 .1 .1 .1 .1 .1 .1 .0)) k .0) d40
 
           d42 : Typed.Typed 𝓤 H A 𝓣 E G58 b28 Δ0 (at42 bs)
@@ -2612,7 +2612,7 @@ module _ (claims· : Claims) where
               )) (λ T′. record { locals = Row.setRow 13 ε41 T′; slots = G49 .slots }) (λ u T′ m′. Row.set 13
               ε41 (u .1 .1 .1 .1 .1 .1 .1 .1 .1 .1 .1 .1 .1 .0) T′ m′) (λ u. Unit) (λ x. Unit) (Own.told-none 𝓤 H A (G49 .slots))
               (DerefMove.learns-nothing 𝓤 H A (Declared'.row Record.the-type)) (λ ρ told u asked. Way'.w-partˢ 𝓤 H A W E (Declared'.row
-              QueuePlan.the-type) (Declared'.row Record.the-type) mirs.enqueue_core-QueuePlan mirs.dl_record-Record 3 1472 (u .1 .1 .1 .1 .1 .1 .1 .1
+              QueuePlan.the-type) (Declared'.row Record.the-type) mirs.sched_enqueue-QueuePlan mirs.dl_record-Record 3 1472 (u .1 .1 .1 .1 .1 .1 .1 .1
               .1 .1 .1 .1 .1 .0) (At.getAt (QueuePlan.the-type .parts) 3 (QueuePlan.struct .as-values (u .1 .1 .1 .1 .1 .1 .1 .1 .1 .1 .1 .1 .1 .0)))
               (Row.hd 0 (Row.tl (Row.tl (Row.tl (Row.tl (Row.tl (Row.tl (Row.tl (Row.tl (Row.tl (Row.tl (Row.tl (Row.tl (Row.tl bs))))))))))))), 0)
               (Way.w-look 𝓤 H A W E (Way.w-local 𝓤 H A W E G49 ρ u (G49 .slots) 13 (Declared'.row QueuePlan.the-type) ρ6 (λ x. x) (λ x. x) (u .1 .1 .1
@@ -2626,7 +2626,7 @@ module _ (claims· : Claims) where
               .0))) (
                 Row.hd 0 (Row.tl (Row.tl (Row.tl (Row.tl (Row.tl (Row.tl (Row.tl (Row.tl (Row.tl (Row.tl (Row.tl (Row.tl (Row.tl bs))))))))))))),
                 0,
-              ) (Behind.look-at 𝓤 H A W q QueuePlan.the-type Laws''.the-laws 3 1472 Path'.refl Path'.refl (
+              ) (Behind.look-at 𝓤 H A W q QueuePlan.the-type Laws'7.the-laws 3 1472 Path'.refl Path'.refl (
                 Row.hd 0 (Row.tl (Row.tl (Row.tl (Row.tl
                     (Row.tl (Row.tl (Row.tl (Row.tl (Row.tl (Row.tl (Row.tl (Row.tl (Row.tl bs))))))))))))),
                 0,
@@ -2637,8 +2637,8 @@ module _ (claims· : Claims) where
 
           d52 : Typed.Typed 𝓤 H A 𝓣 E G48 b33 Δ0 (at52 bs)
           d52 = Typed.s-seq 𝓤 H A W 𝓣 E G48 G49 b17 b32 Δ0 (Typed.pass T47 T49 (s46 bs)) (at51 bs) (Scalar.t-use 𝓤 H A W E 𝓣 G48 (Scalar.oFld 13
-              ((Syntax.field 2) ∷ []) τ1 1464 (Reads.fieldV QueuePlan.the-type Laws''.the-laws 2)) 14 ρ1 τ1 (Row.valS (Row.sInt Syntax.w64)) (Row.sInt
-              Syntax.w64 .of) (Reads.reads-field 𝓤 H A W QueuePlan.the-type Laws''.the-laws 2 τ1 1464 Path'.refl, Path'.refl) (Reads'.room-gone 𝓤 H A
+              ((Syntax.field 2) ∷ []) τ1 1464 (Reads.fieldV QueuePlan.the-type Laws'7.the-laws 2)) 14 ρ1 τ1 (Row.valS (Row.sInt Syntax.w64)) (Row.sInt
+              Syntax.w64 .of) (Reads.reads-field 𝓤 H A W QueuePlan.the-type Laws'7.the-laws 2 τ1 1464 Path'.refl, Path'.refl) (Reads'.room-gone 𝓤 H A
               τ1) (Scalar.holds-sc 𝓤 H A W (Row.sInt Syntax.w64)) Path'.refl (λ u. Path'.refl) λ u. tt) d51
 
           d53 : Typed.Typed 𝓤 H A 𝓣 E G47 b33 Δ0 (at53 bs)
@@ -2671,7 +2671,7 @@ module _ (claims· : Claims) where
 
           d60 : Typed.Typed 𝓤 H A 𝓣 E G40 b34 Δ0 (at60 bs)
           d60 = Typed.s-seq 𝓤 H A W 𝓣 E G40 G41 b16 b33 Δ0 (Typed.both (s38 bs)) (at59 bs) (Plain.t-call-plain 𝓤 H A W 𝓣 2 ps·1 r·1 (claims· .2)
-              (claims· .3) "enqueue_core::tma_plan" (known .1) E (λ pos β. β) G40 (
+              (claims· .3) "sched_enqueue::tma_plan" (known .1) E (λ pos β. β) G40 (
                 record { pos = 1; st = []; d = 0; at = λ x. x },
                 (
                   record {
@@ -2715,8 +2715,8 @@ module _ (claims· : Claims) where
                 ),
               ) 13 (5 ∷ 2 ∷ []) (Call.sub-id 𝓤 H A W (G40 .slots)) (
                 (
-                  Yields.yields-copy 𝓤 H A W (λ ρ. Unit) (Declared'.row Station.the-type) Path'.refl (Copies.cStruct Station.the-type Laws'7.the-laws
-                      Laws'7.the-copy .copy 𝓤 H A W) ρ5 (λ x. x) (λ x. x) (λ ρ told. Local.mem-whole 𝓤 H A W (Declared'.row Station.the-type) ρ) λ ρ told.
+                  Yields.yields-copy 𝓤 H A W (λ ρ. Unit) (Declared'.row Station.the-type) Path'.refl (Copies.cStruct Station.the-type Laws'6.the-laws
+                      Laws'6.the-copy .copy 𝓤 H A W) ρ5 (λ x. x) (λ x. x) (λ ρ told. Local.mem-whole 𝓤 H A W (Declared'.row Station.the-type) ρ) λ ρ told.
                       Local.whole-mem 𝓤 H A W (Declared'.row Station.the-type) ρ,
                   Path'.refl,
                 ),
@@ -2742,7 +2742,7 @@ module _ (claims· : Claims) where
                         (
                           (
                             Yields.yields-copy 𝓤 H A W (λ ρ. Unit) (Declared.row OptU16.the-type) Path'.refl (Copies.cEnum
-                                OptU16.the-type Laws'3.the-laws Laws'3.the-copy .copy 𝓤 H A W) (Rows.whole (Declared.row OptU16.the-type)) (λ x. x) (λ x. x) (λ ρ told.
+                                OptU16.the-type Laws''.the-laws Laws''.the-copy .copy 𝓤 H A W) (Rows.whole (Declared.row OptU16.the-type)) (λ x. x) (λ x. x) (λ ρ told.
                                 Local.mem-whole 𝓤 H A W (Declared.row OptU16.the-type) ρ) λ ρ told. Local.whole-mem 𝓤 H A W (Declared.row OptU16.the-type) ρ,
                             Path'.refl,
                           ),
@@ -2770,7 +2770,7 @@ module _ (claims· : Claims) where
                     ),
                   ),
                 ),
-              ) (Reads'.room-gone 𝓤 H A mirs.enqueue_core-QueuePlan) (tt, (tt, tt)) Path'.refl) d59
+              ) (Reads'.room-gone 𝓤 H A mirs.sched_enqueue-QueuePlan) (tt, (tt, tt)) Path'.refl) d59
 
           d61 : Typed.Typed 𝓤 H A 𝓣 E G39 b35 Δ0 (at61 bs)
           d61 = Typed.s-seq 𝓤 H A W 𝓣 E G39 G40 b15 b34 Δ0 (Typed.ask (s37 bs)) (at60 bs) (Relend.t-sl-aggregate 𝓤 H A W E (Referent.rtF
@@ -2840,7 +2840,7 @@ module _ (claims· : Claims) where
               ) 11 (3 ∷ 4 ∷ []) (Call.sub-id 𝓤 H A W (G9 .slots)) (
                 (
                   Yields.yields-copy 𝓤 H A W (λ ρ. Unit)
-                      (Declared'.row Station.the-type) Path'.refl (Copies.cStruct Station.the-type Laws'7.the-laws Laws'7.the-copy .copy 𝓤 H A W) ρ5 (λ x. x)
+                      (Declared'.row Station.the-type) Path'.refl (Copies.cStruct Station.the-type Laws'6.the-laws Laws'6.the-copy .copy 𝓤 H A W) ρ5 (λ x. x)
                       (λ x. x) (λ ρ told. Local.mem-whole 𝓤 H A W (Declared'.row Station.the-type) ρ) λ ρ told. Local.whole-mem 𝓤 H A W (Declared'.row
                       Station.the-type) ρ,
                   Path'.refl,
@@ -2857,7 +2857,7 @@ module _ (claims· : Claims) where
                     (tt, tt),
                   ),
                 ),
-              ) (Reads'.room-gone 𝓤 H A mirs.Verdict) (tt, (tt, tt)) Path'.refl) d64
+              ) (Reads'.room-gone 𝓤 H A mirs.Passage) (tt, (tt, tt)) Path'.refl) d64
 
           d66 : Typed.Typed 𝓤 H A 𝓣 E G8 b39 Δ0 (at66 bs)
           d66 = Typed.s-seq 𝓤 H A W 𝓣 E G8 G9 b3 b38 Δ0 (Typed.ask (s7 bs)) (at65 bs) (Relend.t-sl-aggregate 𝓤 H A W E (Referent.rtF (Referent.fInt
@@ -2962,19 +2962,19 @@ module _ (claims· : Claims) where
             ty = Declared'.row Station.the-type;
             one = Path'.refl;
             val = Laws'11.val Station.the-type
-                Laws'7.the-laws;
-            tells = Laws'11.tells Station.the-type Laws'7.the-laws;
-            still = Laws'11.still Station.the-type Laws'7.the-copy
+                Laws'6.the-laws;
+            tells = Laws'11.tells Station.the-type Laws'6.the-laws;
+            still = Laws'11.still Station.the-type Laws'6.the-copy
                 Exit.yes;
             row = Rows.whole (Declared'.row Station.the-type);
             rd = λ x. x;
             mk = λ x. x;
           } λ M 𝓤 H A W. record {
             copies = Laws'11.copy
-                Station.the-type Laws'7.the-copy 𝓤 H A W;
-            lawful = Laws'11.lawful Station.the-type Laws'7.the-laws 𝓤 H A W;
+                Station.the-type Laws'6.the-copy 𝓤 H A W;
+            lawful = Laws'11.lawful Station.the-type Laws'6.the-laws 𝓤 H A W;
             makes = Laws'11.makes
-                Station.the-type Laws'7.the-plain 𝓤 H A;
+                Station.the-type Laws'6.the-plain 𝓤 H A;
             in-mem = Local.mem-whole 𝓤 H A W (Declared'.row Station.the-type);
             of-mem = Local.whole-mem 𝓤 H
                 A W (Declared'.row Station.the-type);
@@ -2988,18 +2988,18 @@ module _ (claims· : Claims) where
             ty = Declared.row OptU16.the-type;
             one = Path'.refl;
             val = Laws'9.val OptU16.the-type
-                Laws'3.the-laws;
-            tells = Laws'9.tells OptU16.the-type Laws'3.the-laws;
-            still = Laws'9.still OptU16.the-type Laws'3.the-copy Exit.yes;
+                Laws''.the-laws;
+            tells = Laws'9.tells OptU16.the-type Laws''.the-laws;
+            still = Laws'9.still OptU16.the-type Laws''.the-copy Exit.yes;
             row = Rows.whole (Declared.row OptU16.the-type);
             rd = λ x. x;
             mk = λ x. x;
           } λ M 𝓤 H A W. record {
             copies = Laws'9.copy OptU16.the-type
-                Laws'3.the-copy 𝓤 H A W;
-            lawful = Laws'9.lawful OptU16.the-type Laws'3.the-laws 𝓤 H A W tt;
+                Laws''.the-copy 𝓤 H A W;
+            lawful = Laws'9.lawful OptU16.the-type Laws''.the-laws 𝓤 H A W tt;
             makes = Laws'9.makes OptU16.the-type
-                Laws'3.the-plain 𝓤 H A;
+                Laws''.the-plain 𝓤 H A;
             in-mem = Local.mem-whole 𝓤 H A W (Declared.row OptU16.the-type);
             of-mem = Local.whole-mem 𝓤 H A W (Declared.row
                 OptU16.the-type);
@@ -3194,15 +3194,15 @@ module _ (claims· : Claims) where
 
       module _ (before· : After-ask-memory) where
         pub record At-match-keys1·own : Type 0 where
-          pub keys1 : Run.OneOf (1 ∷ []) (Declared.tagOf Verdict.the-type (Row.get 11 (T18 .locals) (m11 (before· .before) (After-ask-memory·gave
+          pub keys1 : Run.OneOf (1 ∷ []) (Declared.tagOf Passage.the-type (Row.get 11 (T18 .locals) (m11 (before· .before) (After-ask-memory·gave
               before·))))
 
       pub record At-match-keys1 : Type 0 where
         pub before : After-ask-memory
         pub match : At-match-keys1·own before
 
-      abbrev pub Need-enum-known-verdict : Type 0
-      Need-enum-known-verdict = (c : At-match-keys1) → s17 (c .before .before .before .before .before .before .blocks) .asks (m11 (c .before .before)
+      abbrev pub Need-enum-known-passage : Type 0
+      Need-enum-known-passage = (c : At-match-keys1) → s17 (c .before .before .before .before .before .before .blocks) .asks (m11 (c .before .before)
           (After-ask-memory·gave (c .before)))
 
       abbrev pub m12 : (before : At-match-keys1) → (given : s17 (before .before .before .before .before .before .before .blocks) .gives (m11 (before
@@ -3211,82 +3211,82 @@ module _ (claims· : Claims) where
           (After-ask-memory·gave (before .before))) given
 
       module _ (before· : At-match-keys1) where
-        pub record After-verdict·own : Type 0 where
+        pub record After-passage·own : Type 0 where
           pub given : s17 (before· .before .before .before .before .before .before .blocks) .gives (m11 (before· .before .before)
               (After-ask-memory·gave (before· .before)))
 
-      pub record After-verdict : Type 0 where
+      pub record After-passage : Type 0 where
         pub before : At-match-keys1
-        pub verdict : After-verdict·own before
+        pub passage : After-passage·own before
 
-      abbrev pub m13 : (before : After-verdict) → (given : s18 (before .before .before .before .before .before .before .before .blocks) .gives (m12
-          (before .before) (before .verdict .given))) → Typed.Mo T21
-      m13 = λ before given. s18 (before .before .before .before .before .before .before .before .blocks) .next (m12 (before .before) (before .verdict
+      abbrev pub m13 : (before : After-passage) → (given : s18 (before .before .before .before .before .before .before .before .blocks) .gives (m12
+          (before .before) (before .passage .given))) → Typed.Mo T21
+      m13 = λ before given. s18 (before .before .before .before .before .before .before .before .blocks) .next (m12 (before .before) (before .passage
           .given)) given
 
-      abbrev pub m14 : (before : After-verdict) → (given : s18 (before .before .before .before .before .before .before .before .blocks) .gives (m12
-          (before .before) (before .verdict .given))) → Typed.Mo T22
+      abbrev pub m14 : (before : After-passage) → (given : s18 (before .before .before .before .before .before .before .before .blocks) .gives (m12
+          (before .before) (before .passage .given))) → Typed.Mo T22
       m14 = λ before given. s19 (before .before .before .before .before .before .before .before .blocks) (m13 before given)
 
-      abbrev pub m15 : (before : After-verdict) → (given : s18 (before .before .before .before .before .before .before .before .blocks) .gives (m12
-          (before .before) (before .verdict .given))) → Typed.Mo T23
+      abbrev pub m15 : (before : After-passage) → (given : s18 (before .before .before .before .before .before .before .before .blocks) .gives (m12
+          (before .before) (before .passage .given))) → Typed.Mo T23
       m15 = λ before given. s20 (before .before .before .before .before .before .before .before .blocks) (m14 before given)
 
-      abbrev pub m16 : (before : After-verdict) → (given : s18 (before .before .before .before .before .before .before .before .blocks) .gives (m12
-          (before .before) (before .verdict .given))) → Typed.Mo T24
+      abbrev pub m16 : (before : After-passage) → (given : s18 (before .before .before .before .before .before .before .before .blocks) .gives (m12
+          (before .before) (before .passage .given))) → Typed.Mo T24
       m16 = λ before given. s21 (before .before .before .before .before .before .before .before .blocks) (m15 before given)
 
-      abbrev pub m17 : (before : After-verdict) → (given : s18 (before .before .before .before .before .before .before .before .blocks) .gives (m12
-          (before .before) (before .verdict .given))) → Typed.Mo T25
+      abbrev pub m17 : (before : After-passage) → (given : s18 (before .before .before .before .before .before .before .before .blocks) .gives (m12
+          (before .before) (before .passage .given))) → Typed.Mo T25
       m17 = λ before given. s22 (before .before .before .before .before .before .before .before .blocks) (m16 before given)
 
-      abbrev pub m18 : (before : After-verdict) → (given : s18 (before .before .before .before .before .before .before .before .blocks) .gives (m12
-          (before .before) (before .verdict .given))) → Typed.Mo T26
+      abbrev pub m18 : (before : After-passage) → (given : s18 (before .before .before .before .before .before .before .before .blocks) .gives (m12
+          (before .before) (before .passage .given))) → Typed.Mo T26
       m18 = λ before given. s23 (before .before .before .before .before .before .before .before .blocks) (m17 before given)
 
-      abbrev pub m19 : (before : After-verdict) → (given : s18 (before .before .before .before .before .before .before .before .blocks) .gives (m12
-          (before .before) (before .verdict .given))) → Typed.Mo T27
+      abbrev pub m19 : (before : After-passage) → (given : s18 (before .before .before .before .before .before .before .before .blocks) .gives (m12
+          (before .before) (before .passage .given))) → Typed.Mo T27
       m19 = λ before given. s24 (before .before .before .before .before .before .before .before .blocks) (m18 before given)
 
-      abbrev pub m20 : (before : After-verdict) → (given : s18 (before .before .before .before .before .before .before .before .blocks) .gives (m12
-          (before .before) (before .verdict .given))) → Typed.Mo T28
+      abbrev pub m20 : (before : After-passage) → (given : s18 (before .before .before .before .before .before .before .before .blocks) .gives (m12
+          (before .before) (before .passage .given))) → Typed.Mo T28
       m20 = λ before given. s25 (before .before .before .before .before .before .before .before .blocks) (m19 before given)
 
-      abbrev pub m21 : (before : After-verdict) → (given : s18 (before .before .before .before .before .before .before .before .blocks) .gives (m12
-          (before .before) (before .verdict .given))) → Typed.Mo T29
+      abbrev pub m21 : (before : After-passage) → (given : s18 (before .before .before .before .before .before .before .before .blocks) .gives (m12
+          (before .before) (before .passage .given))) → Typed.Mo T29
       m21 = λ before given. s26 (before .before .before .before .before .before .before .before .blocks) (m20 before given)
 
-      abbrev pub m22 : (before : After-verdict) → (given : s18 (before .before .before .before .before .before .before .before .blocks) .gives (m12
-          (before .before) (before .verdict .given))) → Typed.Mo T30
+      abbrev pub m22 : (before : After-passage) → (given : s18 (before .before .before .before .before .before .before .before .blocks) .gives (m12
+          (before .before) (before .passage .given))) → Typed.Mo T30
       m22 = λ before given. s27 (before .before .before .before .before .before .before .before .blocks) (m21 before given)
 
-      abbrev pub m23 : (before : After-verdict) → (given : s18 (before .before .before .before .before .before .before .before .blocks) .gives (m12
-          (before .before) (before .verdict .given))) → Typed.Mo T31
+      abbrev pub m23 : (before : After-passage) → (given : s18 (before .before .before .before .before .before .before .before .blocks) .gives (m12
+          (before .before) (before .passage .given))) → Typed.Mo T31
       m23 = λ before given. s28 (before .before .before .before .before .before .before .before .blocks) (m22 before given)
 
-      abbrev pub m24 : (before : After-verdict) → (given : s18 (before .before .before .before .before .before .before .before .blocks) .gives (m12
-          (before .before) (before .verdict .given))) → Typed.Mo T32
+      abbrev pub m24 : (before : After-passage) → (given : s18 (before .before .before .before .before .before .before .before .blocks) .gives (m12
+          (before .before) (before .passage .given))) → Typed.Mo T32
       m24 = λ before given. s29 (before .before .before .before .before .before .before .before .blocks) (m23 before given)
 
-      abbrev pub m25 : (before : After-verdict) → (given : s18 (before .before .before .before .before .before .before .before .blocks) .gives (m12
-          (before .before) (before .verdict .given))) → Typed.Mo T33
+      abbrev pub m25 : (before : After-passage) → (given : s18 (before .before .before .before .before .before .before .before .blocks) .gives (m12
+          (before .before) (before .passage .given))) → Typed.Mo T33
       m25 = λ before given. s30 (before .before .before .before .before .before .before .before .blocks) (m24 before given)
 
-      abbrev pub m26 : (before : After-verdict) → (given : s18 (before .before .before .before .before .before .before .before .blocks) .gives (m12
-          (before .before) (before .verdict .given))) → Typed.Mo T34
+      abbrev pub m26 : (before : After-passage) → (given : s18 (before .before .before .before .before .before .before .before .blocks) .gives (m12
+          (before .before) (before .passage .given))) → Typed.Mo T34
       m26 = λ before given. s31 (before .before .before .before .before .before .before .before .blocks) (m25 before given)
 
-      abbrev pub m27 : (before : After-verdict) → (given : s18 (before .before .before .before .before .before .before .before .blocks) .gives (m12
-          (before .before) (before .verdict .given))) → Typed.Mo T35
+      abbrev pub m27 : (before : After-passage) → (given : s18 (before .before .before .before .before .before .before .before .blocks) .gives (m12
+          (before .before) (before .passage .given))) → Typed.Mo T35
       m27 = λ before given. s32 (before .before .before .before .before .before .before .before .blocks) (m26 before given)
 
-      module _ (before· : After-verdict) where
+      module _ (before· : After-passage) where
         pub record After-known-told·own : Type 0 where
-          pub given : s18 (before· .before .before .before .before .before .before .before .blocks) .gives (m12 (before· .before) (before· .verdict
+          pub given : s18 (before· .before .before .before .before .before .before .before .blocks) .gives (m12 (before· .before) (before· .passage
               .given))
 
       pub record After-known-told : Type 0 where
-        pub before : After-verdict
+        pub before : After-passage
         pub known-told : After-known-told·own before
 
       abbrev pub Need-same-length : Type 0
@@ -3311,7 +3311,7 @@ module _ (claims· : Claims) where
 
       module _ (before· : After-ask-memory) where
         pub record At-match-keys2·own : Type 0 where
-          pub keys2 : Run.OneOf (0 ∷ []) (Declared.tagOf Verdict.the-type (Row.get 11 (T18 .locals) (m11 (before· .before) (After-ask-memory·gave
+          pub keys2 : Run.OneOf (0 ∷ []) (Declared.tagOf Passage.the-type (Row.get 11 (T18 .locals) (m11 (before· .before) (After-ask-memory·gave
               before·))))
 
       pub record At-match-keys2 : Type 0 where
@@ -3696,7 +3696,7 @@ module _ (claims· : Claims) where
           .before .before .before .before .κs) (c .before .before .before .before .before .before .before .before .before .before .before .before
           .before .before .before .before .args)) (m57 (c .before) (c .station .given) .1)))
 
-      module _ (ask-memory-requires : Need-ask-memory-requires) (enum-known-verdict : Need-enum-known-verdict) (same-length : Need-same-length)
+      module _ (ask-memory-requires : Need-ask-memory-requires) (enum-known-passage : Need-enum-known-passage) (same-length : Need-same-length)
           (same-length-2 : Need-same-length-2) (returns : Need-returns) (enum-told : Need-enum-told) (tma-plan-requires : Need-tma-plan-requires)
           (put-record-requires : Need-put-record-requires) (same-length-3 : Need-same-length-3) (same-length-4 : Need-same-length-4) (returns-2 :
           Need-returns-2) where
@@ -3936,7 +3936,7 @@ module _ (claims· : Claims) where
             (After-ask-memory·gave c))
         lay1 = λ c. (
           λ k. (
-            enum-known-verdict record {
+            enum-known-passage record {
               before = record { before = c .before; ask-memory = c .ask-memory };
               match = record {
                 keys1 = k;
@@ -3954,11 +3954,11 @@ module _ (claims· : Claims) where
                       };
                       match = record { keys1 = k };
                     };
-                    verdict = record { given = g };
+                    passage = record { given = g };
                   } g') .ptr) (Row.get 2 (T35 .locals) (m27
                       record {
                         before = record { before = record { before = c .before; ask-memory = c .ask-memory }; match = record { keys1 = k } };
-                        verdict =
+                        passage =
                             record { given = g };
                       } g') .name) (Row.get 2 (T35 .locals) (m27 record {
                         before = record {
@@ -3968,13 +3968,13 @@ module _ (claims· : Claims) where
                           };
                           match = record { keys1 = k };
                         };
-                        verdict = record { given = g };
+                        passage = record { given = g };
                       } g') .now) (dens (c .before .before .before
                       .before .before .κs) (c .before .before .before .before .before .args) .1 .0 .now) (same-length record {
                         before = record {
                           before = record
                               { before = record { before = c .before; ask-memory = c .ask-memory }; match = record { keys1 = k } };
-                          verdict = record { given = g };
+                          passage = record { given = g };
                         };
                         known-told = record { given = g' };
                       }),
@@ -3988,14 +3988,14 @@ module _ (claims· : Claims) where
                         };
                         match = record { keys1 = k };
                       };
-                      verdict = record { given = g };
+                      passage = record { given = g };
                     } g') .ptr) (Row.get 3 (T35
                         .locals) (m27 record {
                           before = record {
                             before = record { before = c .before; ask-memory = c .ask-memory };
                             match = record { keys1 = k };
                           };
-                          verdict = record { given = g };
+                          passage = record { given = g };
                         } g') .name) (Row.get 3 (T35 .locals) (m27 record {
                           before = record {
                             before = record {
@@ -4005,12 +4005,12 @@ module _ (claims· : Claims) where
                             };
                             match = record { keys1 = k };
                           };
-                          verdict = record { given = g };
+                          passage = record { given = g };
                         } g') .now) (dens (c .before .before
                         .before .before .before .κs) (c .before .before .before .before .before .args) .1 .1 .0 .now) (same-length-2 record {
                           before = record {
                             before = record { before = record { before = c .before; ask-memory = c .ask-memory }; match = record { keys1 = k } };
-                            verdict = record {
+                            passage = record {
                               given = g;
                             };
                           };
@@ -4024,7 +4024,7 @@ module _ (claims· : Claims) where
                 before =
                     record {
                       before = record { before = record { before = c .before; ask-memory = c .ask-memory }; match = record { keys1 = k } };
-                      verdict =
+                      passage =
                           record { given = g };
                     };
                 known-told = record { given = g' };
@@ -4054,8 +4054,8 @@ module _ (claims· : Claims) where
               },
             ),
             Match.each-below 2 (λ j. (Unit {0} × (Run.OneOf (1 ∷
-                []) j → ⊥)) × (Run.OneOf (0 ∷ []) j → ⊥) → ⊥) (λ n. n .0 .1 Path'.refl, (λ n. n .1 Path'.refl, tt)) (Declared.tagOf Verdict.the-type
-                (Row.get 11 (T18 .locals) (m11 (c .before) (After-ask-memory·gave c)))) (Match.tag-small Verdict.the-type (Row.get 11 (T18 .locals) (m11
+                []) j → ⊥)) × (Run.OneOf (0 ∷ []) j → ⊥) → ⊥) (λ n. n .0 .1 Path'.refl, (λ n. n .1 Path'.refl, tt)) (Declared.tagOf Passage.the-type
+                (Row.get 11 (T18 .locals) (m11 (c .before) (After-ask-memory·gave c)))) (Match.tag-small Passage.the-type (Row.get 11 (T18 .locals) (m11
                 (c .before) (After-ask-memory·gave c)))),
           ),
         )
@@ -4167,7 +4167,7 @@ module _ (claims· : Claims) where
 
         module _ {M : Type 1} (𝓤 : URA.URA M) (H : Wp.Heap 𝓤) (A : Atoms.Atoms 𝓤) (W : Kit.Given 𝓤 H A) (𝓣 : Wp.Tables 𝓤 H) (known0 : Plain.Known 𝓤 H
             A W 𝓣 2 ps·0 r·0 (claims· .0) (claims· .1) "bs_sched::ask_memory") (known1 : Plain.Known 𝓤 H A W 𝓣 2 ps·1 r·1 (claims· .2) (claims· .3)
-            "enqueue_core::tma_plan") (known2 : Plain.Known 𝓤 H A W 𝓣 1 ps·2 r·2 (claims· .4) (claims· .5) "bs_sched::put_record") where
+            "sched_enqueue::tma_plan") (known2 : Plain.Known 𝓤 H A W 𝓣 1 ps·2 r·2 (claims· .4) (claims· .5) "bs_sched::put_record") where
           pub spec : Statement.Triple 𝓤 (Wp.WpFn 𝓤 H (𝓣 .C) (𝓣 .Λ) (Function.fnOf 3 ps r xs m hs body)) (Function.plainOf 𝓤 H A 3 ps r Pre· Post·)
           spec = Plain.t-fn-plain 𝓤 H A W 𝓣 3 ps r xs m hs body (λ κs qs bs. Φ bs) (λ κs qs bs bd. typed κs qs 𝓤 H A W 𝓣 (known0, known1, known2) bs
               bd) Pre· Post· asked

@@ -75,82 +75,88 @@ abbrev ρ3 : Row.Row
 ρ3 = Rows'.sc-here (Row.sInt Syntax.w64)
 
 abbrev ε0 : Row.Entry
-ε0 = (3, in-Record.here)
+ε0 = (4, in-Record.here)
 
 abbrev ε1 : Row.Entry
-ε1 = (10, in-Record.here)
+ε1 = (11, in-Record.here)
 
 abbrev ε2 : Row.Entry
 ε2 = (0, Rows'.any-gone τ1)
 
 abbrev ε3 : Row.Entry
-ε3 = (4, Rows'.any-gone τ1)
+ε3 = (5, Rows'.any-gone τ1)
 
 abbrev ε4 : Row.Entry
-ε4 = (5, Rows'.any-gone τ0)
+ε4 = (6, Rows'.any-gone τ0)
 
 abbrev ε5 : Row.Entry
-ε5 = (7, Rows'.any-gone τ0)
+ε5 = (8, Rows'.any-gone τ0)
 
 abbrev ε6 : Row.Entry
-ε6 = (8, Rows'.any-gone τ0)
+ε6 = (9, Rows'.any-gone τ0)
 
 abbrev ε7 : Row.Entry
-ε7 = (11, Rows'.any-gone τ0)
+ε7 = (2, Rows'.any-gone τ0)
 
 abbrev ε8 : Row.Entry
-ε8 = (9, Rows'.sc-here Row.sPtr)
+ε8 = (12, Rows'.any-gone τ0)
 
 abbrev ε9 : Row.Entry
-ε9 = (12, Rows'.sc-here Row.sPtr)
+ε9 = (10, Rows'.sc-here Row.sPtr)
 
 abbrev ε10 : Row.Entry
 ε10 = (13, Rows'.sc-here Row.sPtr)
 
 abbrev ε11 : Row.Entry
-ε11 = (9, Rows'.any-gone Syntax.tyPtr)
+ε11 = (14, Rows'.sc-here Row.sPtr)
 
 abbrev ε12 : Row.Entry
-ε12 = (6, Rows'.any-gone Syntax.tyBool)
+ε12 = (7, Rows'.any-gone Syntax.tyBool)
 
 abbrev ε13 : Row.Entry
-ε13 = (12, Rows'.any-gone Syntax.tyPtr)
+ε13 = (10, Rows'.any-gone Syntax.tyPtr)
 
 abbrev ε14 : Row.Entry
 ε14 = (13, Rows'.any-gone Syntax.tyPtr)
 
 abbrev ε15 : Row.Entry
-ε15 = (0, Rows.arrF in-Record.row 16 0)
+ε15 = (14, Rows'.any-gone Syntax.tyPtr)
 
 abbrev ε16 : Row.Entry
-ε16 = (4, Rows.arrF in-Record.row 16 0)
+ε16 = (0, Rows.arrF in-Record.row 16 0)
 
 abbrev ε17 : Row.Entry
-ε17 = (1, Rows'.sslice in-Record.row τ2 0)
+ε17 = (5, Rows.arrF in-Record.row 16 0)
 
 abbrev ε18 : Row.Entry
-ε18 = (2, Rows'.sc-here (Row.sInt Syntax.w64))
+ε18 = (1, Rows'.sslice in-Record.row τ2 0)
 
 abbrev ε19 : Row.Entry
-ε19 = (5, Rows'.sc-here (Row.sInt Syntax.w64))
+ε19 = (2, Rows'.sc-here (Row.sInt Syntax.w64))
 
 abbrev ε20 : Row.Entry
-ε20 = (7, Rows'.sc-here (Row.sInt Syntax.w64))
+ε20 = (3, Rows'.sc-here (Row.sInt Syntax.w64))
 
 abbrev ε21 : Row.Entry
-ε21 = (8, Rows'.sc-here (Row.sInt Syntax.w64))
+ε21 = (6, Rows'.sc-here (Row.sInt Syntax.w64))
 
 abbrev ε22 : Row.Entry
-ε22 = (3, Rows'.any-gone mirs.dl_record-Record)
+ε22 = (8, Rows'.sc-here (Row.sInt Syntax.w64))
 
 abbrev ε23 : Row.Entry
-ε23 = (11, Rows'.sc-here (Row.sInt Syntax.w64))
+ε23 = (9, Rows'.sc-here (Row.sInt Syntax.w64))
 
 abbrev ε24 : Row.Entry
-ε24 = (10, Rows'.any-gone mirs.dl_record-Record)
+ε24 = (4, Rows'.any-gone mirs.dl_record-Record)
+
+abbrev ε25 : Row.Entry
+ε25 = (12, Rows'.sc-here (Row.sInt Syntax.w64))
+
+abbrev ε26 : Row.Entry
+ε26 = (11, Rows'.any-gone mirs.dl_record-Record)
 
 abbrev pub ps : List.List (Kinds.PK 1)
-ps = (ShrSlice.pShrS in-Record.row 0 tt) ∷ (Num.pNum Syntax.w64) ∷ []
+ps = (ShrSlice.pShrS in-Record.row 0 tt) ∷ (Num.pNum Syntax.w64) ∷ (Num.pNum Syntax.w64) ∷ []
 
 abbrev pub r : Kinds.RK 1
 r = Array.rArr in-Record.element in-Record.element-laws 16
@@ -168,20 +174,21 @@ abbrev pub r·0 : Kinds.RK 0
 r·0 = in-Record.r
 
 abbrev pub hs : List.List Syntax.Home
-hs = Syntax.valueLocal ∷ Syntax.valueLocal ∷ Syntax.valueLocal ∷ Syntax.valueLocal ∷ Syntax.memorySlot ∷ Syntax.valueLocal ∷ Syntax.valueLocal ∷
-    Syntax.valueLocal ∷ Syntax.valueLocal ∷ Syntax.valueLocal ∷ Syntax.valueLocal ∷ Syntax.valueLocal ∷ Syntax.valueLocal ∷ Syntax.valueLocal ∷ []
+hs = Syntax.valueLocal ∷ Syntax.valueLocal ∷ Syntax.valueLocal ∷ Syntax.valueLocal ∷ Syntax.valueLocal ∷ Syntax.memorySlot ∷ Syntax.valueLocal ∷
+    Syntax.valueLocal ∷ Syntax.valueLocal ∷ Syntax.valueLocal ∷ Syntax.valueLocal ∷ Syntax.valueLocal ∷ Syntax.valueLocal ∷ Syntax.valueLocal ∷
+    Syntax.valueLocal ∷ []
 
 abbrev b0 : Syntax.Body
-b0 = Syntax.call "bs_sched::empty_record" [] (Syntax.place 3 [])
+b0 = Syntax.call "bs_sched::empty_record" [] (Syntax.place 4 [])
 
 abbrev b1 : Syntax.Body
-b1 = Syntax.assign (Syntax.place 4 []) (Syntax.repeat (Syntax.copy (Syntax.place 3 [])) 16)
+b1 = Syntax.assign (Syntax.place 5 []) (Syntax.repeat (Syntax.copy (Syntax.place 4 [])) 16)
 
 abbrev b2 : Syntax.Body
-b2 = Syntax.assign (Syntax.place 5 []) (Syntax.rvOpd (Syntax.int Syntax.w64 0))
+b2 = Syntax.assign (Syntax.place 6 []) (Syntax.rvOpd (Syntax.int Syntax.w64 0))
 
 abbrev b3 : Syntax.Body
-b3 = Syntax.assign (Syntax.place 6 []) (Syntax.op2 (Syntax.lt Syntax.unsigned) (Syntax.copy (Syntax.place 5 [])) (Syntax.int Syntax.w64 16))
+b3 = Syntax.assign (Syntax.place 7 []) (Syntax.op2 (Syntax.lt Syntax.unsigned) (Syntax.copy (Syntax.place 6 [])) (Syntax.copy (Syntax.place 3 [])))
 
 abbrev b4 : Syntax.Body
 b4 = Syntax.skip
@@ -190,35 +197,35 @@ abbrev b5 : Syntax.Body
 b5 = Syntax.exit 1
 
 abbrev b6 : Syntax.Body
-b6 = Syntax.cond (Syntax.copy (Syntax.place 6 [])) b4 b5
+b6 = Syntax.cond (Syntax.copy (Syntax.place 7 [])) b4 b5
 
 abbrev b7 : Syntax.Body
-b7 = Syntax.assign (Syntax.place 7 []) (Syntax.op2 (Syntax.add Syntax.unsigned) (Syntax.copy (Syntax.place 2 [])) (Syntax.copy (Syntax.place 5 [])))
+b7 = Syntax.assign (Syntax.place 8 []) (Syntax.op2 (Syntax.add Syntax.unsigned) (Syntax.copy (Syntax.place 2 [])) (Syntax.copy (Syntax.place 6 [])))
 
 abbrev b8 : Syntax.Body
-b8 = Syntax.assign (Syntax.place 8 []) (Syntax.op2 (Syntax.mul Syntax.unsigned) (Syntax.copy (Syntax.place 7 [])) (Syntax.int Syntax.w64 44))
+b8 = Syntax.assign (Syntax.place 9 []) (Syntax.op2 (Syntax.mul Syntax.unsigned) (Syntax.copy (Syntax.place 8 [])) (Syntax.int Syntax.w64 44))
 
 abbrev b9 : Syntax.Body
-b9 = Syntax.assign (Syntax.place 9 []) (Syntax.op2 Syntax.offset (Syntax.copy (Syntax.place 1 ((Syntax.field 0) ∷ []))) (Syntax.copy (Syntax.place 8
+b9 = Syntax.assign (Syntax.place 10 []) (Syntax.op2 Syntax.offset (Syntax.copy (Syntax.place 1 ((Syntax.field 0) ∷ []))) (Syntax.copy (Syntax.place 9
     [])))
 
 abbrev b10 : Syntax.Body
-b10 = Syntax.assign (Syntax.place 10 []) (Syntax.rvOpd (Syntax.copy (Syntax.place 9 ((Syntax.deref mirs.dl_record-Record) ∷ []))))
+b10 = Syntax.assign (Syntax.place 11 []) (Syntax.rvOpd (Syntax.copy (Syntax.place 10 ((Syntax.deref mirs.dl_record-Record) ∷ []))))
 
 abbrev b11 : Syntax.Body
-b11 = Syntax.assign (Syntax.place 11 []) (Syntax.op2 (Syntax.mul Syntax.unsigned) (Syntax.copy (Syntax.place 5 [])) (Syntax.int Syntax.w64 44))
+b11 = Syntax.assign (Syntax.place 12 []) (Syntax.op2 (Syntax.mul Syntax.unsigned) (Syntax.copy (Syntax.place 6 [])) (Syntax.int Syntax.w64 44))
 
 abbrev b12 : Syntax.Body
-b12 = Syntax.assign (Syntax.place 12 []) (Syntax.addrOf (Syntax.place 4 []))
+b12 = Syntax.assign (Syntax.place 13 []) (Syntax.addrOf (Syntax.place 5 []))
 
 abbrev b13 : Syntax.Body
-b13 = Syntax.assign (Syntax.place 13 []) (Syntax.op2 Syntax.offset (Syntax.copy (Syntax.place 12 [])) (Syntax.copy (Syntax.place 11 [])))
+b13 = Syntax.assign (Syntax.place 14 []) (Syntax.op2 Syntax.offset (Syntax.copy (Syntax.place 13 [])) (Syntax.copy (Syntax.place 12 [])))
 
 abbrev b14 : Syntax.Body
-b14 = Syntax.assign (Syntax.place 13 ((Syntax.deref mirs.dl_record-Record) ∷ [])) (Syntax.rvOpd (Syntax.copy (Syntax.place 10 [])))
+b14 = Syntax.assign (Syntax.place 14 ((Syntax.deref mirs.dl_record-Record) ∷ [])) (Syntax.rvOpd (Syntax.copy (Syntax.place 11 [])))
 
 abbrev b15 : Syntax.Body
-b15 = Syntax.assign (Syntax.place 5 []) (Syntax.op2 (Syntax.add Syntax.unsigned) (Syntax.copy (Syntax.place 5 [])) (Syntax.int Syntax.w64 1))
+b15 = Syntax.assign (Syntax.place 6 []) (Syntax.op2 (Syntax.add Syntax.unsigned) (Syntax.copy (Syntax.place 6 [])) (Syntax.int Syntax.w64 1))
 
 abbrev b16 : Syntax.Body
 b16 = Syntax.seq b14 b15
@@ -257,7 +264,7 @@ abbrev b27 : Syntax.Body
 b27 = Syntax.block b26
 
 abbrev b28 : Syntax.Body
-b28 = Syntax.assign (Syntax.place 0 []) (Syntax.rvOpd (Syntax.copy (Syntax.place 4 [])))
+b28 = Syntax.assign (Syntax.place 0 []) (Syntax.rvOpd (Syntax.copy (Syntax.place 5 [])))
 
 abbrev b29 : Syntax.Body
 b29 = Syntax.return
@@ -284,76 +291,79 @@ abbrev pub Claims : Type 1
 Claims = Kinds.In 0 ps·0 × Kinds.Out 0 ps·0 r·0
 
 abbrev pub t0 : List.List Row.Entry
-t0 = ε2 ∷ ε17 ∷ ε18 ∷ ε22 ∷ ε3 ∷ ε4 ∷ ε12 ∷ ε5 ∷ ε6 ∷ ε11 ∷ ε24 ∷ ε7 ∷ ε13 ∷ ε14 ∷ []
+t0 = ε2 ∷ ε18 ∷ ε19 ∷ ε20 ∷ ε24 ∷ ε3 ∷ ε4 ∷ ε12 ∷ ε5 ∷ ε6 ∷ ε13 ∷ ε26 ∷ ε8 ∷ ε14 ∷ ε15 ∷ []
 
 abbrev pub t1 : List.List Row.Entry
-t1 = ε15 ∷ ε17 ∷ (2, Rows'.any-gone τ0) ∷ ε22 ∷ ε3 ∷ ε4 ∷ ε12 ∷ ε5 ∷ ε6 ∷ ε11 ∷ ε24 ∷ ε7 ∷ ε13 ∷ ε14 ∷ []
+t1 = ε16 ∷ ε18 ∷ ε7 ∷ (3, Rows'.any-gone τ0) ∷ ε24 ∷ ε3 ∷ ε4 ∷ ε12 ∷ ε5 ∷ ε6 ∷ ε13 ∷ ε26 ∷ ε8 ∷ ε14 ∷ ε15 ∷ []
 
 abbrev pub t2 : List.List Row.Entry
-t2 = ε2 ∷ ε17 ∷ ε18 ∷ ε0 ∷ ε3 ∷ ε4 ∷ ε12 ∷ ε5 ∷ ε6 ∷ ε11 ∷ ε24 ∷ ε7 ∷ ε13 ∷ ε14 ∷ []
+t2 = ε2 ∷ ε18 ∷ ε19 ∷ ε20 ∷ ε0 ∷ ε3 ∷ ε4 ∷ ε12 ∷ ε5 ∷ ε6 ∷ ε13 ∷ ε26 ∷ ε8 ∷ ε14 ∷ ε15 ∷ []
 
 abbrev pub t3 : List.List Row.Entry
-t3 = ε2 ∷ ε17 ∷ ε18 ∷ ε0 ∷ (4, Rows'.whole (Array'.Array in-Record.row 16)) ∷ ε4 ∷ ε12 ∷ ε5 ∷ ε6 ∷ ε11 ∷ ε24 ∷ ε7 ∷ ε13 ∷ ε14 ∷ []
+t3 = ε2 ∷ ε18 ∷ ε19 ∷ ε20 ∷ ε0 ∷ (5, Rows'.whole (Array'.Array in-Record.row 16)) ∷ ε4 ∷ ε12 ∷ ε5 ∷ ε6 ∷ ε13 ∷ ε26 ∷ ε8 ∷ ε14 ∷ ε15 ∷ []
 
 abbrev pub t4 : List.List Row.Entry
-t4 = ε2 ∷ ε17 ∷ ε18 ∷ ε0 ∷ ε16 ∷ ε4 ∷ ε12 ∷ ε5 ∷ ε6 ∷ ε11 ∷ ε24 ∷ ε7 ∷ ε13 ∷ ε14 ∷ []
+t4 = ε2 ∷ ε18 ∷ ε19 ∷ ε20 ∷ ε0 ∷ ε17 ∷ ε4 ∷ ε12 ∷ ε5 ∷ ε6 ∷ ε13 ∷ ε26 ∷ ε8 ∷ ε14 ∷ ε15 ∷ []
 
 abbrev pub t5 : List.List Row.Entry
-t5 = ε2 ∷ ε17 ∷ ε18 ∷ ε22 ∷ ε16 ∷ ε4 ∷ ε12 ∷ ε5 ∷ ε6 ∷ ε11 ∷ ε24 ∷ ε7 ∷ ε13 ∷ ε14 ∷ []
+t5 = ε2 ∷ ε18 ∷ ε19 ∷ ε20 ∷ ε24 ∷ ε17 ∷ ε4 ∷ ε12 ∷ ε5 ∷ ε6 ∷ ε13 ∷ ε26 ∷ ε8 ∷ ε14 ∷ ε15 ∷ []
 
 abbrev pub t6 : List.List Row.Entry
-t6 = ε2 ∷ ε17 ∷ ε18 ∷ ε22 ∷ ε16 ∷ ε19 ∷ ε12 ∷ ε5 ∷ ε6 ∷ ε11 ∷ ε24 ∷ ε7 ∷ ε13 ∷ ε14 ∷ []
+t6 = ε2 ∷ ε18 ∷ ε19 ∷ ε20 ∷ ε24 ∷ ε17 ∷ ε21 ∷ ε12 ∷ ε5 ∷ ε6 ∷ ε13 ∷ ε26 ∷ ε8 ∷ ε14 ∷ ε15 ∷ []
 
 abbrev pub t7 : List.List Row.Entry
-t7 = ε2 ∷ ε17 ∷ ε18 ∷ ε22 ∷ ε16 ∷ ε19 ∷ (6, Rows'.sc-here Row.sBool) ∷ ε5 ∷ ε6 ∷ ε11 ∷ ε24 ∷ ε7 ∷ ε13 ∷ ε14 ∷ []
+t7 = ε2 ∷ ε18 ∷ ε19 ∷ ε20 ∷ ε24 ∷ ε17 ∷ ε21 ∷ (7, Rows'.sc-here Row.sBool) ∷ ε5 ∷ ε6 ∷ ε13 ∷ ε26 ∷ ε8 ∷ ε14 ∷ ε15 ∷ []
 
 abbrev pub t8 : List.List Row.Entry
-t8 = ε2 ∷ ε17 ∷ ε18 ∷ ε22 ∷ ε16 ∷ ε19 ∷ ε12 ∷ ε20 ∷ ε6 ∷ ε11 ∷ ε24 ∷ ε7 ∷ ε13 ∷ ε14 ∷ []
+t8 = ε2 ∷ ε18 ∷ ε19 ∷ ε20 ∷ ε24 ∷ ε17 ∷ ε21 ∷ ε12 ∷ ε22 ∷ ε6 ∷ ε13 ∷ ε26 ∷ ε8 ∷ ε14 ∷ ε15 ∷ []
 
 abbrev pub t9 : List.List Row.Entry
-t9 = ε2 ∷ ε17 ∷ ε18 ∷ ε22 ∷ ε16 ∷ ε19 ∷ ε12 ∷ ε20 ∷ ε21 ∷ ε11 ∷ ε24 ∷ ε7 ∷ ε13 ∷ ε14 ∷ []
+t9 = ε2 ∷ ε18 ∷ ε19 ∷ ε20 ∷ ε24 ∷ ε17 ∷ ε21 ∷ ε12 ∷ ε22 ∷ ε23 ∷ ε13 ∷ ε26 ∷ ε8 ∷ ε14 ∷ ε15 ∷ []
 
 abbrev pub t10 : List.List Row.Entry
-t10 = ε2 ∷ ε17 ∷ ε18 ∷ ε22 ∷ ε16 ∷ ε19 ∷ ε12 ∷ ε20 ∷ ε21 ∷ ε8 ∷ ε24 ∷ ε7 ∷ ε13 ∷ ε14 ∷ []
+t10 = ε2 ∷ ε18 ∷ ε19 ∷ ε20 ∷ ε24 ∷ ε17 ∷ ε21 ∷ ε12 ∷ ε22 ∷ ε23 ∷ ε9 ∷ ε26 ∷ ε8 ∷ ε14 ∷ ε15 ∷ []
 
 abbrev pub t11 : List.List Row.Entry
-t11 = ε2 ∷ ε17 ∷ ε18 ∷ ε22 ∷ ε16 ∷ ε19 ∷ ε12 ∷ ε20 ∷ ε21 ∷ ε8 ∷ ε1 ∷ ε7 ∷ ε13 ∷ ε14 ∷ []
+t11 = ε2 ∷ ε18 ∷ ε19 ∷ ε20 ∷ ε24 ∷ ε17 ∷ ε21 ∷ ε12 ∷ ε22 ∷ ε23 ∷ ε9 ∷ ε1 ∷ ε8 ∷ ε14 ∷ ε15 ∷ []
 
 abbrev pub t12 : List.List Row.Entry
-t12 = ε2 ∷ ε17 ∷ ε18 ∷ ε22 ∷ ε16 ∷ ε19 ∷ ε12 ∷ ε5 ∷ ε21 ∷ ε8 ∷ ε1 ∷ ε7 ∷ ε13 ∷ ε14 ∷ []
+t12 = ε2 ∷ ε18 ∷ ε19 ∷ ε20 ∷ ε24 ∷ ε17 ∷ ε21 ∷ ε12 ∷ ε5 ∷ ε23 ∷ ε9 ∷ ε1 ∷ ε8 ∷ ε14 ∷ ε15 ∷ []
 
 abbrev pub t13 : List.List Row.Entry
-t13 = ε2 ∷ ε17 ∷ ε18 ∷ ε22 ∷ ε16 ∷ ε19 ∷ ε12 ∷ ε5 ∷ ε6 ∷ ε8 ∷ ε1 ∷ ε7 ∷ ε13 ∷ ε14 ∷ []
+t13 = ε2 ∷ ε18 ∷ ε19 ∷ ε20 ∷ ε24 ∷ ε17 ∷ ε21 ∷ ε12 ∷ ε5 ∷ ε6 ∷ ε9 ∷ ε1 ∷ ε8 ∷ ε14 ∷ ε15 ∷ []
 
 abbrev pub t14 : List.List Row.Entry
-t14 = ε2 ∷ ε17 ∷ ε18 ∷ ε22 ∷ ε16 ∷ ε19 ∷ ε12 ∷ ε5 ∷ ε6 ∷ ε11 ∷ ε1 ∷ ε7 ∷ ε13 ∷ ε14 ∷ []
+t14 = ε2 ∷ ε18 ∷ ε19 ∷ ε20 ∷ ε24 ∷ ε17 ∷ ε21 ∷ ε12 ∷ ε5 ∷ ε6 ∷ ε13 ∷ ε1 ∷ ε8 ∷ ε14 ∷ ε15 ∷ []
 
 abbrev pub t15 : List.List Row.Entry
-t15 = ε2 ∷ ε17 ∷ ε18 ∷ ε22 ∷ ε16 ∷ ε19 ∷ ε12 ∷ ε5 ∷ ε6 ∷ ε11 ∷ ε1 ∷ ε23 ∷ ε13 ∷ ε14 ∷ []
+t15 = ε2 ∷ ε18 ∷ ε19 ∷ ε20 ∷ ε24 ∷ ε17 ∷ ε21 ∷ ε12 ∷ ε5 ∷ ε6 ∷ ε13 ∷ ε1 ∷ ε25 ∷ ε14 ∷ ε15 ∷ []
 
 abbrev pub t16 : List.List Row.Entry
-t16 = ε2 ∷ ε17 ∷ ε18 ∷ ε22 ∷ ε16 ∷ ε19 ∷ ε12 ∷ ε5 ∷ ε6 ∷ ε11 ∷ ε1 ∷ ε23 ∷ ε9 ∷ ε14 ∷ []
+t16 = ε2 ∷ ε18 ∷ ε19 ∷ ε20 ∷ ε24 ∷ ε17 ∷ ε21 ∷ ε12 ∷ ε5 ∷ ε6 ∷ ε13 ∷ ε1 ∷ ε25 ∷ ε10 ∷ ε15 ∷ []
 
 abbrev pub t17 : List.List Row.Entry
-t17 = ε2 ∷ ε17 ∷ ε18 ∷ ε22 ∷ ε16 ∷ ε19 ∷ ε12 ∷ ε5 ∷ ε6 ∷ ε11 ∷ ε1 ∷ ε23 ∷ ε9 ∷ ε10 ∷ []
+t17 = ε2 ∷ ε18 ∷ ε19 ∷ ε20 ∷ ε24 ∷ ε17 ∷ ε21 ∷ ε12 ∷ ε5 ∷ ε6 ∷ ε13 ∷ ε1 ∷ ε25 ∷ ε10 ∷ ε11 ∷ []
 
 abbrev pub t18 : List.List Row.Entry
-t18 = ε2 ∷ ε17 ∷ ε18 ∷ ε22 ∷ ε16 ∷ ε19 ∷ ε12 ∷ ε5 ∷ ε6 ∷ ε11 ∷ ε1 ∷ ε23 ∷ ε13 ∷ ε10 ∷ []
+t18 = ε2 ∷ ε18 ∷ ε19 ∷ ε20 ∷ ε24 ∷ ε17 ∷ ε21 ∷ ε12 ∷ ε5 ∷ ε6 ∷ ε13 ∷ ε1 ∷ ε25 ∷ ε14 ∷ ε11 ∷ []
 
 abbrev pub t19 : List.List Row.Entry
-t19 = ε2 ∷ ε17 ∷ ε18 ∷ ε22 ∷ ε16 ∷ ε19 ∷ ε12 ∷ ε5 ∷ ε6 ∷ ε11 ∷ ε24 ∷ ε23 ∷ ε13 ∷ ε10 ∷ []
+t19 = ε2 ∷ ε18 ∷ ε19 ∷ ε20 ∷ ε24 ∷ ε17 ∷ ε21 ∷ ε12 ∷ ε5 ∷ ε6 ∷ ε13 ∷ ε26 ∷ ε25 ∷ ε14 ∷ ε11 ∷ []
 
 abbrev pub t20 : List.List Row.Entry
-t20 = ε2 ∷ ε17 ∷ ε18 ∷ ε22 ∷ ε16 ∷ ε19 ∷ ε12 ∷ ε5 ∷ ε6 ∷ ε11 ∷ ε24 ∷ ε7 ∷ ε13 ∷ ε10 ∷ []
+t20 = ε2 ∷ ε18 ∷ ε19 ∷ ε20 ∷ ε24 ∷ ε17 ∷ ε21 ∷ ε12 ∷ ε5 ∷ ε6 ∷ ε13 ∷ ε26 ∷ ε8 ∷ ε14 ∷ ε11 ∷ []
 
 abbrev pub t21 : List.List Row.Entry
-t21 = ε15 ∷ ε17 ∷ ε18 ∷ ε22 ∷ ε16 ∷ ε19 ∷ ε12 ∷ ε5 ∷ ε6 ∷ ε11 ∷ ε24 ∷ ε7 ∷ ε13 ∷ ε14 ∷ []
+t21 = ε16 ∷ ε18 ∷ ε19 ∷ ε20 ∷ ε24 ∷ ε17 ∷ ε21 ∷ ε12 ∷ ε5 ∷ ε6 ∷ ε13 ∷ ε26 ∷ ε8 ∷ ε14 ∷ ε15 ∷ []
 
 abbrev pub t22 : List.List Row.Entry
-t22 = ε15 ∷ ε17 ∷ ε18 ∷ ε22 ∷ ε3 ∷ ε19 ∷ ε12 ∷ ε5 ∷ ε6 ∷ ε11 ∷ ε24 ∷ ε7 ∷ ε13 ∷ ε14 ∷ []
+t22 = ε16 ∷ ε18 ∷ ε19 ∷ ε20 ∷ ε24 ∷ ε3 ∷ ε21 ∷ ε12 ∷ ε5 ∷ ε6 ∷ ε13 ∷ ε26 ∷ ε8 ∷ ε14 ∷ ε15 ∷ []
 
 abbrev pub t23 : List.List Row.Entry
-t23 = ε15 ∷ ε17 ∷ ε18 ∷ ε22 ∷ ε3 ∷ ε4 ∷ ε12 ∷ ε5 ∷ ε6 ∷ ε11 ∷ ε24 ∷ ε7 ∷ ε13 ∷ ε14 ∷ []
+t23 = ε16 ∷ ε18 ∷ ε19 ∷ ε20 ∷ ε24 ∷ ε3 ∷ ε4 ∷ ε12 ∷ ε5 ∷ ε6 ∷ ε13 ∷ ε26 ∷ ε8 ∷ ε14 ∷ ε15 ∷ []
+
+abbrev pub t24 : List.List Row.Entry
+t24 = ε16 ∷ ε18 ∷ ε7 ∷ ε20 ∷ ε24 ∷ ε3 ∷ ε4 ∷ ε12 ∷ ε5 ∷ ε6 ∷ ε13 ∷ ε26 ∷ ε8 ∷ ε14 ∷ ε15 ∷ []
 
 abbrev pub T0 : Row.Cx
 T0 = record { locals = t0; slots = [] }
@@ -449,7 +459,10 @@ abbrev pub T30 : Row.Cx
 T30 = record { locals = t23; slots = [] }
 
 abbrev pub T31 : Row.Cx
-T31 = record { locals = t1; slots = [] }
+T31 = record { locals = t24; slots = [] }
+
+abbrev pub T32 : Row.Cx
+T32 = record { locals = t1; slots = [] }
 
 abbrev pub O0 : Typed.Outs
 O0 = record { next = Option.none; exits = []; returns = Option.some T1 }
@@ -467,109 +480,114 @@ abbrev pub O4 : Typed.Outs
 O4 = Typed.withNext (Option.some T9) O3
 
 abbrev pub InvT-loop : Type 1
-InvT-loop = List.List (in-Record.row .Denot) → Rows'.sc-here (Row.sInt Syntax.w64) .Mod → Rows.arrF in-Record.row 16 0 .Mod → Rows'.sc-here (Row.sInt
-    Syntax.w64) .Mod → Rows.arrF in-Record.row 16 0 .Mod → Rows'.sc-here (Row.sInt Syntax.w64) .Mod → Type 0
+InvT-loop = List.List (in-Record.row .Denot) → Rows'.sc-here (Row.sInt Syntax.w64) .Mod → Rows'.sc-here (Row.sInt Syntax.w64) .Mod → Rows.arrF
+    in-Record.row 16 0 .Mod → Rows'.sc-here (Row.sInt Syntax.w64) .Mod → Rows.arrF in-Record.row 16 0 .Mod → Rows'.sc-here (Row.sInt Syntax.w64) .Mod
+    → Type 0
 
 abbrev pub MeasureT-loop : Type 0
-MeasureT-loop = List.List (in-Record.row .Denot) → Rows'.sc-here (Row.sInt Syntax.w64) .Mod → Rows.arrF in-Record.row 16 0 .Mod → Rows'.sc-here
-    (Row.sInt Syntax.w64) .Mod → Rows.arrF in-Record.row 16 0 .Mod → Rows'.sc-here (Row.sInt Syntax.w64) .Mod → Nat.ℕ
+MeasureT-loop = List.List (in-Record.row .Denot) → Rows'.sc-here (Row.sInt Syntax.w64) .Mod → Rows'.sc-here (Row.sInt Syntax.w64) .Mod → Rows.arrF
+    in-Record.row 16 0 .Mod → Rows'.sc-here (Row.sInt Syntax.w64) .Mod → Rows.arrF in-Record.row 16 0 .Mod → Rows'.sc-here (Row.sInt Syntax.w64) .Mod
+    → Nat.ℕ
 
 module _ (claims· : Claims) where
   abbrev s0 : (bs : List.List Nat.ℕ) → Typed.Both T0 T2
-  s0 = λ bs. Call.callB ps·0 r·0 (claims· .0) (claims· .1) T0 tt 3 [] mirs.dl_record-Record
+  s0 = λ bs. Call.callB ps·0 r·0 (claims· .0) (claims· .1) T0 tt 4 [] mirs.dl_record-Record
 
   abbrev s1 : (bs : List.List Nat.ℕ) → Typed.Mo T2 → Typed.Mo T3
-  s1 = λ bs. Repeat.n-repeat in-Record.row 16 T2 4 λ m. m .1 .1 .1 .0
+  s1 = λ bs. Repeat.n-repeat in-Record.row 16 T2 5 λ m. m .1 .1 .1 .1 .0
 
   abbrev s2 : (bs : List.List Nat.ℕ) → Typed.Mo T3 → Typed.Mo T4
-  s2 = λ bs. AtSlots.n-as-by T3 4 ρ2 λ x. x
+  s2 = λ bs. AtSlots.n-as-by T3 5 ρ2 λ x. x
 
   abbrev s3 : (bs : List.List Nat.ℕ) → Typed.Mo T4 → Typed.Mo T5
-  s3 = λ bs. Scalar.n-room T4 3 mirs.dl_record-Record
+  s3 = λ bs. Scalar.n-room T4 4 mirs.dl_record-Record
 
   abbrev s4 : (bs : List.List Nat.ℕ) → Typed.Mo T5 → Typed.Mo T6
-  s4 = λ bs. Scalar.n-use T5 (Scalar.oInt Syntax.w64 0) 5 ρ3 (Row.sInt Syntax.w64 .of)
+  s4 = λ bs. Scalar.n-use T5 (Scalar.oInt Syntax.w64 0) 6 ρ3 (Row.sInt Syntax.w64 .of)
 
   abbrev s5 : (bs : List.List Nat.ℕ) → Typed.Asks T6 T8
-  s5 = λ bs. Scalar.k-op2 T6 (Syntax.lt Syntax.unsigned) (Scalar.oAt 5 τ0 (Row.valS (Row.sInt Syntax.w64))) (Scalar.oInt Syntax.w64 16) 6 ρ1
-      (Row.sBool .of)
+  s5 = λ bs. Scalar.k-op2 T6 (Syntax.lt Syntax.unsigned) (Scalar.oAt 6 τ0 (Row.valS (Row.sInt Syntax.w64))) (Scalar.oAt 3 τ0 (Row.valS (Row.sInt
+      Syntax.w64))) 7 ρ1 (Row.sBool .of)
 
   abbrev s6 : (bs : List.List Nat.ℕ) → Typed.Mo T8 → Typed.Mo T10
-  s6 = λ bs. Scalar.n-room T8 6 Syntax.tyBool
+  s6 = λ bs. Scalar.n-room T8 7 Syntax.tyBool
 
   abbrev s7 : (bs : List.List Nat.ℕ) → Typed.Mo T8 → Typed.Mo T11
-  s7 = λ bs. Scalar.n-room T8 6 Syntax.tyBool
+  s7 = λ bs. Scalar.n-room T8 7 Syntax.tyBool
 
   abbrev s8 : (bs : List.List Nat.ℕ) → Typed.Asks T9 T12
-  s8 = λ bs. Scalar.k-op2 T9 (Syntax.add Syntax.unsigned) (Scalar.oAt 2 τ0 (Row.valS (Row.sInt Syntax.w64))) (Scalar.oAt 5 τ0 (Row.valS (Row.sInt
-      Syntax.w64))) 7 ρ3 (Row.sInt Syntax.w64 .of)
+  s8 = λ bs. Scalar.k-op2 T9 (Syntax.add Syntax.unsigned) (Scalar.oAt 2 τ0 (Row.valS (Row.sInt Syntax.w64))) (Scalar.oAt 6 τ0 (Row.valS (Row.sInt
+      Syntax.w64))) 8 ρ3 (Row.sInt Syntax.w64 .of)
 
   abbrev s9 : (bs : List.List Nat.ℕ) → Typed.Asks T12 T13
-  s9 = λ bs. Scalar.k-op2 T12 (Syntax.mul Syntax.unsigned) (Scalar.oAt 7 τ0 (Row.valS (Row.sInt Syntax.w64))) (Scalar.oInt Syntax.w64 44) 8 ρ3
+  s9 = λ bs. Scalar.k-op2 T12 (Syntax.mul Syntax.unsigned) (Scalar.oAt 8 τ0 (Row.valS (Row.sInt Syntax.w64))) (Scalar.oInt Syntax.w64 44) 9 ρ3
       (Row.sInt Syntax.w64 .of)
 
   abbrev s10 : (bs : List.List Nat.ℕ) → Typed.Asks T13 T14
-  s10 = λ bs. Scalar.k-op2 T13 Syntax.offset (Scalar.oFld 1 ((Syntax.field 0) ∷ []) τ2 0 Reads.ptrVal) (Scalar.oAt 8 τ0 (Row.valS (Row.sInt
-      Syntax.w64))) 9 ρ0 (Row.sPtr .of)
+  s10 = λ bs. Scalar.k-op2 T13 Syntax.offset (Scalar.oFld 1 ((Syntax.field 0) ∷ []) τ2 0 Reads.ptrVal) (Scalar.oAt 9 τ0 (Row.valS (Row.sInt
+      Syntax.w64))) 10 ρ0 (Row.sPtr .of)
 
   abbrev s11 : (bs : List.List Nat.ℕ) → Typed.Both T14 T15
-  s11 = λ bs. Move'.k-shs-copy-out in-Record.row T14 1 9 10 0 τ2 Row.off in-Record.here (Shared.bySize 44) (λ u. u .1 .1 .1 .1 .1 .1 .1 .0) (λ x. x)
-      in-Record.none (λ x. Unit) (λ x. x) λ x. x
+  s11 = λ bs. Move'.k-shs-copy-out in-Record.row T14 1 10 11 0 τ2 Row.off in-Record.here (Shared.bySize 44) (λ u. u .1 .1 .1 .1 .1 .1 .1 .1 .0) (λ x.
+      x) in-Record.none (λ x. Unit) (λ x. x) λ x. x
 
   abbrev s12 : (bs : List.List Nat.ℕ) → Typed.Mo T15 → Typed.Mo T16
-  s12 = λ bs. Scalar.n-room T15 7 τ0
+  s12 = λ bs. Scalar.n-room T15 8 τ0
 
   abbrev s13 : (bs : List.List Nat.ℕ) → Typed.Mo T16 → Typed.Mo T17
-  s13 = λ bs. Scalar.n-room T16 8 τ0
+  s13 = λ bs. Scalar.n-room T16 9 τ0
 
   abbrev s14 : (bs : List.List Nat.ℕ) → Typed.Mo T17 → Typed.Mo T18
-  s14 = λ bs. Scalar.n-room T17 9 Syntax.tyPtr
+  s14 = λ bs. Scalar.n-room T17 10 Syntax.tyPtr
 
   abbrev s15 : (bs : List.List Nat.ℕ) → Typed.Asks T18 T19
-  s15 = λ bs. Scalar.k-op2 T18 (Syntax.mul Syntax.unsigned) (Scalar.oAt 5 τ0 (Row.valS (Row.sInt Syntax.w64))) (Scalar.oInt Syntax.w64 44) 11 ρ3
+  s15 = λ bs. Scalar.k-op2 T18 (Syntax.mul Syntax.unsigned) (Scalar.oAt 6 τ0 (Row.valS (Row.sInt Syntax.w64))) (Scalar.oInt Syntax.w64 44) 12 ρ3
       (Row.sInt Syntax.w64 .of)
 
   abbrev s16 : (bs : List.List Nat.ℕ) → Typed.Mo T19 → Typed.Mo T20
-  s16 = λ bs. Init.n-addr T19 (Row.hd 0 (Row.tl (Row.tl (Row.tl (Row.tl bs))))) 12
+  s16 = λ bs. Init.n-addr T19 (Row.hd 0 (Row.tl (Row.tl (Row.tl (Row.tl (Row.tl bs)))))) 13
 
   abbrev s17 : (bs : List.List Nat.ℕ) → Typed.Asks T20 T21
-  s17 = λ bs. Scalar.k-op2 T20 Syntax.offset (Scalar.oAt 12 Syntax.tyPtr (Row.valS Row.sPtr)) (Scalar.oAt 11 τ0 (Row.valS (Row.sInt Syntax.w64))) 13
+  s17 = λ bs. Scalar.k-op2 T20 Syntax.offset (Scalar.oAt 13 Syntax.tyPtr (Row.valS Row.sPtr)) (Scalar.oAt 12 τ0 (Row.valS (Row.sInt Syntax.w64))) 14
       ρ0 (Row.sPtr .of)
 
   abbrev s18 : (bs : List.List Nat.ℕ) → Typed.Mo T21 → Typed.Mo T22
-  s18 = λ bs. Scalar.n-room T21 12 Syntax.tyPtr
+  s18 = λ bs. Scalar.n-room T21 13 Syntax.tyPtr
 
   abbrev s19 : (bs : List.List Nat.ℕ) → Typed.Asks T22 T23
-  s19 = λ bs. Move.k-arr-set-from in-Record.row T22 (Row.hd 0 (Row.tl (Row.tl (Row.tl (Row.tl bs))))) 4 13 10 16 0 in-Record.here (Init.scaled
-      in-Record.row .off) (λ u. u .1 .1 .1 .1 .1 .0) (λ x. x) (λ x. x) (λ x. x) λ x. x
+  s19 = λ bs. Move.k-arr-set-from in-Record.row T22 (Row.hd 0 (Row.tl (Row.tl (Row.tl (Row.tl (Row.tl bs)))))) 5 14 11 16 0 in-Record.here
+      (Init.scaled in-Record.row .off) (λ u. u .1 .1 .1 .1 .1 .1 .0) (λ x. x) (λ x. x) (λ x. x) λ x. x
 
   abbrev s20 : (bs : List.List Nat.ℕ) → Typed.Mo T23 → Typed.Mo T24
-  s20 = λ bs. Scalar.n-room T23 10 mirs.dl_record-Record
+  s20 = λ bs. Scalar.n-room T23 11 mirs.dl_record-Record
 
   abbrev s21 : (bs : List.List Nat.ℕ) → Typed.Mo T24 → Typed.Mo T25
-  s21 = λ bs. Scalar.n-room T24 11 τ0
+  s21 = λ bs. Scalar.n-room T24 12 τ0
 
   abbrev s22 : (bs : List.List Nat.ℕ) → Typed.Mo T25 → Typed.Mo T26
-  s22 = λ bs. Scalar.n-room T25 13 Syntax.tyPtr
+  s22 = λ bs. Scalar.n-room T25 14 Syntax.tyPtr
 
   abbrev s23 : (bs : List.List Nat.ℕ) → Typed.Asks T26 T27
-  s23 = λ bs. Scalar.k-op2 T26 (Syntax.add Syntax.unsigned) (Scalar.oAt 5 τ0 (Row.valS (Row.sInt Syntax.w64))) (Scalar.oInt Syntax.w64 1) 5 ρ3
+  s23 = λ bs. Scalar.k-op2 T26 (Syntax.add Syntax.unsigned) (Scalar.oAt 6 τ0 (Row.valS (Row.sInt Syntax.w64))) (Scalar.oInt Syntax.w64 1) 6 ρ3
       (Row.sInt Syntax.w64 .of)
 
   abbrev s24 : (bs : List.List Nat.ℕ) → Typed.Mo T7 → Typed.Mo T28
-  s24 = λ bs. LocalCopy.n-val-copy T7 4 0 (Array'.Array in-Record.row 16) ρ2 ρ2 (λ x. x) (λ x. x) λ x. x
+  s24 = λ bs. LocalCopy.n-val-copy T7 5 0 (Array'.Array in-Record.row 16) ρ2 ρ2 (λ x. x) (λ x. x) λ x. x
 
   abbrev s25 : (bs : List.List Nat.ℕ) → Typed.Mo T28 → Typed.Mo T29
-  s25 = λ bs. Scalar.n-room T28 4 τ1
+  s25 = λ bs. Scalar.n-room T28 5 τ1
 
   abbrev s26 : (bs : List.List Nat.ℕ) → Typed.Mo T29 → Typed.Mo T30
-  s26 = λ bs. Scalar.n-room T29 5 τ0
+  s26 = λ bs. Scalar.n-room T29 6 τ0
 
   abbrev s27 : (bs : List.List Nat.ℕ) → Typed.Mo T30 → Typed.Mo T31
   s27 = λ bs. Scalar.n-room T30 2 τ0
 
+  abbrev s28 : (bs : List.List Nat.ℕ) → Typed.Mo T31 → Typed.Mo T32
+  s28 = λ bs. Scalar.n-room T31 3 τ0
+
   abbrev put0 : Rows.arrF in-Record.row 16 0 .Mod × Rows'.sc-here (Row.sInt Syntax.w64) .Mod → Typed.Mo T6 → Typed.Mo T6
-  put0 = λ vs u. Row.set 5 ε19 (vs .1) (T6 .locals) (Row.set 4 ε16 (vs .0) (T6 .locals) u)
+  put0 = λ vs u. Row.set 6 ε21 (vs .1) (T6 .locals) (Row.set 5 ε17 (vs .0) (T6 .locals) u)
 
   module _ (Pre· : (κs : Lifetimes.Lfts 1) → Kinds.Dens κs ps → Type 0) (Post· : (κs : Lifetimes.Lfts 1) → (a : Kinds.Dens κs ps) → Kinds.Plain 1 ps r
       κs) where
@@ -593,7 +611,7 @@ module _ (claims· : Claims) where
       at3 = λ bs. λ Ψ. Typed.pass T8 T11 (s7 bs) (at2 bs Ψ)
 
       abbrev at4 : (bs : List.List Nat.ℕ) → Typed.TF T8 O4
-      at4 = λ bs. Scalar.Φcond T8 O4 6 (λ x. x) (at1 bs) (at3 bs)
+      at4 = λ bs. Scalar.Φcond T8 O4 7 (λ x. x) (at1 bs) (at3 bs)
 
       abbrev at5 : (bs : List.List Nat.ℕ) → Typed.TF T26 O3
       at5 = λ bs. λ Ψ. Typed.ask (s23 bs) (Typed.atNext O3 Ψ)
@@ -650,48 +668,51 @@ module _ (claims· : Claims) where
       at22 = λ bs. λ Ψ. Typed.ask (s5 bs) (at21 bs Ψ)
 
       abbrev at23 : (bs : List.List Nat.ℕ) → Typed.TF T6 O2
-      at23 = λ bs. Typed.LoopBy T6 O2 put0 (λ u vs. Inv·0 (Row.get 1 (T6 .locals) u .now) (Row.get 2 (T6 .locals) u) (Row.get 4 (T6 .locals) u)
-          (Row.get 5 (T6 .locals) u) (vs .0) (vs .1)) (λ u vs. μ·0 (Row.get 1 (T6 .locals) u .now) (Row.get 2 (T6 .locals) u) (Row.get 4 (T6 .locals)
-          u) (Row.get 5 (T6 .locals) u) (vs .0) (vs .1)) (at22 bs)
+      at23 = λ bs. Typed.LoopBy T6 O2 put0 (λ u vs. Inv·0 (Row.get 1 (T6 .locals) u .now) (Row.get 2 (T6 .locals) u) (Row.get 3 (T6 .locals) u)
+          (Row.get 5 (T6 .locals) u) (Row.get 6 (T6 .locals) u) (vs .0) (vs .1)) (λ u vs. μ·0 (Row.get 1 (T6 .locals) u .now) (Row.get 2 (T6 .locals)
+          u) (Row.get 3 (T6 .locals) u) (Row.get 5 (T6 .locals) u) (Row.get 6 (T6 .locals) u) (vs .0) (vs .1)) (at22 bs)
 
       abbrev at24 : (bs : List.List Nat.ℕ) → Typed.TF T6 O1
       at24 = λ bs. λ Ψ. at23 bs (Typed.inBlock O1 Ψ)
 
-      abbrev at25 : (bs : List.List Nat.ℕ) → Typed.TF T31 O0
+      abbrev at25 : (bs : List.List Nat.ℕ) → Typed.TF T32 O0
       at25 = λ bs. Typed.atRet O0
 
-      abbrev at26 : (bs : List.List Nat.ℕ) → Typed.TF T30 O0
-      at26 = λ bs. λ Ψ. Typed.pass T30 T31 (s27 bs) (at25 bs Ψ)
+      abbrev at26 : (bs : List.List Nat.ℕ) → Typed.TF T31 O0
+      at26 = λ bs. λ Ψ. Typed.pass T31 T32 (s28 bs) (at25 bs Ψ)
 
-      abbrev at27 : (bs : List.List Nat.ℕ) → Typed.TF T29 O0
-      at27 = λ bs. λ Ψ. Typed.pass T29 T30 (s26 bs) (at26 bs Ψ)
+      abbrev at27 : (bs : List.List Nat.ℕ) → Typed.TF T30 O0
+      at27 = λ bs. λ Ψ. Typed.pass T30 T31 (s27 bs) (at26 bs Ψ)
 
-      abbrev at28 : (bs : List.List Nat.ℕ) → Typed.TF T28 O0
-      at28 = λ bs. λ Ψ. Typed.pass T28 T29 (s25 bs) (at27 bs Ψ)
+      abbrev at28 : (bs : List.List Nat.ℕ) → Typed.TF T29 O0
+      at28 = λ bs. λ Ψ. Typed.pass T29 T30 (s26 bs) (at27 bs Ψ)
 
-      abbrev at29 : (bs : List.List Nat.ℕ) → Typed.TF T7 O0
-      at29 = λ bs. λ Ψ. Typed.pass T7 T28 (s24 bs) (at28 bs Ψ)
+      abbrev at29 : (bs : List.List Nat.ℕ) → Typed.TF T28 O0
+      at29 = λ bs. λ Ψ. Typed.pass T28 T29 (s25 bs) (at28 bs Ψ)
 
-      abbrev at30 : (bs : List.List Nat.ℕ) → Typed.TF T6 O0
-      at30 = λ bs. λ Ψ. at24 bs (Typed.wantNext T7 O0 (at29 bs Ψ) Ψ)
+      abbrev at30 : (bs : List.List Nat.ℕ) → Typed.TF T7 O0
+      at30 = λ bs. λ Ψ. Typed.pass T7 T28 (s24 bs) (at29 bs Ψ)
 
-      abbrev at31 : (bs : List.List Nat.ℕ) → Typed.TF T5 O0
-      at31 = λ bs. λ Ψ. Typed.pass T5 T6 (s4 bs) (at30 bs Ψ)
+      abbrev at31 : (bs : List.List Nat.ℕ) → Typed.TF T6 O0
+      at31 = λ bs. λ Ψ. at24 bs (Typed.wantNext T7 O0 (at30 bs Ψ) Ψ)
 
-      abbrev at32 : (bs : List.List Nat.ℕ) → Typed.TF T4 O0
-      at32 = λ bs. λ Ψ. Typed.pass T4 T5 (s3 bs) (at31 bs Ψ)
+      abbrev at32 : (bs : List.List Nat.ℕ) → Typed.TF T5 O0
+      at32 = λ bs. λ Ψ. Typed.pass T5 T6 (s4 bs) (at31 bs Ψ)
 
-      abbrev at33 : (bs : List.List Nat.ℕ) → Typed.TF T3 O0
-      at33 = λ bs. λ Ψ. Typed.pass T3 T4 (s2 bs) (at32 bs Ψ)
+      abbrev at33 : (bs : List.List Nat.ℕ) → Typed.TF T4 O0
+      at33 = λ bs. λ Ψ. Typed.pass T4 T5 (s3 bs) (at32 bs Ψ)
 
-      abbrev at34 : (bs : List.List Nat.ℕ) → Typed.TF T2 O0
-      at34 = λ bs. λ Ψ. Typed.pass T2 T3 (s1 bs) (at33 bs Ψ)
+      abbrev at34 : (bs : List.List Nat.ℕ) → Typed.TF T3 O0
+      at34 = λ bs. λ Ψ. Typed.pass T3 T4 (s2 bs) (at33 bs Ψ)
 
-      abbrev at35 : (bs : List.List Nat.ℕ) → Typed.TF T0 O0
-      at35 = λ bs. λ Ψ. Typed.both (s0 bs) (at34 bs Ψ)
+      abbrev at35 : (bs : List.List Nat.ℕ) → Typed.TF T2 O0
+      at35 = λ bs. λ Ψ. Typed.pass T2 T3 (s1 bs) (at34 bs Ψ)
+
+      abbrev at36 : (bs : List.List Nat.ℕ) → Typed.TF T0 O0
+      at36 = λ bs. λ Ψ. Typed.both (s0 bs) (at35 bs Ψ)
 
       abbrev pub Φ : (bs : List.List Nat.ℕ) → Typed.TF T0 O0
-      Φ = λ bs. at35 bs
+      Φ = λ bs. at36 bs
 
       module _ {M : Type 1} (𝓤 : URA.URA M) (H : Wp.Heap 𝓤) (A : Atoms.Atoms 𝓤) (W : Kit.Given 𝓤 H A) (𝓣 : Wp.Tables 𝓤 H) where
         abbrev Knowns : Type 1
@@ -792,7 +813,10 @@ module _ (claims· : Claims) where
         G30 = record { locals = t23; slots = (Row.lease (κs .0) (qs .0)) ∷ [] }
 
         abbrev G31 : Row.Cx
-        G31 = record { locals = t1; slots = (Row.lease (κs .0) (qs .0)) ∷ [] }
+        G31 = record { locals = t24; slots = (Row.lease (κs .0) (qs .0)) ∷ [] }
+
+        abbrev G32 : Row.Cx
+        G32 = record { locals = t1; slots = (Row.lease (κs .0) (qs .0)) ∷ [] }
 
         abbrev Δ0 : Typed.Outs
         Δ0 = record { next = Option.none; exits = []; returns = Option.some G1 }
@@ -818,88 +842,89 @@ module _ (claims· : Claims) where
           d0 = Typed.t-skip 𝓤 H A W 𝓣 E Δ4 tt
 
           d1 : Typed.Typed 𝓤 H A 𝓣 E G8 b4 Δ4 (at1 bs)
-          d1 = Typed.g-pre 𝓤 H A W 𝓣 E G8 G10 b4 Δ4 (Typed.pass T8 T10 (s6 bs)) (at0 bs) (Scalar.g-room 𝓤 H A W E G8 6 Syntax.tyBool (Scalar.room-sc 𝓤
+          d1 = Typed.g-pre 𝓤 H A W 𝓣 E G8 G10 b4 Δ4 (Typed.pass T8 T10 (s6 bs)) (at0 bs) (Scalar.g-room 𝓤 H A W E G8 7 Syntax.tyBool (Scalar.room-sc 𝓤
               H A W Row.sBool)) d0
 
           d2 : Typed.Typed 𝓤 H A 𝓣 E G11 b5 Δ4 (at2 bs)
           d2 = Typed.t-exit 𝓤 H A W 𝓣 E 1 Δ4 tt
 
           d3 : Typed.Typed 𝓤 H A 𝓣 E G8 b5 Δ4 (at3 bs)
-          d3 = Typed.g-pre 𝓤 H A W 𝓣 E G8 G11 b5 Δ4 (Typed.pass T8 T11 (s7 bs)) (at2 bs) (Scalar.g-room 𝓤 H A W E G8 6 Syntax.tyBool (Scalar.room-sc 𝓤
+          d3 = Typed.g-pre 𝓤 H A W 𝓣 E G8 G11 b5 Δ4 (Typed.pass T8 T11 (s7 bs)) (at2 bs) (Scalar.g-room 𝓤 H A W E G8 7 Syntax.tyBool (Scalar.room-sc 𝓤
               H A W Row.sBool)) d2
 
           d4 : Typed.Typed 𝓤 H A 𝓣 E G8 b6 Δ4 (at4 bs)
-          d4 = Scalar.t-cond 𝓤 H A W E 𝓣 G8 6 (λ x. x) b4 b5 Δ4 (at1 bs) (at3 bs) (Scalar.reads-sc 𝓤 H A W Row.sBool) Path'.refl d1 d3
+          d4 = Scalar.t-cond 𝓤 H A W E 𝓣 G8 7 (λ x. x) b4 b5 Δ4 (at1 bs) (at3 bs) (Scalar.reads-sc 𝓤 H A W Row.sBool) Path'.refl d1 d3
 
           d5 : Typed.Typed 𝓤 H A 𝓣 E G26 b15 Δ3 (at5 bs)
-          d5 = Typed.s-typed 𝓤 H A W 𝓣 E G26 b15 Δ3 (Typed.ask (s23 bs)) tt (Scalar.t-op2 𝓤 H A W E 𝓣 G26 (Syntax.add Syntax.unsigned) (Scalar.oAt 5
-              τ0 (Row.valS (Row.sInt Syntax.w64))) (Scalar.oInt Syntax.w64 1) 5 ρ3 τ0 (Row.valS (Row.sInt Syntax.w64)) (Row.sInt Syntax.w64 .of)
+          d5 = Typed.s-typed 𝓤 H A W 𝓣 E G26 b15 Δ3 (Typed.ask (s23 bs)) tt (Scalar.t-op2 𝓤 H A W E 𝓣 G26 (Syntax.add Syntax.unsigned) (Scalar.oAt 6
+              τ0 (Row.valS (Row.sInt Syntax.w64))) (Scalar.oInt Syntax.w64 1) 6 ρ3 τ0 (Row.valS (Row.sInt Syntax.w64)) (Row.sInt Syntax.w64 .of)
               (Scalar.reads-sc 𝓤 H A W (Row.sInt Syntax.w64), Path'.refl) tt (Scalar.room-sc 𝓤 H A W (Row.sInt Syntax.w64)) (Scalar.holds-sc 𝓤 H A W
               (Row.sInt Syntax.w64)) Path'.refl (λ u. Path'.refl) λ u. tt)
 
           d6 : Typed.Typed 𝓤 H A 𝓣 E G25 b15 Δ3 (at6 bs)
-          d6 = Typed.g-pre 𝓤 H A W 𝓣 E G25 G26 b15 Δ3 (Typed.pass T25 T26 (s22 bs)) (at5 bs) (Scalar.g-room 𝓤 H A W E G25 13 Syntax.tyPtr
+          d6 = Typed.g-pre 𝓤 H A W 𝓣 E G25 G26 b15 Δ3 (Typed.pass T25 T26 (s22 bs)) (at5 bs) (Scalar.g-room 𝓤 H A W E G25 14 Syntax.tyPtr
               (Scalar.room-sc 𝓤 H A W Row.sPtr)) d5
 
           d7 : Typed.Typed 𝓤 H A 𝓣 E G24 b15 Δ3 (at7 bs)
-          d7 = Typed.g-pre 𝓤 H A W 𝓣 E G24 G25 b15 Δ3 (Typed.pass T24 T25 (s21 bs)) (at6 bs) (Scalar.g-room 𝓤 H A W E G24 11 τ0 (Scalar.room-sc 𝓤 H A
+          d7 = Typed.g-pre 𝓤 H A W 𝓣 E G24 G25 b15 Δ3 (Typed.pass T24 T25 (s21 bs)) (at6 bs) (Scalar.g-room 𝓤 H A W E G24 12 τ0 (Scalar.room-sc 𝓤 H A
               W (Row.sInt Syntax.w64))) d6
 
           d8 : Typed.Typed 𝓤 H A 𝓣 E G23 b15 Δ3 (at8 bs)
-          d8 = Typed.g-pre 𝓤 H A W 𝓣 E G23 G24 b15 Δ3 (Typed.pass T23 T24 (s20 bs)) (at7 bs) (Scalar.g-room 𝓤 H A W E G23 10 mirs.dl_record-Record
+          d8 = Typed.g-pre 𝓤 H A W 𝓣 E G23 G24 b15 Δ3 (Typed.pass T23 T24 (s20 bs)) (at7 bs) (Scalar.g-room 𝓤 H A W E G23 11 mirs.dl_record-Record
               (local.room-whole 𝓤 H A W in-Record.row mirs.dl_record-Record Path'.refl)) d7
 
           d9 : Typed.Typed 𝓤 H A 𝓣 E G22 b16 Δ3 (at9 bs)
           d9 = Typed.s-seq 𝓤 H A W 𝓣 E G22 G23 b14 b15 Δ3 (Typed.ask (s19 bs)) (at8 bs) (Move.t-arr-set-from 𝓤 H A W E 𝓣 in-Record.row Path'.refl
-              (Init.scaled in-Record.row) (λ ρ. Unit) G22 4 13 10 16 0 mirs.dl_record-Record mirs.dl_record-Record in-Record.here (λ x. x) (λ x. x) (λ
-              x. x) (λ x. x) (λ u. u .1 .1 .1 .1 .1 .0) Path'.refl Path'.refl (Own.told-none 𝓤 H A (G22 .slots)) (Reads.as-is 𝓤 H A ρ2) (Reads.as-is 𝓤
-              H A ρ0) (Yields.yields-copy 𝓤 H A W (λ ρ. Unit) in-Record.row Path'.refl (in-Record.copies .copy 𝓤 H A W) in-Record.here (λ x. x) (λ x.
-              x) (λ ρ told. local.mem-whole 𝓤 H A W in-Record.row ρ) λ ρ told. local.whole-mem 𝓤 H A W in-Record.row ρ) Path'.refl Path'.refl) d8
+              (Init.scaled in-Record.row) (λ ρ. Unit) G22 5 14 11 16 0 mirs.dl_record-Record mirs.dl_record-Record in-Record.here (λ x. x) (λ x. x) (λ
+              x. x) (λ x. x) (λ u. u .1 .1 .1 .1 .1 .1 .0) Path'.refl Path'.refl (Own.told-none 𝓤 H A (G22 .slots)) (Reads.as-is 𝓤 H A ρ2)
+              (Reads.as-is 𝓤 H A ρ0) (Yields.yields-copy 𝓤 H A W (λ ρ. Unit) in-Record.row Path'.refl (in-Record.copies .copy 𝓤 H A W) in-Record.here
+              (λ x. x) (λ x. x) (λ ρ told. local.mem-whole 𝓤 H A W in-Record.row ρ) λ ρ told. local.whole-mem 𝓤 H A W in-Record.row ρ) Path'.refl
+              Path'.refl) d8
 
           d10 : Typed.Typed 𝓤 H A 𝓣 E G21 b16 Δ3 (at10 bs)
-          d10 = Typed.g-pre 𝓤 H A W 𝓣 E G21 G22 b16 Δ3 (Typed.pass T21 T22 (s18 bs)) (at9 bs) (Scalar.g-room 𝓤 H A W E G21 12 Syntax.tyPtr
+          d10 = Typed.g-pre 𝓤 H A W 𝓣 E G21 G22 b16 Δ3 (Typed.pass T21 T22 (s18 bs)) (at9 bs) (Scalar.g-room 𝓤 H A W E G21 13 Syntax.tyPtr
               (Scalar.room-sc 𝓤 H A W Row.sPtr)) d9
 
           d11 : Typed.Typed 𝓤 H A 𝓣 E G20 b17 Δ3 (at11 bs)
-          d11 = Typed.s-seq 𝓤 H A W 𝓣 E G20 G21 b13 b16 Δ3 (Typed.ask (s17 bs)) (at10 bs) (Scalar.t-op2 𝓤 H A W E 𝓣 G20 Syntax.offset (Scalar.oAt 12
-              Syntax.tyPtr (Row.valS Row.sPtr)) (Scalar.oAt 11 τ0 (Row.valS (Row.sInt Syntax.w64))) 13 ρ0 Syntax.tyPtr (Row.valS Row.sPtr) (Row.sPtr
+          d11 = Typed.s-seq 𝓤 H A W 𝓣 E G20 G21 b13 b16 Δ3 (Typed.ask (s17 bs)) (at10 bs) (Scalar.t-op2 𝓤 H A W E 𝓣 G20 Syntax.offset (Scalar.oAt 13
+              Syntax.tyPtr (Row.valS Row.sPtr)) (Scalar.oAt 12 τ0 (Row.valS (Row.sInt Syntax.w64))) 14 ρ0 Syntax.tyPtr (Row.valS Row.sPtr) (Row.sPtr
               .of) (Scalar.reads-sc 𝓤 H A W Row.sPtr, Path'.refl) (Scalar.reads-sc 𝓤 H A W (Row.sInt Syntax.w64), Path'.refl) (Reads.room-gone 𝓤 H A
               Syntax.tyPtr) (Scalar.holds-sc 𝓤 H A W Row.sPtr) Path'.refl (λ u. Path'.refl) λ u. tt) d10
 
           d12 : Typed.Typed 𝓤 H A 𝓣 E G19 b18 Δ3 (at12 bs)
-          d12 = Typed.s-seq 𝓤 H A W 𝓣 E G19 G20 b12 b17 Δ3 (Typed.pass T19 T20 (s16 bs)) (at11 bs) (Init.t-addr 𝓤 H A W E 𝓣 G19 12 4 (Reads.room-gone
+          d12 = Typed.s-seq 𝓤 H A W 𝓣 E G19 G20 b12 b17 Δ3 (Typed.pass T19 T20 (s16 bs)) (at11 bs) (Init.t-addr 𝓤 H A W E 𝓣 G19 13 5 (Reads.room-gone
               𝓤 H A Syntax.tyPtr) Path'.refl) d11
 
           d13 : Typed.Typed 𝓤 H A 𝓣 E G18 b19 Δ3 (at13 bs)
           d13 = Typed.s-seq 𝓤 H A W 𝓣 E G18 G19 b11 b18 Δ3 (Typed.ask (s15 bs)) (at12 bs) (Scalar.t-op2 𝓤 H A W E 𝓣 G18 (Syntax.mul Syntax.unsigned)
-              (Scalar.oAt 5 τ0 (Row.valS (Row.sInt Syntax.w64))) (Scalar.oInt Syntax.w64 44) 11 ρ3 τ0 (Row.valS (Row.sInt Syntax.w64)) (Row.sInt
+              (Scalar.oAt 6 τ0 (Row.valS (Row.sInt Syntax.w64))) (Scalar.oInt Syntax.w64 44) 12 ρ3 τ0 (Row.valS (Row.sInt Syntax.w64)) (Row.sInt
               Syntax.w64 .of) (Scalar.reads-sc 𝓤 H A W (Row.sInt Syntax.w64), Path'.refl) tt (Reads.room-gone 𝓤 H A τ0) (Scalar.holds-sc 𝓤 H A W
               (Row.sInt Syntax.w64)) Path'.refl (λ u. Path'.refl) λ u. tt) d12
 
           d14 : Typed.Typed 𝓤 H A 𝓣 E G17 b19 Δ3 (at14 bs)
-          d14 = Typed.g-pre 𝓤 H A W 𝓣 E G17 G18 b19 Δ3 (Typed.pass T17 T18 (s14 bs)) (at13 bs) (Scalar.g-room 𝓤 H A W E G17 9 Syntax.tyPtr
+          d14 = Typed.g-pre 𝓤 H A W 𝓣 E G17 G18 b19 Δ3 (Typed.pass T17 T18 (s14 bs)) (at13 bs) (Scalar.g-room 𝓤 H A W E G17 10 Syntax.tyPtr
               (Scalar.room-sc 𝓤 H A W Row.sPtr)) d13
 
           d15 : Typed.Typed 𝓤 H A 𝓣 E G16 b19 Δ3 (at15 bs)
-          d15 = Typed.g-pre 𝓤 H A W 𝓣 E G16 G17 b19 Δ3 (Typed.pass T16 T17 (s13 bs)) (at14 bs) (Scalar.g-room 𝓤 H A W E G16 8 τ0 (Scalar.room-sc 𝓤 H A
+          d15 = Typed.g-pre 𝓤 H A W 𝓣 E G16 G17 b19 Δ3 (Typed.pass T16 T17 (s13 bs)) (at14 bs) (Scalar.g-room 𝓤 H A W E G16 9 τ0 (Scalar.room-sc 𝓤 H A
               W (Row.sInt Syntax.w64))) d14
 
           d16 : Typed.Typed 𝓤 H A 𝓣 E G15 b19 Δ3 (at16 bs)
-          d16 = Typed.g-pre 𝓤 H A W 𝓣 E G15 G16 b19 Δ3 (Typed.pass T15 T16 (s12 bs)) (at15 bs) (Scalar.g-room 𝓤 H A W E G15 7 τ0 (Scalar.room-sc 𝓤 H A
+          d16 = Typed.g-pre 𝓤 H A W 𝓣 E G15 G16 b19 Δ3 (Typed.pass T15 T16 (s12 bs)) (at15 bs) (Scalar.g-room 𝓤 H A W E G15 8 τ0 (Scalar.room-sc 𝓤 H A
               W (Row.sInt Syntax.w64))) d15
 
           d17 : Typed.Typed 𝓤 H A 𝓣 E G14 b20 Δ3 (at17 bs)
           d17 = Typed.s-seq 𝓤 H A W 𝓣 E G14 G15 b10 b19 Δ3 (Typed.both (s11 bs)) (at16 bs) (Move'.t-shs-copy-out 𝓤 H A W E in-Record.row 𝓣 Path'.refl
-              (in-Record.copies .copy 𝓤 H A W) (Copies.halved 𝓤 H A W in-Record.copies) (λ ρ. Unit) G14 1 9 10 0 τ2 (Row.lease (κs .0) (qs .0))
-              mirs.dl_record-Record mirs.dl_record-Record in-Record.here (Shared.bySize 44) (λ u. u .1 .1 .1 .1 .1 .1 .1 .0) (λ x. x) in-Record.none
-              (λ x. Unit) (λ x. x) (λ x. x) (λ i o. Elements.at-mul o 44 i) Path'.refl Path'.refl (Own.told-none 𝓤 H A (G14 .slots))
+              (in-Record.copies .copy 𝓤 H A W) (Copies.halved 𝓤 H A W in-Record.copies) (λ ρ. Unit) G14 1 10 11 0 τ2 (Row.lease (κs .0) (qs .0))
+              mirs.dl_record-Record mirs.dl_record-Record in-Record.here (Shared.bySize 44) (λ u. u .1 .1 .1 .1 .1 .1 .1 .1 .0) (λ x. x)
+              in-Record.none (λ x. Unit) (λ x. x) (λ x. x) (λ i o. Elements.at-mul o 44 i) Path'.refl Path'.refl (Own.told-none 𝓤 H A (G14 .slots))
               (DerefMove.learns-nothing 𝓤 H A in-Record.row) (Reads.as-is 𝓤 H A (Rows'.sslice in-Record.row τ2 0)) (Reads.as-is 𝓤 H A ρ0)
               (Reads.room-gone 𝓤 H A mirs.dl_record-Record) (Yields.makes-mem 𝓤 H A W (λ ρ. Unit) in-Record.row Path'.refl in-Record.here (λ x. x) λ ρ
               told. local.whole-mem 𝓤 H A W in-Record.row ρ) Path'.refl tt Path'.refl Path'.refl) d16
 
           d18 : Typed.Typed 𝓤 H A 𝓣 E G13 b21 Δ3 (at18 bs)
           d18 = Typed.s-seq 𝓤 H A W 𝓣 E G13 G14 b9 b20 Δ3 (Typed.ask (s10 bs)) (at17 bs) (Scalar.t-op2 𝓤 H A W E 𝓣 G13 Syntax.offset (Scalar.oFld 1
-              ((Syntax.field 0) ∷ []) τ2 0 Reads.ptrVal) (Scalar.oAt 8 τ0 (Row.valS (Row.sInt Syntax.w64))) 9 ρ0 Syntax.tyPtr (Row.valS Row.sPtr)
+              ((Syntax.field 0) ∷ []) τ2 0 Reads.ptrVal) (Scalar.oAt 9 τ0 (Row.valS (Row.sInt Syntax.w64))) 10 ρ0 Syntax.tyPtr (Row.valS Row.sPtr)
               (Row.sPtr .of) (Shared.reads-sslice-ptr 𝓤 H A W in-Record.row τ2 0 0 Path'.refl, Path'.refl) (
                 Scalar.reads-sc 𝓤 H A W (Row.sInt
                     Syntax.w64),
@@ -909,13 +934,13 @@ module _ (claims· : Claims) where
 
           d19 : Typed.Typed 𝓤 H A 𝓣 E G12 b22 Δ3 (at19 bs)
           d19 = Typed.s-seq 𝓤 H A W 𝓣 E G12 G13 b8 b21 Δ3 (Typed.ask (s9 bs)) (at18 bs) (Scalar.t-op2 𝓤 H A W E 𝓣 G12 (Syntax.mul Syntax.unsigned)
-              (Scalar.oAt 7 τ0 (Row.valS (Row.sInt Syntax.w64))) (Scalar.oInt Syntax.w64 44) 8 ρ3 τ0 (Row.valS (Row.sInt Syntax.w64)) (Row.sInt
+              (Scalar.oAt 8 τ0 (Row.valS (Row.sInt Syntax.w64))) (Scalar.oInt Syntax.w64 44) 9 ρ3 τ0 (Row.valS (Row.sInt Syntax.w64)) (Row.sInt
               Syntax.w64 .of) (Scalar.reads-sc 𝓤 H A W (Row.sInt Syntax.w64), Path'.refl) tt (Reads.room-gone 𝓤 H A τ0) (Scalar.holds-sc 𝓤 H A W
               (Row.sInt Syntax.w64)) Path'.refl (λ u. Path'.refl) λ u. tt) d18
 
           d20 : Typed.Typed 𝓤 H A 𝓣 E G9 b23 Δ3 (at20 bs)
           d20 = Typed.s-seq 𝓤 H A W 𝓣 E G9 G12 b7 b22 Δ3 (Typed.ask (s8 bs)) (at19 bs) (Scalar.t-op2 𝓤 H A W E 𝓣 G9 (Syntax.add Syntax.unsigned)
-              (Scalar.oAt 2 τ0 (Row.valS (Row.sInt Syntax.w64))) (Scalar.oAt 5 τ0 (Row.valS (Row.sInt Syntax.w64))) 7 ρ3 τ0 (Row.valS (Row.sInt
+              (Scalar.oAt 2 τ0 (Row.valS (Row.sInt Syntax.w64))) (Scalar.oAt 6 τ0 (Row.valS (Row.sInt Syntax.w64))) 8 ρ3 τ0 (Row.valS (Row.sInt
               Syntax.w64)) (Row.sInt Syntax.w64 .of) (Scalar.reads-sc 𝓤 H A W (Row.sInt Syntax.w64), Path'.refl) (
                 Scalar.reads-sc 𝓤 H A W (Row.sInt
                     Syntax.w64),
@@ -928,85 +953,93 @@ module _ (claims· : Claims) where
 
           d22 : Typed.Typed 𝓤 H A 𝓣 E G6 b25 Δ3 (at22 bs)
           d22 = Typed.s-seq 𝓤 H A W 𝓣 E G6 G8 b3 b24 Δ3 (Typed.ask (s5 bs)) (at21 bs) (Scalar.t-op2 𝓤 H A W E 𝓣 G6 (Syntax.lt Syntax.unsigned)
-              (Scalar.oAt 5 τ0 (Row.valS (Row.sInt Syntax.w64))) (Scalar.oInt Syntax.w64 16) 6 ρ1 Syntax.tyBool (Row.valS Row.sBool) (Row.sBool .of)
-              (Scalar.reads-sc 𝓤 H A W (Row.sInt Syntax.w64), Path'.refl) tt (Reads.room-gone 𝓤 H A Syntax.tyBool) (Scalar.holds-sc 𝓤 H A W Row.sBool)
-              Path'.refl (λ u. Path'.refl) λ u. tt) d21
+              (Scalar.oAt 6 τ0 (Row.valS (Row.sInt Syntax.w64))) (Scalar.oAt 3 τ0 (Row.valS (Row.sInt Syntax.w64))) 7 ρ1 Syntax.tyBool (Row.valS
+              Row.sBool) (Row.sBool .of) (Scalar.reads-sc 𝓤 H A W (Row.sInt Syntax.w64), Path'.refl) (
+                Scalar.reads-sc 𝓤 H A W (Row.sInt Syntax.w64),
+                Path'.refl,
+              ) (Reads.room-gone 𝓤 H A Syntax.tyBool) (Scalar.holds-sc 𝓤 H A W Row.sBool) Path'.refl (λ u. Path'.refl) λ u. tt) d21
 
           d23 : Typed.Typed 𝓤 H A 𝓣 E G6 b26 Δ2 (at23 bs)
-          d23 = Typed.t-loop-by 𝓤 H A W 𝓣 E G6 b25 Δ2 put0 (λ u vs. Inv·0 (Row.get 1 (T6 .locals) u .now) (Row.get 2 (T6 .locals) u) (Row.get 4 (T6
-              .locals) u) (Row.get 5 (T6 .locals) u) (vs .0) (vs .1)) (λ u vs. μ·0 (Row.get 1 (T6 .locals) u .now) (Row.get 2 (T6 .locals) u) (Row.get
-              4 (T6 .locals) u) (Row.get 5 (T6 .locals) u) (vs .0) (vs .1)) (at22 bs) d22
+          d23 = Typed.t-loop-by 𝓤 H A W 𝓣 E G6 b25 Δ2 put0 (λ u vs. Inv·0 (Row.get 1 (T6 .locals) u .now) (Row.get 2 (T6 .locals) u) (Row.get 3 (T6
+              .locals) u) (Row.get 5 (T6 .locals) u) (Row.get 6 (T6 .locals) u) (vs .0) (vs .1)) (λ u vs. μ·0 (Row.get 1 (T6 .locals) u .now) (Row.get
+              2 (T6 .locals) u) (Row.get 3 (T6 .locals) u) (Row.get 5 (T6 .locals) u) (Row.get 6 (T6 .locals) u) (vs .0) (vs .1)) (at22 bs) d22
 
           d24 : Typed.Typed 𝓤 H A 𝓣 E G6 b27 Δ1 (at24 bs)
           d24 = Typed.t-block 𝓤 H A W 𝓣 E G6 b26 Δ1 (at23 bs) d23
 
-          d25 : Typed.Typed 𝓤 H A 𝓣 E G31 b29 Δ0 (at25 bs)
+          d25 : Typed.Typed 𝓤 H A 𝓣 E G32 b29 Δ0 (at25 bs)
           d25 = Typed.t-return 𝓤 H A W 𝓣 E Δ0 tt
 
-          d26 : Typed.Typed 𝓤 H A 𝓣 E G30 b29 Δ0 (at26 bs)
-          d26 = Typed.g-pre 𝓤 H A W 𝓣 E G30 G31 b29 Δ0 (Typed.pass T30 T31 (s27 bs)) (at25 bs) (Scalar.g-room 𝓤 H A W E G30 2 τ0 (Scalar.room-sc 𝓤 H A
+          d26 : Typed.Typed 𝓤 H A 𝓣 E G31 b29 Δ0 (at26 bs)
+          d26 = Typed.g-pre 𝓤 H A W 𝓣 E G31 G32 b29 Δ0 (Typed.pass T31 T32 (s28 bs)) (at25 bs) (Scalar.g-room 𝓤 H A W E G31 3 τ0 (Scalar.room-sc 𝓤 H A
               W (Row.sInt Syntax.w64))) d25
 
-          d27 : Typed.Typed 𝓤 H A 𝓣 E G29 b29 Δ0 (at27 bs)
-          d27 = Typed.g-pre 𝓤 H A W 𝓣 E G29 G30 b29 Δ0 (Typed.pass T29 T30 (s26 bs)) (at26 bs) (Scalar.g-room 𝓤 H A W E G29 5 τ0 (Scalar.room-sc 𝓤 H A
+          d27 : Typed.Typed 𝓤 H A 𝓣 E G30 b29 Δ0 (at27 bs)
+          d27 = Typed.g-pre 𝓤 H A W 𝓣 E G30 G31 b29 Δ0 (Typed.pass T30 T31 (s27 bs)) (at26 bs) (Scalar.g-room 𝓤 H A W E G30 2 τ0 (Scalar.room-sc 𝓤 H A
               W (Row.sInt Syntax.w64))) d26
 
-          d28 : Typed.Typed 𝓤 H A 𝓣 E G28 b29 Δ0 (at28 bs)
-          d28 = Typed.g-pre 𝓤 H A W 𝓣 E G28 G29 b29 Δ0 (Typed.pass T28 T29 (s25 bs)) (at27 bs) (Scalar.g-room 𝓤 H A W E G28 4 τ1 (Init.room-arr 𝓤 H A
-              W in-Record.row 16 0 16 Path'.refl)) d27
+          d28 : Typed.Typed 𝓤 H A 𝓣 E G29 b29 Δ0 (at28 bs)
+          d28 = Typed.g-pre 𝓤 H A W 𝓣 E G29 G30 b29 Δ0 (Typed.pass T29 T30 (s26 bs)) (at27 bs) (Scalar.g-room 𝓤 H A W E G29 6 τ0 (Scalar.room-sc 𝓤 H A
+              W (Row.sInt Syntax.w64))) d27
 
-          d29 : Typed.Typed 𝓤 H A 𝓣 E G7 b30 Δ0 (at29 bs)
-          d29 = Typed.s-seq 𝓤 H A W 𝓣 E G7 G28 b28 b29 Δ0 (Typed.pass T7 T28 (s24 bs)) (at28 bs) (LocalCopy.t-val-copy 𝓤 H A W E 𝓣 (λ ρ. Unit) G7 4 0
+          d29 : Typed.Typed 𝓤 H A 𝓣 E G28 b29 Δ0 (at29 bs)
+          d29 = Typed.g-pre 𝓤 H A W 𝓣 E G28 G29 b29 Δ0 (Typed.pass T28 T29 (s25 bs)) (at28 bs) (Scalar.g-room 𝓤 H A W E G28 5 τ1 (Init.room-arr 𝓤 H A
+              W in-Record.row 16 0 16 Path'.refl)) d28
+
+          d30 : Typed.Typed 𝓤 H A 𝓣 E G7 b30 Δ0 (at30 bs)
+          d30 = Typed.s-seq 𝓤 H A W 𝓣 E G7 G28 b28 b29 Δ0 (Typed.pass T7 T28 (s24 bs)) (at29 bs) (LocalCopy.t-val-copy 𝓤 H A W E 𝓣 (λ ρ. Unit) G7 5 0
               (Array'.Array in-Record.row 16) τ1 τ1 ρ2 ρ2 (λ x. x) (λ x. x) (λ x. x) Path'.refl (Own.told-none 𝓤 H A (G7 .slots)) (Yields.yields-copy
               𝓤 H A W (λ ρ. Unit) (Array'.Array in-Record.row 16) Path'.refl (Copies.cArr in-Record.row in-Record.copies 16 .copy 𝓤 H A W) ρ2 (λ x. x)
               (λ x. x) (λ ρ told. Whole.mem-arr 𝓤 H A W in-Record.row 16 ρ) λ ρ told. Whole.arr-mem 𝓤 H A W in-Record.row 16 tt ρ) (Reads.room-gone 𝓤
               H A τ1) (Yields.makes-mem 𝓤 H A W (λ ρ. Unit) (Array'.Array in-Record.row 16) Path'.refl ρ2 (λ x. x) λ ρ told. Whole.arr-mem 𝓤 H A W
-              in-Record.row 16 tt ρ) Path'.refl Path'.refl) d28
+              in-Record.row 16 tt ρ) Path'.refl Path'.refl) d29
 
-          d30 : Typed.Typed 𝓤 H A 𝓣 E G6 b31 Δ0 (at30 bs)
-          d30 = Typed.t-seq 𝓤 H A W 𝓣 E G6 G7 b27 b30 Δ0 (at24 bs) (at29 bs) d24 d29
+          d31 : Typed.Typed 𝓤 H A 𝓣 E G6 b31 Δ0 (at31 bs)
+          d31 = Typed.t-seq 𝓤 H A W 𝓣 E G6 G7 b27 b30 Δ0 (at24 bs) (at30 bs) d24 d30
 
-          d31 : Typed.Typed 𝓤 H A 𝓣 E G5 b32 Δ0 (at31 bs)
-          d31 = Typed.s-seq 𝓤 H A W 𝓣 E G5 G6 b2 b31 Δ0 (Typed.pass T5 T6 (s4 bs)) (at30 bs) (Scalar.t-use 𝓤 H A W E 𝓣 G5 (Scalar.oInt Syntax.w64 0) 5
+          d32 : Typed.Typed 𝓤 H A 𝓣 E G5 b32 Δ0 (at32 bs)
+          d32 = Typed.s-seq 𝓤 H A W 𝓣 E G5 G6 b2 b31 Δ0 (Typed.pass T5 T6 (s4 bs)) (at31 bs) (Scalar.t-use 𝓤 H A W E 𝓣 G5 (Scalar.oInt Syntax.w64 0) 6
               ρ3 τ0 (Row.valS (Row.sInt Syntax.w64)) (Row.sInt Syntax.w64 .of) tt (Reads.room-gone 𝓤 H A τ0) (Scalar.holds-sc 𝓤 H A W (Row.sInt
-              Syntax.w64)) Path'.refl (λ u. Path'.refl) λ u. tt) d30
+              Syntax.w64)) Path'.refl (λ u. Path'.refl) λ u. tt) d31
 
-          d32 : Typed.Typed 𝓤 H A 𝓣 E G4 b32 Δ0 (at32 bs)
-          d32 = Typed.g-pre 𝓤 H A W 𝓣 E G4 G5 b32 Δ0 (Typed.pass T4 T5 (s3 bs)) (at31 bs) (Scalar.g-room 𝓤 H A W E G4 3 mirs.dl_record-Record
-              (local.room-whole 𝓤 H A W in-Record.row mirs.dl_record-Record Path'.refl)) d31
+          d33 : Typed.Typed 𝓤 H A 𝓣 E G4 b32 Δ0 (at33 bs)
+          d33 = Typed.g-pre 𝓤 H A W 𝓣 E G4 G5 b32 Δ0 (Typed.pass T4 T5 (s3 bs)) (at32 bs) (Scalar.g-room 𝓤 H A W E G4 4 mirs.dl_record-Record
+              (local.room-whole 𝓤 H A W in-Record.row mirs.dl_record-Record Path'.refl)) d32
 
-          d33 : Typed.Typed 𝓤 H A 𝓣 E G3 b32 Δ0 (at33 bs)
-          d33 = Typed.g-pre 𝓤 H A W 𝓣 E G3 G4 b32 Δ0 (Typed.pass T3 T4 (s2 bs)) (at32 bs) (AtSlots.g-as-by 𝓤 H A W E (λ ρ. Unit) G3 4 ρ2 (λ x. x)
-              (Own.told-none 𝓤 H A (G3 .slots)) λ ρ told. Repeat.whole-arr 𝓤 H A W in-Record.row 16 tt ρ) d32
+          d34 : Typed.Typed 𝓤 H A 𝓣 E G3 b32 Δ0 (at34 bs)
+          d34 = Typed.g-pre 𝓤 H A W 𝓣 E G3 G4 b32 Δ0 (Typed.pass T3 T4 (s2 bs)) (at33 bs) (AtSlots.g-as-by 𝓤 H A W E (λ ρ. Unit) G3 5 ρ2 (λ x. x)
+              (Own.told-none 𝓤 H A (G3 .slots)) λ ρ told. Repeat.whole-arr 𝓤 H A W in-Record.row 16 tt ρ) d33
 
-          d34 : Typed.Typed 𝓤 H A 𝓣 E G2 b33 Δ0 (at34 bs)
-          d34 = Typed.s-seq 𝓤 H A W 𝓣 E G2 G3 b1 b32 Δ0 (Typed.pass T2 T3 (s1 bs)) (at33 bs) (Repeat.t-repeat-by 𝓤 H A W E 𝓣 in-Record.row
-              (in-Record.lawful 𝓤 H A W) (in-Record.copies .copy 𝓤 H A W) 16 G2 4 (Scalar.oAt 3 mirs.dl_record-Record λ x. Steps.only
-              (in-Record.copies .vals x)) (λ m. m .1 .1 .1 .0) (λ ρ. Unit) (Reads.room-gone 𝓤 H A τ1) (in-Record.reads 𝓤 H A W, Path'.refl) Path'.refl
-              (Own.told-none 𝓤 H A (G2 .slots)) λ ρ m pf wa. Gives.elem-local 𝓤 H A W E ρ in-Record.row (λ x. Steps.only (in-Record.copies .vals x))
-              (in-Record.copies .tells) (Row.out 4 (G2 .locals)) m (λ ρ. Unit) pf 3 mirs.dl_record-Record (λ x. x) (Yields.yields-copy 𝓤 H A W (λ ρ.
-              Unit) in-Record.row Path'.refl (in-Record.copies .copy 𝓤 H A W) in-Record.here (λ x. x) (λ x. x) (λ ρ told. local.mem-whole 𝓤 H A W
-              in-Record.row ρ) λ ρ told. local.whole-mem 𝓤 H A W in-Record.row ρ)) d33
+          d35 : Typed.Typed 𝓤 H A 𝓣 E G2 b33 Δ0 (at35 bs)
+          d35 = Typed.s-seq 𝓤 H A W 𝓣 E G2 G3 b1 b32 Δ0 (Typed.pass T2 T3 (s1 bs)) (at34 bs) (Repeat.t-repeat-by 𝓤 H A W E 𝓣 in-Record.row
+              (in-Record.lawful 𝓤 H A W) (in-Record.copies .copy 𝓤 H A W) 16 G2 5 (Scalar.oAt 4 mirs.dl_record-Record λ x. Steps.only
+              (in-Record.copies .vals x)) (λ m. m .1 .1 .1 .1 .0) (λ ρ. Unit) (Reads.room-gone 𝓤 H A τ1) (in-Record.reads 𝓤 H A W, Path'.refl)
+              Path'.refl (Own.told-none 𝓤 H A (G2 .slots)) λ ρ m pf wa. Gives.elem-local 𝓤 H A W E ρ in-Record.row (λ x. Steps.only (in-Record.copies
+              .vals x)) (in-Record.copies .tells) (Row.out 5 (G2 .locals)) m (λ ρ. Unit) pf 4 mirs.dl_record-Record (λ x. x) (Yields.yields-copy 𝓤 H A
+              W (λ ρ. Unit) in-Record.row Path'.refl (in-Record.copies .copy 𝓤 H A W) in-Record.here (λ x. x) (λ x. x) (λ ρ told. local.mem-whole 𝓤 H
+              A W in-Record.row ρ) λ ρ told. local.whole-mem 𝓤 H A W in-Record.row ρ)) d34
 
-          d35 : Typed.Typed 𝓤 H A 𝓣 E G0 b34 Δ0 (at35 bs)
-          d35 = Typed.s-seq 𝓤 H A W 𝓣 E G0 G2 b0 b33 Δ0 (Typed.both (s0 bs)) (at34 bs) (Plain.t-call-plain 𝓤 H A W 𝓣 0 ps·0 r·0 (claims· .0) (claims·
-              .1) "bs_sched::empty_record" known E (λ pos β. β) G0 tt 3 [] (Call.sub-id 𝓤 H A W (G0 .slots)) tt (Reads.room-gone 𝓤 H A
-              mirs.dl_record-Record) tt Path'.refl) d34
+          d36 : Typed.Typed 𝓤 H A 𝓣 E G0 b34 Δ0 (at36 bs)
+          d36 = Typed.s-seq 𝓤 H A W 𝓣 E G0 G2 b0 b33 Δ0 (Typed.both (s0 bs)) (at35 bs) (Plain.t-call-plain 𝓤 H A W 𝓣 0 ps·0 r·0 (claims· .0) (claims·
+              .1) "bs_sched::empty_record" known E (λ pos β. β) G0 tt 4 [] (Call.sub-id 𝓤 H A W (G0 .slots)) tt (Reads.room-gone 𝓤 H A
+              mirs.dl_record-Record) tt Path'.refl) d35
 
           pub typed : Typed.Typed 𝓤 H A 𝓣 E (Function.Γin 1 ps r xs m κs qs) b34 (Function.Δret 1 ps r xs m κs qs) (Φ bs)
-          typed = d35
+          typed = d36
 
       module _ (κs : Lifetimes.Lfts 1) where
         pub record Args : Type 0 where
           pub queue : Kinds.Den {n = 1} κs (ShrSlice.pShrS in-Record.row 0 tt)
           pub first : Kinds.Den {n = 1} κs (Num.pNum Syntax.w64)
+          pub n : Kinds.Den {n = 1} κs (Num.pNum Syntax.w64)
 
         abbrev pub dens : (a : Args) → Kinds.Dens κs ps
-        dens = λ a. (a .queue, (a .first, tt))
+        dens = λ a. (a .queue, (a .first, (a .n, tt)))
 
         module _ (args· : Args) where
           pub record Ranges : Type 0 where
             pub first : Val.Fits Syntax.w64 (args· .first)
+            pub n : Val.Fits Syntax.w64 (args· .n)
 
       abbrev pub m0 : (κs : Lifetimes.Lfts 1) → (args : Args κs) → (blocks : List.List Nat.ℕ) → Typed.Mo T0
       m0 = λ κs args blocks. (tt, Enter.partsP κs 1 ps xs (dens κs args))
@@ -1059,7 +1092,7 @@ module _ (claims· : Claims) where
       m5 = λ before given. s4 (before .blocks) (m4 before given)
 
       abbrev W1 : (before : Start) → (given : s0 (before .blocks) .gives (m0 (before .κs) (before .args) (before .blocks))) → Typed.Want O1
-      W1 = λ before given. Typed.wantNext T7 O0 (at29 (before .blocks) (W0 (before .κs) (before .args) (before .blocks))) (W0 (before .κs) (before
+      W1 = λ before given. Typed.wantNext T7 O0 (at30 (before .blocks) (W0 (before .κs) (before .args) (before .blocks))) (W0 (before .κs) (before
           .args) (before .blocks))
 
       abbrev W2 : (before : Start) → (given : s0 (before .blocks) .gives (m0 (before .κs) (before .args) (before .blocks))) → Typed.Want O2
@@ -1067,21 +1100,22 @@ module _ (claims· : Claims) where
 
       abbrev pub Need-loop-holds : Type 0
       Need-loop-holds = (c : After-empty-record) → Inv·0 (Row.get 1 (T6 .locals) (m5 (c .before) (After-empty-record·gave c)) .now) (Row.get 2 (T6
-          .locals) (m5 (c .before) (After-empty-record·gave c))) (Row.get 4 (T6 .locals) (m5 (c .before) (After-empty-record·gave c))) (Row.get 5 (T6
-          .locals) (m5 (c .before) (After-empty-record·gave c))) (Row.get 4 (T6 .locals) (m5 (c .before) (After-empty-record·gave c))) (Row.get 5 (T6
-          .locals) (m5 (c .before) (After-empty-record·gave c)))
+          .locals) (m5 (c .before) (After-empty-record·gave c))) (Row.get 3 (T6 .locals) (m5 (c .before) (After-empty-record·gave c))) (Row.get 5 (T6
+          .locals) (m5 (c .before) (After-empty-record·gave c))) (Row.get 6 (T6 .locals) (m5 (c .before) (After-empty-record·gave c))) (Row.get 5 (T6
+          .locals) (m5 (c .before) (After-empty-record·gave c))) (Row.get 6 (T6 .locals) (m5 (c .before) (After-empty-record·gave c)))
 
       abbrev pub m6 : (before : After-empty-record) → (records : Rows.arrF in-Record.row 16 0 .Mod) → (i : Rows'.sc-here (Row.sInt Syntax.w64) .Mod) →
           Typed.Mo T6
-      m6 = λ before records i. Row.set 5 ε19 i (Row.setRow 4 ε16 (T6 .locals)) (Row.set 4 ε16 records (T6 .locals) (m5 (before .before)
+      m6 = λ before records i. Row.set 6 ε21 i (Row.setRow 5 ε17 (T6 .locals)) (Row.set 5 ε17 records (T6 .locals) (m5 (before .before)
           (After-empty-record·gave before)))
 
       abbrev W3 : (before : After-empty-record) → (records : Rows.arrF in-Record.row 16 0 .Mod) → (i : Rows'.sc-here (Row.sInt Syntax.w64) .Mod) →
           Typed.Want O3
       W3 = λ before records i. Typed.inLoop T6 O2 (Typed.Round T6 O2 put0 (λ u vs. Inv·0 (Row.get 1 (T6 .locals) u .now) (Row.get 2 (T6 .locals) u)
-          (Row.get 4 (T6 .locals) u) (Row.get 5 (T6 .locals) u) (vs .0) (vs .1)) (λ u vs. μ·0 (Row.get 1 (T6 .locals) u .now) (Row.get 2 (T6 .locals)
-          u) (Row.get 4 (T6 .locals) u) (Row.get 5 (T6 .locals) u) (vs .0) (vs .1)) (at22 (before .before .blocks)) (m5 (before .before)
-          (After-empty-record·gave before)) (records, i)) (W2 (before .before) (After-empty-record·gave before))
+          (Row.get 3 (T6 .locals) u) (Row.get 5 (T6 .locals) u) (Row.get 6 (T6 .locals) u) (vs .0) (vs .1)) (λ u vs. μ·0 (Row.get 1 (T6 .locals) u
+          .now) (Row.get 2 (T6 .locals) u) (Row.get 3 (T6 .locals) u) (Row.get 5 (T6 .locals) u) (Row.get 6 (T6 .locals) u) (vs .0) (vs .1)) (at22
+          (before .before .blocks)) (m5 (before .before) (After-empty-record·gave before)) (records, i)) (W2 (before .before) (After-empty-record·gave
+          before))
 
       abbrev pub m7 : (before : After-empty-record) → (records : Rows.arrF in-Record.row 16 0 .Mod) → (i : Rows'.sc-here (Row.sInt Syntax.w64) .Mod) →
           Typed.Mo T8
@@ -1096,8 +1130,9 @@ module _ (claims· : Claims) where
           pub records : Rows.arrF in-Record.row 16 0 .Mod
           pub i : Rows'.sc-here (Row.sInt Syntax.w64) .Mod
           pub inv : Inv·0 (Row.get 1 (T6 .locals) (m5 (before· .before) (After-empty-record·gave before·)) .now) (Row.get 2 (T6 .locals) (m5 (before·
-              .before) (After-empty-record·gave before·))) (Row.get 4 (T6 .locals) (m5 (before· .before) (After-empty-record·gave before·))) (Row.get
-              5 (T6 .locals) (m5 (before· .before) (After-empty-record·gave before·))) records i
+              .before) (After-empty-record·gave before·))) (Row.get 3 (T6 .locals) (m5 (before· .before) (After-empty-record·gave before·))) (Row.get
+              5 (T6 .locals) (m5 (before· .before) (After-empty-record·gave before·))) (Row.get 6 (T6 .locals) (m5 (before· .before)
+              (After-empty-record·gave before·))) records i
 
       pub record At-loop : Type 0 where
         pub before : After-empty-record
@@ -1105,7 +1140,8 @@ module _ (claims· : Claims) where
 
       module _ (before· : At-loop) where
         pub record In-loop·own : Type 0 where
-          pub taken : Nat._<_ (Row.get 5 (T6 .locals) (m6 (before· .before) (before· .loop .records) (before· .loop .i))) 16
+          pub taken : Nat._<_ (Row.get 6 (T6 .locals) (m6 (before· .before) (before· .loop .records) (before· .loop .i))) (Row.get 3 (T6 .locals) (m6
+              (before· .before) (before· .loop .records) (before· .loop .i)))
 
       pub record In-loop : Type 0 where
         pub before : At-loop
@@ -1116,7 +1152,8 @@ module _ (claims· : Claims) where
 
       module _ (before· : At-loop) where
         pub record After-loop·own : Type 0 where
-          pub left : Nat._≤_ 16 (Row.get 5 (T6 .locals) (m6 (before· .before) (before· .loop .records) (before· .loop .i)))
+          pub left : Nat._≤_ (Row.get 3 (T6 .locals) (m6 (before· .before) (before· .loop .records) (before· .loop .i))) (Row.get 6 (T6 .locals) (m6
+              (before· .before) (before· .loop .records) (before· .loop .i)))
 
       pub record After-loop : Type 0 where
         pub before : At-loop
@@ -1141,7 +1178,7 @@ module _ (claims· : Claims) where
       m12 = λ before. s10 (before .before .before .blocks) .next (m11 before)
 
       abbrev pub Need-shared-slice-copy-out-records : Type 0
-      Need-shared-slice-copy-out-records = (c : In-loop) → Shared.InSlice T14 1 9 (λ x. x) (λ u. u .1 .1 .1 .1 .1 .1 .1 .0) (m12 (c .before))
+      Need-shared-slice-copy-out-records = (c : In-loop) → Shared.InSlice T14 1 10 (λ x. x) (λ u. u .1 .1 .1 .1 .1 .1 .1 .1 .0) (m12 (c .before))
 
       abbrev pub m13 : (before : In-loop) → (given : s11 (before .before .before .before .blocks) .gives (m12 (before .before))) → Typed.Mo T15
       m13 = λ before given. s11 (before .before .before .before .blocks) .next (m12 (before .before)) given
@@ -1179,7 +1216,7 @@ module _ (claims· : Claims) where
       m20 = λ before given. s18 (before .before .before .before .blocks) (m19 before given)
 
       abbrev pub Need-array-set-from-records : Type 0
-      Need-array-set-from-records = (c : After-records) → Asked.InArray T22 (λ u. u .1 .1 .1 .1 .1 .0) 16 (m20 (c .before) (c .records .given))
+      Need-array-set-from-records = (c : After-records) → Asked.InArray T22 (λ u. u .1 .1 .1 .1 .1 .1 .0) 16 (m20 (c .before) (c .records .given))
 
       abbrev pub m21 : (before : In-loop) → (given : s11 (before .before .before .before .blocks) .gives (m12 (before .before))) → Typed.Mo T23
       m21 = λ before given. s19 (before .before .before .before .blocks) .next (m20 before given)
@@ -1202,20 +1239,23 @@ module _ (claims· : Claims) where
       abbrev pub Need-loop-less : Type 0
       Need-loop-less = (c : After-records) → Nat._<_ (μ·0 (Row.get 1 (T6 .locals) (m5 (c .before .before .before .before) (After-empty-record·gave (c
           .before .before .before))) .now) (Row.get 2 (T6 .locals) (m5 (c .before .before .before .before) (After-empty-record·gave (c .before .before
-          .before)))) (Row.get 4 (T6 .locals) (m5 (c .before .before .before .before) (After-empty-record·gave (c .before .before .before)))) (Row.get
-          5 (T6 .locals) (m5 (c .before .before .before .before) (After-empty-record·gave (c .before .before .before)))) (Row.get 4 (T6 .locals) (m25
-          (c .before) (c .records .given))) (Row.get 5 (T6 .locals) (m25 (c .before) (c .records .given)))) (μ·0 (Row.get 1 (T6 .locals) (m5 (c
-          .before .before .before .before) (After-empty-record·gave (c .before .before .before))) .now) (Row.get 2 (T6 .locals) (m5 (c .before .before
-          .before .before) (After-empty-record·gave (c .before .before .before)))) (Row.get 4 (T6 .locals) (m5 (c .before .before .before .before)
+          .before)))) (Row.get 3 (T6 .locals) (m5 (c .before .before .before .before) (After-empty-record·gave (c .before .before .before)))) (Row.get
+          5 (T6 .locals) (m5 (c .before .before .before .before) (After-empty-record·gave (c .before .before .before)))) (Row.get 6 (T6 .locals) (m5
+          (c .before .before .before .before) (After-empty-record·gave (c .before .before .before)))) (Row.get 5 (T6 .locals) (m25 (c .before) (c
+          .records .given))) (Row.get 6 (T6 .locals) (m25 (c .before) (c .records .given)))) (μ·0 (Row.get 1 (T6 .locals) (m5 (c .before .before
+          .before .before) (After-empty-record·gave (c .before .before .before))) .now) (Row.get 2 (T6 .locals) (m5 (c .before .before .before
+          .before) (After-empty-record·gave (c .before .before .before)))) (Row.get 3 (T6 .locals) (m5 (c .before .before .before .before)
           (After-empty-record·gave (c .before .before .before)))) (Row.get 5 (T6 .locals) (m5 (c .before .before .before .before)
+          (After-empty-record·gave (c .before .before .before)))) (Row.get 6 (T6 .locals) (m5 (c .before .before .before .before)
           (After-empty-record·gave (c .before .before .before)))) (c .before .before .loop .records) (c .before .before .loop .i))
 
       abbrev pub Need-loop-again : Type 0
       Need-loop-again = (c : After-records) → Inv·0 (Row.get 1 (T6 .locals) (m5 (c .before .before .before .before) (After-empty-record·gave (c
           .before .before .before))) .now) (Row.get 2 (T6 .locals) (m5 (c .before .before .before .before) (After-empty-record·gave (c .before .before
-          .before)))) (Row.get 4 (T6 .locals) (m5 (c .before .before .before .before) (After-empty-record·gave (c .before .before .before)))) (Row.get
-          5 (T6 .locals) (m5 (c .before .before .before .before) (After-empty-record·gave (c .before .before .before)))) (Row.get 4 (T6 .locals) (m25
-          (c .before) (c .records .given))) (Row.get 5 (T6 .locals) (m25 (c .before) (c .records .given)))
+          .before)))) (Row.get 3 (T6 .locals) (m5 (c .before .before .before .before) (After-empty-record·gave (c .before .before .before)))) (Row.get
+          5 (T6 .locals) (m5 (c .before .before .before .before) (After-empty-record·gave (c .before .before .before)))) (Row.get 6 (T6 .locals) (m5
+          (c .before .before .before .before) (After-empty-record·gave (c .before .before .before)))) (Row.get 5 (T6 .locals) (m25 (c .before) (c
+          .records .given))) (Row.get 6 (T6 .locals) (m25 (c .before) (c .records .given)))
 
       abbrev pub m26 : (before : At-loop) → Typed.Mo T28
       m26 = λ before. s24 (before .before .before .blocks) (m9 before)
@@ -1229,19 +1269,22 @@ module _ (claims· : Claims) where
       abbrev pub m29 : (before : At-loop) → Typed.Mo T31
       m29 = λ before. s27 (before .before .before .blocks) (m28 before)
 
+      abbrev pub m30 : (before : At-loop) → Typed.Mo T32
+      m30 = λ before. s28 (before .before .before .blocks) (m29 before)
+
       abbrev pub Need-returns : Type 0
       Need-returns = (c : After-loop) → Post· (c .before .before .before .κs) (dens (c .before .before .before .κs) (c .before .before .before .args))
-          (Function.resV r (c .before .before .before .κs) (m29 (c .before) .0)) (Clauses.atExit (Kinds.endedOf 1 ps r) (c .before .before .before
+          (Function.resV r (c .before .before .before .κs) (m30 (c .before) .0)) (Clauses.atExit (Kinds.endedOf 1 ps r) (c .before .before .before
           .κs) (dens (c .before .before .before .κs) (c .before .before .before .args)) (Enter.lastsP (c .before .before .before .κs) 1 ps xs (dens (c
-          .before .before .before .κs) (c .before .before .before .args)) (m29 (c .before) .1)))
+          .before .before .before .κs) (c .before .before .before .args)) (m30 (c .before) .1)))
 
       module _ (empty-record-requires : Need-empty-record-requires) (loop-holds : Need-loop-holds) (add-records : Need-add-records) (mul-records :
           Need-mul-records) (shared-slice-copy-out-records : Need-shared-slice-copy-out-records) (mul-records-2 : Need-mul-records-2)
           (array-set-from-records : Need-array-set-from-records) (add-i : Need-add-i) (loop-less : Need-loop-less) (loop-again : Need-loop-again)
           (returns : Need-returns) where
-        lay5 : (c : After-loop) → at29 (c .before .before .before .blocks) (W0 (c .before .before .before .κs) (c .before .before .before .args) (c
+        lay5 : (c : After-loop) → at30 (c .before .before .before .blocks) (W0 (c .before .before .before .κs) (c .before .before .before .args) (c
             .before .before .before .blocks)) (m9 (c .before))
-        lay5 = λ c. ((Path'.refl, (tt, tt)), returns record { before = c .before; loop-test = c .loop-test })
+        lay5 = λ c. ((Path'.refl, (tt, (tt, tt))), returns record { before = c .before; loop-test = c .loop-test })
 
         lay4 : (c : In-loop) → at20 (c .before .before .before .blocks) (W3 (c .before .before) (c .before .loop .records) (c .before .loop .i)) (m8
             (c .before))
@@ -1277,38 +1320,37 @@ module _ (claims· : Claims) where
                         },
                         (
                           μ·0 (Row.get 1 (T6 .locals) (m5 (c .before .before .before) (After-empty-record·gave (c .before .before))) .now) (Row.get 2 (T6
-                              .locals) (m5 (c .before .before .before) (After-empty-record·gave (c .before .before)))) (Row.get 4 (T6 .locals) (m5 (c .before .before
+                              .locals) (m5 (c .before .before .before) (After-empty-record·gave (c .before .before)))) (Row.get 3 (T6 .locals) (m5 (c .before .before
                               .before) (After-empty-record·gave (c .before .before)))) (Row.get 5 (T6 .locals) (m5 (c .before .before .before) (After-empty-record·gave
-                              (c .before .before)))) (Row.get 4 (T6 .locals) (m25 record { before = c .before; loop-test = c .loop-test } g)) (Row.get 5 (T6 .locals)
-                              (m25 record { before = c .before; loop-test = c .loop-test } g)),
+                              (c .before .before)))) (Row.get 6 (T6 .locals) (m5 (c .before .before .before) (After-empty-record·gave (c .before .before)))) (Row.get 5
+                              (T6 .locals) (m25 record { before = c .before; loop-test = c .loop-test } g)) (Row.get 6 (T6 .locals) (m25 record {
+                                before = c .before;
+                                loop-test = c .loop-test;
+                              } g)),
                           loop-less record {
-                            before = record {
-                              before = c .before;
-                              loop-test = c
-                                  .loop-test;
+                            before = record { before = c .before; loop-test = c .loop-test };
+                            records = record {
+                              given = g;
                             };
-                            records = record { given = g };
                           },
                           (
                             (
-                              Row.get 4 (T6 .locals) (m25 record { before = c .before; loop-test = c .loop-test } g),
                               Row.get 5 (T6 .locals) (m25 record { before = c .before; loop-test = c .loop-test } g),
+                              Row.get 6 (T6 .locals) (m25
+                                  record { before = c .before; loop-test = c .loop-test } g),
                             ),
-                            Path'.refl {a = m25 record {
-                              before = c .before;
-                              loop-test = c .loop-test;
-                            } g},
-                            loop-again record {
-                              before = record { before = c .before; loop-test = c .loop-test };
-                              records = record {
-                                given = g;
-                              };
-                            },
-                            Path'.refl {a = μ·0 (Row.get 1 (T6 .locals) (m5 (c .before .before .before) (After-empty-record·gave (c .before .before)))
-                                .now) (Row.get 2 (T6 .locals) (m5 (c .before .before .before) (After-empty-record·gave (c .before .before)))) (Row.get 4 (T6 .locals) (m5
-                                (c .before .before .before) (After-empty-record·gave (c .before .before)))) (Row.get 5 (T6 .locals) (m5 (c .before .before .before)
-                                (After-empty-record·gave (c .before .before)))) (Row.get 4 (T6 .locals) (m25 record { before = c .before; loop-test = c .loop-test } g))
-                                (Row.get 5 (T6 .locals) (m25 record { before = c .before; loop-test = c .loop-test } g))},
+                            Path'.refl {a = m25 record { before = c .before; loop-test = c .loop-test }
+                                g},
+                            loop-again record { before = record { before = c .before; loop-test = c .loop-test }; records = record { given = g } },
+                            Path'.refl {a
+                                = μ·0 (Row.get 1 (T6 .locals) (m5 (c .before .before .before) (After-empty-record·gave (c .before .before))) .now) (Row.get 2 (T6 .locals)
+                                (m5 (c .before .before .before) (After-empty-record·gave (c .before .before)))) (Row.get 3 (T6 .locals) (m5 (c .before .before .before)
+                                (After-empty-record·gave (c .before .before)))) (Row.get 5 (T6 .locals) (m5 (c .before .before .before) (After-empty-record·gave (c
+                                .before .before)))) (Row.get 6 (T6 .locals) (m5 (c .before .before .before) (After-empty-record·gave (c .before .before)))) (Row.get 5 (T6
+                                .locals) (m25 record { before = c .before; loop-test = c .loop-test } g)) (Row.get 6 (T6 .locals) (m25 record {
+                                  before = c .before;
+                                  loop-test = c .loop-test;
+                                } g))},
                           ),
                         ),
                       ),
@@ -1328,13 +1370,13 @@ module _ (claims· : Claims) where
             .before .before) (c .before .loop .records) (c .before .loop .i))
         lay2 = λ c. lay4 record { before = c .before; loop-test = c .loop-test }
 
-        lay1 : (c : After-empty-record) → at34 (c .before .blocks) (W0 (c .before .κs) (c .before .args) (c .before .blocks)) (m1 (c .before)
+        lay1 : (c : After-empty-record) → at35 (c .before .blocks) (W0 (c .before .κs) (c .before .args) (c .before .blocks)) (m1 (c .before)
             (After-empty-record·gave c))
         lay1 = λ c. (
           (
             (
-              Row.get 4 (T6 .locals) (m5 (c .before) (After-empty-record·gave c)),
-              Row.get 5 (T6 .locals) (m5 (c .before)
+              Row.get 5 (T6 .locals) (m5 (c .before) (After-empty-record·gave c)),
+              Row.get 6 (T6 .locals) (m5 (c .before)
                   (After-empty-record·gave c)),
             ),
             Path'.refl {a = m5 (c .before) (After-empty-record·gave c)},
@@ -1356,33 +1398,27 @@ module _ (claims· : Claims) where
                 };
                 loop-test = record {
                   taken = Tests.ltb-true
-                      (Row.get 5 (T6 .locals) (m6 record { before = c .before; empty-record = c .empty-record } (vs .0) (vs .1))) 16 taken;
+                      (Row.get 6 (T6 .locals) (m6 record { before = c .before; empty-record = c .empty-record } (vs .0) (vs .1))) (Row.get 3 (T6 .locals) (m6
+                      record { before = c .before; empty-record = c .empty-record } (vs .0) (vs .1))) taken;
                 };
               },
-              λ left. lay3
-                  record {
-                    before = record {
-                      before = record { before = c .before; empty-record = c .empty-record };
-                      loop = record {
-                        records = vs .0;
-                        i = vs
-                            .1;
-                        inv = inv;
-                      };
+              λ left. lay3 record {
+                before = record {
+                  before
+                      = record { before = c .before; empty-record = c .empty-record };
+                  loop = record { records = vs .0; i = vs .1; inv = inv };
+                };
+                loop-test =
+                    record {
+                      left = Tests.ltb-false (Row.get 6 (T6 .locals) (m6 record { before = c .before; empty-record = c .empty-record } (vs .0) (vs
+                          .1))) (Row.get 3 (T6 .locals) (m6 record { before = c .before; empty-record = c .empty-record } (vs .0) (vs .1))) left;
                     };
-                    loop-test = record {
-                      left = Tests.ltb-false (Row.get 5 (T6 .locals) (m6 record {
-                        before = c .before;
-                        empty-record = c
-                            .empty-record;
-                      } (vs .0) (vs .1))) 16 left;
-                    };
-                  },
+              },
             ),
           ),
         )
 
-        pub laid : (c : Start) → at35 (c .blocks) (W0 (c .κs) (c .args) (c .blocks)) (m0 (c .κs) (c .args) (c .blocks))
+        pub laid : (c : Start) → at36 (c .blocks) (W0 (c .κs) (c .args) (c .blocks)) (m0 (c .κs) (c .args) (c .blocks))
         laid = λ c. (
           empty-record-requires c,
           λ g. lay1 record {
@@ -1397,12 +1433,10 @@ module _ (claims· : Claims) where
               m κs qs a (Post· κs a)) (Function.init 1 ps r xs m κs qs a)
           asked = λ a good pre bs. laid record {
             κs = κs;
-            args = record { queue = a .0; first = a .1 .0 };
+            args = record { queue = a .0; first = a .1 .0; n = a .1 .1 .0 };
             blocks = bs;
             good = good;
-            fits = record {
-              first = record { fits = good .1 .0 .1 };
-            };
+            fits = record { first = record { fits = good .1 .0 .1 }; n = record { fits = good .1 .1 .0 .1 } };
             pre = pre;
           }
 

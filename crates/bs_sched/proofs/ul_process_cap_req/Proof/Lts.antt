@@ -2,21 +2,21 @@
 -- `bs_sched::ul_process_cap_req`: the derivation of its body.
 use Prim.Native.Nat
 use Rattle.bs_sched.proofs.Mirs as mirs
+use Rattle.bs_sched.proofs.Passage
+use Rattle.bs_sched.proofs.Passage.Laws as Laws'6
 use Rattle.bs_sched.proofs.Rows_Record as in-Record
-use Rattle.bs_sched.proofs.Verdict
-use Rattle.bs_sched.proofs.Verdict.Laws as Laws'6
 use Rattle.dl_record.proofs.Record
 use Rattle.dl_record.proofs.Record.Laws
 use Rattle.questions.proofs.Refusal
 use Rattle.questions.proofs.Refusal.Laws as Laws'
-use Rattle.request_core.proofs.RequestPlan
-use Rattle.request_core.proofs.RequestPlan.Laws as Laws''
 use Rattle.sched_core.proofs.RequestAnswer
-use Rattle.sched_core.proofs.RequestAnswer.Laws as Laws'3
+use Rattle.sched_core.proofs.RequestAnswer.Laws as Laws''
 use Rattle.sched_core.proofs.RequestReply
-use Rattle.sched_core.proofs.RequestReply.Laws as Laws'4
+use Rattle.sched_core.proofs.RequestReply.Laws as Laws'3
 use Rattle.sched_core.proofs.Station
-use Rattle.sched_core.proofs.Station.Laws as Laws'5
+use Rattle.sched_core.proofs.Station.Laws as Laws'4
+use Rattle.sched_request.proofs.RequestPlan
+use Rattle.sched_request.proofs.RequestPlan.Laws as Laws'5
 use borrow.Author.Called
 use borrow.Enum.Known
 use borrow.Enum.Make
@@ -126,7 +126,7 @@ abbrev ρ2 : Row.Row
 ρ2 = Rows.whole (Declared'.row Record.the-type)
 
 abbrev ρ3 : Row.Row
-ρ3 = Rows.whole (Declared.row Verdict.the-type)
+ρ3 = Rows.whole (Declared.row Passage.the-type)
 
 abbrev ρ4 : Row.Row
 ρ4 = Rows.whole (Declared'.row Station.the-type)
@@ -165,7 +165,7 @@ abbrev ε8 : Row.Entry
 ε8 = (20, Rows.any-gone τ7)
 
 abbrev ε9 : Row.Entry
-ε9 = (8, Rows.any-gone mirs.Verdict)
+ε9 = (8, Rows.any-gone mirs.Passage)
 
 abbrev ε10 : Row.Entry
 ε10 = (18, Rows.any-gone Syntax.tyUnit)
@@ -207,10 +207,10 @@ abbrev ε22 : Row.Entry
 ε22 = (14, Rows.any-gone mirs.sched_core-Station)
 
 abbrev ε23 : Row.Entry
-ε23 = (8, Rows.whole (Known.Known Verdict.enum 1))
+ε23 = (8, Rows.whole (Known.Known Passage.enum 1))
 
 abbrev ε24 : Row.Entry
-ε24 = (8, Rows.whole (Declared.row Verdict.the-type))
+ε24 = (8, Rows.whole (Declared.row Passage.the-type))
 
 abbrev ε25 : Row.Entry
 ε25 = (9, Rows.whole (Declared.row Refusal.the-type))
@@ -231,10 +231,10 @@ abbrev ε30 : Row.Entry
 ε30 = (12, Rows.whole (Declared'.row Record.the-type))
 
 abbrev ε31 : Row.Entry
-ε31 = (10, Rows.any-gone mirs.request_core-RequestPlan)
+ε31 = (14, Rows.whole (Declared'.row Station.the-type))
 
 abbrev ε32 : Row.Entry
-ε32 = (14, Rows.whole (Declared'.row Station.the-type))
+ε32 = (10, Rows.any-gone mirs.sched_request-RequestPlan)
 
 abbrev ε33 : Row.Entry
 ε33 = (2, Relend.mslice-owed in-Record.row τ5 0 3 Row.off)
@@ -258,19 +258,19 @@ abbrev pub ps : List.List (Kinds.PK 2)
 ps = (Value.pVal record {
   ty = Declared'.row Station.the-type;
   one = Path'.refl;
-  val = Laws'9.val Station.the-type Laws'5.the-laws;
+  val = Laws'9.val Station.the-type Laws'4.the-laws;
   tells =
-      Laws'9.tells Station.the-type Laws'5.the-laws;
-  still = Laws'9.still Station.the-type Laws'5.the-copy Exit.yes;
+      Laws'9.tells Station.the-type Laws'4.the-laws;
+  still = Laws'9.still Station.the-type Laws'4.the-copy Exit.yes;
   row = Rows.whole (Declared'.row
       Station.the-type);
   rd = λ x. x;
   mk = λ x. x;
 } λ M 𝓤 H A W. record {
-  copies = Laws'9.copy Station.the-type Laws'5.the-copy 𝓤 H A W;
+  copies = Laws'9.copy Station.the-type Laws'4.the-copy 𝓤 H A W;
   lawful =
-      Laws'9.lawful Station.the-type Laws'5.the-laws 𝓤 H A W;
-  makes = Laws'9.makes Station.the-type Laws'5.the-plain 𝓤 H A;
+      Laws'9.lawful Station.the-type Laws'4.the-laws 𝓤 H A W;
+  makes = Laws'9.makes Station.the-type Laws'4.the-plain 𝓤 H A;
   in-mem = Local.mem-whole 𝓤 H
       A W (Declared'.row Station.the-type);
   of-mem = Local.whole-mem 𝓤 H A W (Declared'.row Station.the-type);
@@ -282,27 +282,27 @@ abbrev pub r : Kinds.RK 2
 r = Value.rVal record {
   ty = Declared'.row RequestAnswer.the-type;
   one = Path'.refl;
-  val = Laws'9.val RequestAnswer.the-type Laws'3.the-laws;
+  val = Laws'9.val RequestAnswer.the-type Laws''.the-laws;
   tells =
-      Laws'9.tells RequestAnswer.the-type Laws'3.the-laws;
-  still = Laws'9.still RequestAnswer.the-type Laws'3.the-copy Exit.yes;
+      Laws'9.tells RequestAnswer.the-type Laws''.the-laws;
+  still = Laws'9.still RequestAnswer.the-type Laws''.the-copy Exit.yes;
   row = Rows.whole
       (Declared'.row RequestAnswer.the-type);
   rd = λ x. x;
   mk = λ x. x;
 } λ M 𝓤 H A W. record {
   copies = Laws'9.copy RequestAnswer.the-type
-      Laws'3.the-copy 𝓤 H A W;
-  lawful = Laws'9.lawful RequestAnswer.the-type Laws'3.the-laws 𝓤 H A W;
+      Laws''.the-copy 𝓤 H A W;
+  lawful = Laws'9.lawful RequestAnswer.the-type Laws''.the-laws 𝓤 H A W;
   makes = Laws'9.makes RequestAnswer.the-type
-      Laws'3.the-plain 𝓤 H A;
+      Laws''.the-plain 𝓤 H A;
   in-mem = Local.mem-whole 𝓤 H A W (Declared'.row RequestAnswer.the-type);
   of-mem = Local.whole-mem 𝓤 H A W (Declared'.row
       RequestAnswer.the-type);
 }
 
 abbrev pub xs : List.List Syntax.Ty
-xs = mirs.Verdict ∷ mirs.questions-Refusal ∷ mirs.request_core-RequestPlan ∷ τ1 ∷ mirs.dl_record-Record ∷ mirs.sched_core-RequestReply ∷
+xs = mirs.Passage ∷ mirs.questions-Refusal ∷ mirs.sched_request-RequestPlan ∷ τ1 ∷ mirs.dl_record-Record ∷ mirs.sched_core-RequestReply ∷
     mirs.sched_core-Station ∷ τ3 ∷ τ6 ∷ mirs.sched_core-RequestReply ∷ Syntax.tyUnit ∷ τ4 ∷ τ7 ∷ []
 
 abbrev pub m : Nat.ℕ
@@ -312,19 +312,19 @@ abbrev pub ps·0 : List.List (Kinds.PK 2)
 ps·0 = (Value.pVal record {
   ty = Declared'.row Station.the-type;
   one = Path'.refl;
-  val = Laws'9.val Station.the-type Laws'5.the-laws;
+  val = Laws'9.val Station.the-type Laws'4.the-laws;
   tells =
-      Laws'9.tells Station.the-type Laws'5.the-laws;
-  still = Laws'9.still Station.the-type Laws'5.the-copy Exit.yes;
+      Laws'9.tells Station.the-type Laws'4.the-laws;
+  still = Laws'9.still Station.the-type Laws'4.the-copy Exit.yes;
   row = Rows.whole (Declared'.row
       Station.the-type);
   rd = λ x. x;
   mk = λ x. x;
 } λ M 𝓤 H A W. record {
-  copies = Laws'9.copy Station.the-type Laws'5.the-copy 𝓤 H A W;
+  copies = Laws'9.copy Station.the-type Laws'4.the-copy 𝓤 H A W;
   lawful =
-      Laws'9.lawful Station.the-type Laws'5.the-laws 𝓤 H A W;
-  makes = Laws'9.makes Station.the-type Laws'5.the-plain 𝓤 H A;
+      Laws'9.lawful Station.the-type Laws'4.the-laws 𝓤 H A W;
+  makes = Laws'9.makes Station.the-type Laws'4.the-plain 𝓤 H A;
   in-mem = Local.mem-whole 𝓤 H
       A W (Declared'.row Station.the-type);
   of-mem = Local.whole-mem 𝓤 H A W (Declared'.row Station.the-type);
@@ -333,43 +333,43 @@ ps·0 = (Value.pVal record {
 
 abbrev pub r·0 : Kinds.RK 2
 r·0 = Value.rVal record {
-  ty = Declared.row Verdict.the-type;
+  ty = Declared.row Passage.the-type;
   one = Path'.refl;
-  val = Laws'7.val Verdict.the-type Laws'6.the-laws;
+  val = Laws'7.val Passage.the-type Laws'6.the-laws;
   tells =
-      Laws'7.tells Verdict.the-type Laws'6.the-laws;
-  still = Laws'7.still Verdict.the-type Laws'6.the-copy Exit.yes;
+      Laws'7.tells Passage.the-type Laws'6.the-laws;
+  still = Laws'7.still Passage.the-type Laws'6.the-copy Exit.yes;
   row = Rows.whole (Declared.row
-      Verdict.the-type);
+      Passage.the-type);
   rd = λ x. x;
   mk = λ x. x;
 } λ M 𝓤 H A W. record {
-  copies = Laws'7.copy Verdict.the-type Laws'6.the-copy 𝓤 H A W;
+  copies = Laws'7.copy Passage.the-type Laws'6.the-copy 𝓤 H A W;
   lawful =
-      Laws'7.lawful Verdict.the-type Laws'6.the-laws 𝓤 H A W tt;
-  makes = Laws'7.makes Verdict.the-type Laws'6.the-plain 𝓤 H A;
+      Laws'7.lawful Passage.the-type Laws'6.the-laws 𝓤 H A W tt;
+  makes = Laws'7.makes Passage.the-type Laws'6.the-plain 𝓤 H A;
   in-mem = Local.mem-whole
-      𝓤 H A W (Declared.row Verdict.the-type);
-  of-mem = Local.whole-mem 𝓤 H A W (Declared.row Verdict.the-type);
+      𝓤 H A W (Declared.row Passage.the-type);
+  of-mem = Local.whole-mem 𝓤 H A W (Declared.row Passage.the-type);
 }
 
 abbrev pub ps·1 : List.List (Kinds.PK 0)
 ps·1 = (Value.pVal record {
   ty = Declared'.row Station.the-type;
   one = Path'.refl;
-  val = Laws'9.val Station.the-type Laws'5.the-laws;
+  val = Laws'9.val Station.the-type Laws'4.the-laws;
   tells =
-      Laws'9.tells Station.the-type Laws'5.the-laws;
-  still = Laws'9.still Station.the-type Laws'5.the-copy Exit.yes;
+      Laws'9.tells Station.the-type Laws'4.the-laws;
+  still = Laws'9.still Station.the-type Laws'4.the-copy Exit.yes;
   row = Rows.whole (Declared'.row
       Station.the-type);
   rd = λ x. x;
   mk = λ x. x;
 } λ M 𝓤 H A W. record {
-  copies = Laws'9.copy Station.the-type Laws'5.the-copy 𝓤 H A W;
+  copies = Laws'9.copy Station.the-type Laws'4.the-copy 𝓤 H A W;
   lawful =
-      Laws'9.lawful Station.the-type Laws'5.the-laws 𝓤 H A W;
-  makes = Laws'9.makes Station.the-type Laws'5.the-plain 𝓤 H A;
+      Laws'9.lawful Station.the-type Laws'4.the-laws 𝓤 H A W;
+  makes = Laws'9.makes Station.the-type Laws'4.the-plain 𝓤 H A;
   in-mem = Local.mem-whole 𝓤 H
       A W (Declared'.row Station.the-type);
   of-mem = Local.whole-mem 𝓤 H A W (Declared'.row Station.the-type);
@@ -380,19 +380,19 @@ abbrev pub r·1 : Kinds.RK 0
 r·1 = Value.rVal record {
   ty = Declared'.row RequestPlan.the-type;
   one = Path'.refl;
-  val = Laws'9.val RequestPlan.the-type Laws''.the-laws;
+  val = Laws'9.val RequestPlan.the-type Laws'5.the-laws;
   tells =
-      Laws'9.tells RequestPlan.the-type Laws''.the-laws;
-  still = Laws'9.still RequestPlan.the-type Laws''.the-copy Exit.yes;
+      Laws'9.tells RequestPlan.the-type Laws'5.the-laws;
+  still = Laws'9.still RequestPlan.the-type Laws'5.the-copy Exit.yes;
   row = Rows.whole
       (Declared'.row RequestPlan.the-type);
   rd = λ x. x;
   mk = λ x. x;
 } λ M 𝓤 H A W. record {
-  copies = Laws'9.copy RequestPlan.the-type Laws''.the-copy 𝓤
+  copies = Laws'9.copy RequestPlan.the-type Laws'5.the-copy 𝓤
       H A W;
-  lawful = Laws'9.lawful RequestPlan.the-type Laws''.the-laws 𝓤 H A W;
-  makes = Laws'9.makes RequestPlan.the-type Laws''.the-plain 𝓤 H A;
+  lawful = Laws'9.lawful RequestPlan.the-type Laws'5.the-laws 𝓤 H A W;
+  makes = Laws'9.makes RequestPlan.the-type Laws'5.the-plain 𝓤 H A;
   in-mem = Local.mem-whole 𝓤 H A W (Declared'.row RequestPlan.the-type);
   of-mem = Local.whole-mem 𝓤 H A W (Declared'.row RequestPlan.the-type);
 }
@@ -466,7 +466,7 @@ b11 = Syntax.switch (Syntax.copy (Syntax.place 8 ((Syntax.variant 0) ∷ (Syntax
     Syntax.noDefault))
 
 abbrev b12 : Syntax.Body
-b12 = Syntax.call "request_core::request_plan" ((Syntax.copy (Syntax.place 1 [])) ∷ (Syntax.copy (Syntax.place 4 [])) ∷ (Syntax.copy (Syntax.place 5
+b12 = Syntax.call "sched_request::request_plan" ((Syntax.copy (Syntax.place 1 [])) ∷ (Syntax.copy (Syntax.place 4 [])) ∷ (Syntax.copy (Syntax.place 5
     [])) ∷ (Syntax.copy (Syntax.place 6 [])) ∷ (Syntax.copy (Syntax.place 7 [])) ∷ []) (Syntax.place 10 [])
 
 abbrev b13 : Syntax.Body
@@ -544,58 +544,58 @@ abbrev pub Claims : Type 1
 Claims = Kinds.In 2 ps·0 × Kinds.Out 2 ps·0 r·0 × Kinds.In 0 ps·1 × Kinds.Out 0 ps·1 r·1 × Kinds.In 1 ps·2 × Kinds.Out 1 ps·2 r·2
 
 abbrev pub t0 : List.List Row.Entry
-t0 = ε26 ∷ ε27 ∷ ε12 ∷ ε37 ∷ ε14 ∷ ε15 ∷ ε16 ∷ ε17 ∷ ε9 ∷ ε19 ∷ ε31 ∷ ε4 ∷ ε20 ∷ ε28 ∷ ε22 ∷ ε5 ∷ []
+t0 = ε26 ∷ ε27 ∷ ε12 ∷ ε37 ∷ ε14 ∷ ε15 ∷ ε16 ∷ ε17 ∷ ε9 ∷ ε19 ∷ ε32 ∷ ε4 ∷ ε20 ∷ ε28 ∷ ε22 ∷ ε5 ∷ []
 
 abbrev pub t1 : List.List Row.Entry
 t1 = ε6 ∷ ε29 ∷ ε10 ∷ ε7 ∷ ε8 ∷ []
 
 abbrev pub t2 : List.List Row.Entry
-t2 = (0, Rows.whole (Declared'.row RequestAnswer.the-type)) ∷ ε21 ∷ ε12 ∷ ε37 ∷ ε0 ∷ ε1 ∷ ε2 ∷ ε3 ∷ ε9 ∷ ε19 ∷ ε31 ∷ ε4 ∷ ε20 ∷ ε28 ∷ ε22 ∷ ε5 ∷ []
+t2 = (0, Rows.whole (Declared'.row RequestAnswer.the-type)) ∷ ε21 ∷ ε12 ∷ ε37 ∷ ε0 ∷ ε1 ∷ ε2 ∷ ε3 ∷ ε9 ∷ ε19 ∷ ε32 ∷ ε4 ∷ ε20 ∷ ε28 ∷ ε22 ∷ ε5 ∷ []
 
 abbrev pub t3 : List.List Row.Entry
-t3 = ε26 ∷ ε27 ∷ ε36 ∷ ε37 ∷ ε14 ∷ ε15 ∷ ε16 ∷ ε17 ∷ ε9 ∷ ε19 ∷ ε31 ∷ ε4 ∷ ε20 ∷ ε28 ∷ ε22 ∷ ε13 ∷ []
+t3 = ε26 ∷ ε27 ∷ ε36 ∷ ε37 ∷ ε14 ∷ ε15 ∷ ε16 ∷ ε17 ∷ ε9 ∷ ε19 ∷ ε32 ∷ ε4 ∷ ε20 ∷ ε28 ∷ ε22 ∷ ε13 ∷ []
 
 abbrev pub t4 : List.List Row.Entry
-t4 = ε26 ∷ ε27 ∷ ε36 ∷ ε37 ∷ ε14 ∷ ε15 ∷ ε16 ∷ ε17 ∷ ε9 ∷ ε19 ∷ ε31 ∷ ε4 ∷ ε20 ∷ ε28 ∷ ε22 ∷ ε5 ∷ []
+t4 = ε26 ∷ ε27 ∷ ε36 ∷ ε37 ∷ ε14 ∷ ε15 ∷ ε16 ∷ ε17 ∷ ε9 ∷ ε19 ∷ ε32 ∷ ε4 ∷ ε20 ∷ ε28 ∷ ε22 ∷ ε5 ∷ []
 
 abbrev pub t5 : List.List Row.Entry
 t5 = (16, Rows.sslice in-Record.row τ3 2) ∷ ε29 ∷ ε10 ∷ ε7 ∷ ε8 ∷ []
 
 abbrev pub t6 : List.List Row.Entry
-t6 = ε26 ∷ ε27 ∷ ε36 ∷ ε37 ∷ ε14 ∷ ε15 ∷ ε16 ∷ ε17 ∷ ε24 ∷ ε19 ∷ ε31 ∷ ε4 ∷ ε20 ∷ ε28 ∷ ε22 ∷ ε5 ∷ []
+t6 = ε26 ∷ ε27 ∷ ε36 ∷ ε37 ∷ ε14 ∷ ε15 ∷ ε16 ∷ ε17 ∷ ε24 ∷ ε19 ∷ ε32 ∷ ε4 ∷ ε20 ∷ ε28 ∷ ε22 ∷ ε5 ∷ []
 
 abbrev pub t7 : List.List Row.Entry
-t7 = ε26 ∷ ε27 ∷ ε12 ∷ ε37 ∷ ε14 ∷ ε15 ∷ ε16 ∷ ε17 ∷ ε24 ∷ ε19 ∷ ε31 ∷ ε4 ∷ ε20 ∷ ε28 ∷ ε22 ∷ ε5 ∷ []
+t7 = ε26 ∷ ε27 ∷ ε12 ∷ ε37 ∷ ε14 ∷ ε15 ∷ ε16 ∷ ε17 ∷ ε24 ∷ ε19 ∷ ε32 ∷ ε4 ∷ ε20 ∷ ε28 ∷ ε22 ∷ ε5 ∷ []
 
 abbrev pub t8 : List.List Row.Entry
-t8 = ε26 ∷ ε27 ∷ ε12 ∷ ε37 ∷ ε14 ∷ ε15 ∷ ε16 ∷ ε17 ∷ ε23 ∷ ε19 ∷ ε31 ∷ ε4 ∷ ε20 ∷ ε28 ∷ ε22 ∷ ε5 ∷ []
+t8 = ε26 ∷ ε27 ∷ ε12 ∷ ε37 ∷ ε14 ∷ ε15 ∷ ε16 ∷ ε17 ∷ ε23 ∷ ε19 ∷ ε32 ∷ ε4 ∷ ε20 ∷ ε28 ∷ ε22 ∷ ε5 ∷ []
 
 abbrev pub t9 : List.List Row.Entry
-t9 = ε26 ∷ ε27 ∷ ε12 ∷ ε37 ∷ ε14 ∷ ε15 ∷ ε16 ∷ ε17 ∷ ε23 ∷ ε25 ∷ ε31 ∷ ε4 ∷ ε20 ∷ ε28 ∷ ε22 ∷ ε5 ∷ []
+t9 = ε26 ∷ ε27 ∷ ε12 ∷ ε37 ∷ ε14 ∷ ε15 ∷ ε16 ∷ ε17 ∷ ε23 ∷ ε25 ∷ ε32 ∷ ε4 ∷ ε20 ∷ ε28 ∷ ε22 ∷ ε5 ∷ []
 
 abbrev pub t10 : List.List Row.Entry
-t10 = ε26 ∷ ε27 ∷ ε12 ∷ ε37 ∷ ε14 ∷ ε15 ∷ ε16 ∷ ε17 ∷ ε9 ∷ ε25 ∷ ε31 ∷ ε4 ∷ ε20 ∷ ε28 ∷ ε22 ∷ ε5 ∷ []
+t10 = ε26 ∷ ε27 ∷ ε12 ∷ ε37 ∷ ε14 ∷ ε15 ∷ ε16 ∷ ε17 ∷ ε9 ∷ ε25 ∷ ε32 ∷ ε4 ∷ ε20 ∷ ε28 ∷ ε22 ∷ ε5 ∷ []
 
 abbrev pub t11 : List.List Row.Entry
 t11 = ε6 ∷ (17, Rows.whole (Declared.row RequestReply.the-type)) ∷ ε10 ∷ ε7 ∷ ε8 ∷ []
 
 abbrev pub t12 : List.List Row.Entry
-t12 = ε38 ∷ ε27 ∷ ε12 ∷ ε37 ∷ ε14 ∷ ε15 ∷ ε16 ∷ ε17 ∷ ε9 ∷ ε19 ∷ ε31 ∷ ε4 ∷ ε20 ∷ ε28 ∷ ε22 ∷ ε5 ∷ []
+t12 = ε38 ∷ ε27 ∷ ε12 ∷ ε37 ∷ ε14 ∷ ε15 ∷ ε16 ∷ ε17 ∷ ε9 ∷ ε19 ∷ ε32 ∷ ε4 ∷ ε20 ∷ ε28 ∷ ε22 ∷ ε5 ∷ []
 
 abbrev pub t13 : List.List Row.Entry
-t13 = ε38 ∷ ε21 ∷ ε12 ∷ ε37 ∷ ε14 ∷ ε15 ∷ ε16 ∷ ε17 ∷ ε9 ∷ ε19 ∷ ε31 ∷ ε4 ∷ ε20 ∷ ε28 ∷ ε22 ∷ ε5 ∷ []
+t13 = ε38 ∷ ε21 ∷ ε12 ∷ ε37 ∷ ε14 ∷ ε15 ∷ ε16 ∷ ε17 ∷ ε9 ∷ ε19 ∷ ε32 ∷ ε4 ∷ ε20 ∷ ε28 ∷ ε22 ∷ ε5 ∷ []
 
 abbrev pub t14 : List.List Row.Entry
-t14 = ε38 ∷ ε21 ∷ ε12 ∷ ε37 ∷ ε0 ∷ ε15 ∷ ε16 ∷ ε17 ∷ ε9 ∷ ε19 ∷ ε31 ∷ ε4 ∷ ε20 ∷ ε28 ∷ ε22 ∷ ε5 ∷ []
+t14 = ε38 ∷ ε21 ∷ ε12 ∷ ε37 ∷ ε0 ∷ ε15 ∷ ε16 ∷ ε17 ∷ ε9 ∷ ε19 ∷ ε32 ∷ ε4 ∷ ε20 ∷ ε28 ∷ ε22 ∷ ε5 ∷ []
 
 abbrev pub t15 : List.List Row.Entry
-t15 = ε38 ∷ ε21 ∷ ε12 ∷ ε37 ∷ ε0 ∷ ε1 ∷ ε16 ∷ ε17 ∷ ε9 ∷ ε19 ∷ ε31 ∷ ε4 ∷ ε20 ∷ ε28 ∷ ε22 ∷ ε5 ∷ []
+t15 = ε38 ∷ ε21 ∷ ε12 ∷ ε37 ∷ ε0 ∷ ε1 ∷ ε16 ∷ ε17 ∷ ε9 ∷ ε19 ∷ ε32 ∷ ε4 ∷ ε20 ∷ ε28 ∷ ε22 ∷ ε5 ∷ []
 
 abbrev pub t16 : List.List Row.Entry
-t16 = ε38 ∷ ε21 ∷ ε12 ∷ ε37 ∷ ε0 ∷ ε1 ∷ ε2 ∷ ε17 ∷ ε9 ∷ ε19 ∷ ε31 ∷ ε4 ∷ ε20 ∷ ε28 ∷ ε22 ∷ ε5 ∷ []
+t16 = ε38 ∷ ε21 ∷ ε12 ∷ ε37 ∷ ε0 ∷ ε1 ∷ ε2 ∷ ε17 ∷ ε9 ∷ ε19 ∷ ε32 ∷ ε4 ∷ ε20 ∷ ε28 ∷ ε22 ∷ ε5 ∷ []
 
 abbrev pub t17 : List.List Row.Entry
-t17 = ε38 ∷ ε21 ∷ ε12 ∷ ε37 ∷ ε0 ∷ ε1 ∷ ε2 ∷ ε3 ∷ ε9 ∷ ε19 ∷ ε31 ∷ ε4 ∷ ε20 ∷ ε28 ∷ ε22 ∷ ε5 ∷ []
+t17 = ε38 ∷ ε21 ∷ ε12 ∷ ε37 ∷ ε0 ∷ ε1 ∷ ε2 ∷ ε3 ∷ ε9 ∷ ε19 ∷ ε32 ∷ ε4 ∷ ε20 ∷ ε28 ∷ ε22 ∷ ε5 ∷ []
 
 abbrev pub t18 : List.List Row.Entry
 t18 = ε26 ∷ ε27 ∷ ε12 ∷ ε37 ∷ ε14 ∷ ε15 ∷ ε16 ∷ ε17 ∷ ε9 ∷ ε19 ∷ ε34 ∷ ε4 ∷ ε20 ∷ ε28 ∷ ε22 ∷ ε5 ∷ []
@@ -631,19 +631,19 @@ abbrev pub t28 : List.List Row.Entry
 t28 = ε26 ∷ ε21 ∷ ε12 ∷ ε37 ∷ ε14 ∷ ε15 ∷ ε16 ∷ ε17 ∷ ε9 ∷ ε19 ∷ ε34 ∷ ε18 ∷ ε20 ∷ ε35 ∷ ε22 ∷ ε5 ∷ []
 
 abbrev pub t29 : List.List Row.Entry
-t29 = ε26 ∷ ε21 ∷ ε12 ∷ ε37 ∷ ε14 ∷ ε15 ∷ ε16 ∷ ε17 ∷ ε9 ∷ ε19 ∷ ε34 ∷ ε18 ∷ ε20 ∷ ε35 ∷ ε32 ∷ ε5 ∷ []
+t29 = ε26 ∷ ε21 ∷ ε12 ∷ ε37 ∷ ε14 ∷ ε15 ∷ ε16 ∷ ε17 ∷ ε9 ∷ ε19 ∷ ε34 ∷ ε18 ∷ ε20 ∷ ε35 ∷ ε31 ∷ ε5 ∷ []
 
 abbrev pub t30 : List.List Row.Entry
-t30 = ε26 ∷ ε21 ∷ ε12 ∷ ε37 ∷ ε14 ∷ ε15 ∷ ε16 ∷ ε17 ∷ ε9 ∷ ε19 ∷ ε31 ∷ ε18 ∷ ε20 ∷ ε35 ∷ ε32 ∷ ε5 ∷ []
+t30 = ε26 ∷ ε21 ∷ ε12 ∷ ε37 ∷ ε14 ∷ ε15 ∷ ε16 ∷ ε17 ∷ ε9 ∷ ε19 ∷ ε32 ∷ ε18 ∷ ε20 ∷ ε35 ∷ ε31 ∷ ε5 ∷ []
 
 abbrev pub t31 : List.List Row.Entry
-t31 = ε38 ∷ ε21 ∷ ε12 ∷ ε37 ∷ ε14 ∷ ε15 ∷ ε16 ∷ ε17 ∷ ε9 ∷ ε19 ∷ ε31 ∷ ε18 ∷ ε20 ∷ ε35 ∷ ε32 ∷ ε5 ∷ []
+t31 = ε38 ∷ ε21 ∷ ε12 ∷ ε37 ∷ ε14 ∷ ε15 ∷ ε16 ∷ ε17 ∷ ε9 ∷ ε19 ∷ ε32 ∷ ε18 ∷ ε20 ∷ ε35 ∷ ε31 ∷ ε5 ∷ []
 
 abbrev pub t32 : List.List Row.Entry
-t32 = ε38 ∷ ε21 ∷ ε12 ∷ ε37 ∷ ε14 ∷ ε15 ∷ ε16 ∷ ε17 ∷ ε9 ∷ ε19 ∷ ε31 ∷ ε4 ∷ ε20 ∷ ε35 ∷ ε32 ∷ ε5 ∷ []
+t32 = ε38 ∷ ε21 ∷ ε12 ∷ ε37 ∷ ε14 ∷ ε15 ∷ ε16 ∷ ε17 ∷ ε9 ∷ ε19 ∷ ε32 ∷ ε4 ∷ ε20 ∷ ε35 ∷ ε31 ∷ ε5 ∷ []
 
 abbrev pub t33 : List.List Row.Entry
-t33 = ε38 ∷ ε21 ∷ ε12 ∷ ε37 ∷ ε14 ∷ ε15 ∷ ε16 ∷ ε17 ∷ ε9 ∷ ε19 ∷ ε31 ∷ ε4 ∷ ε20 ∷ ε28 ∷ ε32 ∷ ε5 ∷ []
+t33 = ε38 ∷ ε21 ∷ ε12 ∷ ε37 ∷ ε14 ∷ ε15 ∷ ε16 ∷ ε17 ∷ ε9 ∷ ε19 ∷ ε32 ∷ ε4 ∷ ε20 ∷ ε28 ∷ ε31 ∷ ε5 ∷ []
 
 abbrev pub T0 : Row.Cx
 T0 = record { locals = List._++_ t0 t1; slots = [] }
@@ -818,7 +818,7 @@ module _ (claims· : Claims) where
         (Bool.bLit Bool'.true, tt),
       ),
     ),
-  ) 8 (2 ∷ 1 ∷ []) mirs.Verdict
+  ) 8 (2 ∷ 1 ∷ []) mirs.Passage
 
   abbrev s5 : (bs : List.List Nat.ℕ) → Typed.Mo T6 → Typed.Mo T8
   s5 = λ bs. Scalar.n-room T6 16 τ6
@@ -827,16 +827,16 @@ module _ (claims· : Claims) where
   s7 = λ bs. Reshare.n-back-sl-shr in-Record.row T8 2 0 2 τ5 Row.off λ x. x
 
   abbrev s9 : (bs : List.List Nat.ℕ) → Typed.Both T10 T12
-  s9 = λ bs. Known.k-enum-known Verdict.enum 1 T10 8 λ x. x
+  s9 = λ bs. Known.k-enum-known Passage.enum 1 T10 8 λ x. x
 
   abbrev s10 : (bs : List.List Nat.ℕ) → Typed.Gives T12 T13
-  s10 = λ bs. Known.k-known-told Verdict.enum Laws'6.the-laws 1 T12 8 λ x. x
+  s10 = λ bs. Known.k-known-told Passage.enum Laws'6.the-laws 1 T12 8 λ x. x
 
   abbrev s11 : (bs : List.List Nat.ℕ) → Typed.Mo T13 → Typed.Mo T14
   s11 = λ bs. Make'.n-make (Declared.row Refusal.the-type) T13 9 λ m. m .1 .1 .1 .1 .1 .1 .1 .1 .0 .0
 
   abbrev s12 : (bs : List.List Nat.ℕ) → Typed.Mo T14 → Typed.Mo T15
-  s12 = λ bs. Scalar.n-room T14 8 mirs.Verdict
+  s12 = λ bs. Scalar.n-room T14 8 mirs.Passage
 
   abbrev s13 : (bs : List.List Nat.ℕ) → Typed.Mo T15 → Typed.Mo T16
   s13 = λ bs. Make.n-enum-make RequestReply.the-type T15 17 λ m. RequestReply.enum .make (Logic.inr (Logic.inl (m .1 .1 .1 .1 .1 .1 .1 .1 .1 .0, tt)))
@@ -872,10 +872,10 @@ module _ (claims· : Claims) where
   s22 = λ bs. AtSlots.n-as-by T24 0 ρ6 λ v. RequestAnswer.struct .make v tt
 
   abbrev s23 : (bs : List.List Nat.ℕ) → Typed.Both T10 T26
-  s23 = λ bs. Known.k-enum-told Verdict.enum 0 T10 8 λ x. x
+  s23 = λ bs. Known.k-enum-told Passage.enum 0 T10 8 λ x. x
 
   abbrev s24 : (bs : List.List Nat.ℕ) → Typed.Mo T26 → Typed.Mo T27
-  s24 = λ bs. Scalar.n-room T26 8 mirs.Verdict
+  s24 = λ bs. Scalar.n-room T26 8 mirs.Passage
 
   abbrev s25 : (bs : List.List Nat.ℕ) → Typed.Both T7 T28
   s25 = λ bs. Call.callB ps·1 r·1 (claims· .2) (claims· .3) T7 (
@@ -887,13 +887,13 @@ module _ (claims· : Claims) where
         (Num.vAt 6 λ x. x, (Num.vAt 7 λ x. x, tt)),
       ),
     ),
-  ) 10 [] mirs.request_core-RequestPlan
+  ) 10 [] mirs.sched_request-RequestPlan
 
   abbrev s26 : (bs : List.List Nat.ℕ) → Typed.Mo T28 → Typed.Mo T29
   s26 = λ bs. Scalar.n-room T28 1 mirs.sched_core-Station
 
   abbrev s27 : (bs : List.List Nat.ℕ) → Typed.Mo T29 → Typed.Mo T30
-  s27 = λ bs. Scalar.n-use T29 (Scalar.oFld 10 ((Syntax.field 2) ∷ []) τ1 1464 (Reads.fieldV RequestPlan.the-type Laws''.the-laws 2)) 11 ρ1 (Row.sInt
+  s27 = λ bs. Scalar.n-use T29 (Scalar.oFld 10 ((Syntax.field 2) ∷ []) τ1 1464 (Reads.fieldV RequestPlan.the-type Laws'5.the-laws 2)) 11 ρ1 (Row.sInt
       Syntax.w64 .of)
 
   abbrev s28 : (bs : List.List Nat.ℕ) → Typed.Both T30 T31
@@ -937,7 +937,7 @@ module _ (claims· : Claims) where
       u T′ m′. Row.set 10 ε34 (u .1 .1 .1 .1 .1 .1 .1 .1 .1 .1 .0) T′ m′) (λ u. Unit) λ u. Unit
 
   abbrev s40 : (bs : List.List Nat.ℕ) → Typed.Mo T42 → Typed.Mo T43
-  s40 = λ bs. Scalar.n-room T42 10 mirs.request_core-RequestPlan
+  s40 = λ bs. Scalar.n-room T42 10 mirs.sched_request-RequestPlan
 
   abbrev s41 : (bs : List.List Nat.ℕ) → Typed.Mo T43 → Typed.Mo T44
   s41 = λ bs. Make'.n-make (Declared'.row (Apart.apartT RequestAnswer.the-type)) T43 0 λ m. (
@@ -979,7 +979,7 @@ module _ (claims· : Claims) where
       abbrev pub Closed : Type 2
       Closed = (𝓤 : URA.URA M) (H : Wp.Heap 𝓤) (A : Atoms.Atoms 𝓤) (W : Kit.Given 𝓤 H A) (𝓣 : Wp.Tables 𝓤 H) (known0 : Plain.Known 𝓤 H A W 𝓣 2 ps·0
           r·0 (claims· .0) (claims· .1) "bs_sched::ask_memory") (known1 : Plain.Known 𝓤 H A W 𝓣 0 ps·1 r·1 (claims· .2) (claims· .3)
-          "request_core::request_plan") (known2 : Plain.Known 𝓤 H A W 𝓣 1 ps·2 r·2 (claims· .4) (claims· .5) "bs_sched::put_record") →
+          "sched_request::request_plan") (known2 : Plain.Known 𝓤 H A W 𝓣 1 ps·2 r·2 (claims· .4) (claims· .5) "bs_sched::put_record") →
           Statement.Triple 𝓤 (Wp.WpFn 𝓤 H (𝓣 .C) (𝓣 .Λ) (Function.fnOf 2 ps r xs m hs body)) (Function.plainOf 𝓤 H A 2 ps r Pre· Post·)
 
     module _ where
@@ -1038,7 +1038,7 @@ module _ (claims· : Claims) where
       at17 = λ bs. λ Ψ. Typed.both (s23 bs) (at16 bs Ψ)
 
       abbrev at18 : (bs : List.List Nat.ℕ) → Typed.TF T10 O1
-      at18 = λ bs. Switch.Φswitch T10 O1 8 (λ x. Declared.tagOf Verdict.the-type x) (Syntax.arm (1 ∷ []) b9 (Syntax.arm (0 ∷ []) b10
+      at18 = λ bs. Switch.Φswitch T10 O1 8 (λ x. Declared.tagOf Passage.the-type x) (Syntax.arm (1 ∷ []) b9 (Syntax.arm (0 ∷ []) b10
           Syntax.noDefault)) (at14 bs, (at17 bs, tt))
 
       abbrev at19 : (bs : List.List Nat.ℕ) → Typed.TF T10 O1
@@ -1155,19 +1155,19 @@ module _ (claims· : Claims) where
       module _ {M : Type 1} (𝓤 : URA.URA M) (H : Wp.Heap 𝓤) (A : Atoms.Atoms 𝓤) (W : Kit.Given 𝓤 H A) (𝓣 : Wp.Tables 𝓤 H) where
         abbrev Knowns : Type 1
         Knowns = Plain.Known 𝓤 H A W 𝓣 2 ps·0 r·0 (claims· .0) (claims· .1) "bs_sched::ask_memory" × Plain.Known 𝓤 H A W 𝓣 0 ps·1 r·1 (claims· .2)
-            (claims· .3) "request_core::request_plan" × Plain.Known 𝓤 H A W 𝓣 1 ps·2 r·2 (claims· .4) (claims· .5) "bs_sched::put_record"
+            (claims· .3) "sched_request::request_plan" × Plain.Known 𝓤 H A W 𝓣 1 ps·2 r·2 (claims· .4) (claims· .5) "bs_sched::put_record"
 
       module _ (κs : Lifetimes.Lfts 2) (qs : Lifetimes.Shares 2) where
         abbrev g3 : List.List Row.Entry
-        g3 = ε26 ∷ ε27 ∷ (2, Reshare.mslice-owedS in-Record.row τ5 0 2 (Row.lease (κs .0) (qs .0))) ∷ ε37 ∷ ε14 ∷ ε15 ∷ ε16 ∷ ε17 ∷ ε9 ∷ ε19 ∷ ε31 ∷
+        g3 = ε26 ∷ ε27 ∷ (2, Reshare.mslice-owedS in-Record.row τ5 0 2 (Row.lease (κs .0) (qs .0))) ∷ ε37 ∷ ε14 ∷ ε15 ∷ ε16 ∷ ε17 ∷ ε9 ∷ ε19 ∷ ε32 ∷
             ε4 ∷ ε20 ∷ ε28 ∷ ε22 ∷ ε13 ∷ []
 
         abbrev g4 : List.List Row.Entry
-        g4 = ε26 ∷ ε27 ∷ (2, Reshare.mslice-owedS in-Record.row τ5 0 2 (Row.lease (κs .0) (qs .0))) ∷ ε37 ∷ ε14 ∷ ε15 ∷ ε16 ∷ ε17 ∷ ε9 ∷ ε19 ∷ ε31 ∷
+        g4 = ε26 ∷ ε27 ∷ (2, Reshare.mslice-owedS in-Record.row τ5 0 2 (Row.lease (κs .0) (qs .0))) ∷ ε37 ∷ ε14 ∷ ε15 ∷ ε16 ∷ ε17 ∷ ε9 ∷ ε19 ∷ ε32 ∷
             ε4 ∷ ε20 ∷ ε28 ∷ ε22 ∷ ε5 ∷ []
 
         abbrev g6 : List.List Row.Entry
-        g6 = ε26 ∷ ε27 ∷ (2, Reshare.mslice-owedS in-Record.row τ5 0 2 (Row.lease (κs .0) (qs .0))) ∷ ε37 ∷ ε14 ∷ ε15 ∷ ε16 ∷ ε17 ∷ ε24 ∷ ε19 ∷ ε31 ∷
+        g6 = ε26 ∷ ε27 ∷ (2, Reshare.mslice-owedS in-Record.row τ5 0 2 (Row.lease (κs .0) (qs .0))) ∷ ε37 ∷ ε14 ∷ ε15 ∷ ε16 ∷ ε17 ∷ ε24 ∷ ε19 ∷ ε32 ∷
             ε4 ∷ ε20 ∷ ε28 ∷ ε22 ∷ ε5 ∷ []
 
         abbrev g22 : List.List Row.Entry
@@ -1382,51 +1382,51 @@ module _ (claims· : Claims) where
 
           d8 : Typed.Typed 𝓤 H A 𝓣 E G17 b7 Δ1 (at8 bs)
           d8 = Typed.s-seq 𝓤 H A W 𝓣 E G17 G18 b5 b6 Δ1 (Typed.pass T17 T18 (s15 bs)) (at7 bs) (Make'.t-make-told 𝓤 H A W E 𝓣 (Declared'.row
-              (Apart.apartT RequestAnswer.the-type)) Path'.refl (Laws'9.val (Apart.apartT RequestAnswer.the-type) Laws'3.the-laws) (Laws'9.lawful
-              (Apart.apartT RequestAnswer.the-type) Laws'3.the-laws 𝓤 H A W) (Laws'9.makes (Apart.apartT RequestAnswer.the-type) Laws'3.the-plain 𝓤 H
-              A) G17 0 ((Scalar.oAt 17 mirs.sched_core-RequestReply (Laws'7.val RequestReply.the-type Laws'4.the-laws)) ∷ (Scalar.oAt 1
-              mirs.sched_core-Station (Laws'9.val Station.the-type Laws'5.the-laws)) ∷ []) (λ m. (
+              (Apart.apartT RequestAnswer.the-type)) Path'.refl (Laws'9.val (Apart.apartT RequestAnswer.the-type) Laws''.the-laws) (Laws'9.lawful
+              (Apart.apartT RequestAnswer.the-type) Laws''.the-laws 𝓤 H A W) (Laws'9.makes (Apart.apartT RequestAnswer.the-type) Laws''.the-plain 𝓤 H
+              A) G17 0 ((Scalar.oAt 17 mirs.sched_core-RequestReply (Laws'7.val RequestReply.the-type Laws'3.the-laws)) ∷ (Scalar.oAt 1
+              mirs.sched_core-Station (Laws'9.val Station.the-type Laws'4.the-laws)) ∷ []) (λ m. (
                 m .1 .1 .1 .1 .1 .1 .1 .1 .1 .1 .1 .1 .1 .1 .1 .1 .1
                     .0,
                 (m .1 .0, tt),
               )) (λ m. Laws'8.Is (Declared.row RequestReply.the-type) (m .1 .1 .1 .1 .1 .1 .1 .1 .1 .1 .1 .1 .1 .1 .1 .1 .1 .0)
-              (Laws'7.vals RequestReply.the-type Laws'4.the-laws (m .1 .1 .1 .1 .1 .1 .1 .1 .1 .1 .1 .1 .1 .1 .1 .1 .1 .0)) × Laws'8.Is (Declared'.row
-              Station.the-type) (m .1 .0) (Laws'9.vals Station.the-type Laws'5.the-laws (m .1 .0))) (Reads'.room-gone 𝓤 H A
+              (Laws'7.vals RequestReply.the-type Laws'3.the-laws (m .1 .1 .1 .1 .1 .1 .1 .1 .1 .1 .1 .1 .1 .1 .1 .1 .1 .0)) × Laws'8.Is (Declared'.row
+              Station.the-type) (m .1 .0) (Laws'9.vals Station.the-type Laws'4.the-laws (m .1 .0))) (Reads'.room-gone 𝓤 H A
               mirs.sched_core-RequestAnswer) (
-                (Whole.reads-enum 𝓤 H A W RequestReply.the-type Laws'4.the-laws, Path'.refl),
+                (Whole.reads-enum 𝓤 H A W RequestReply.the-type Laws'3.the-laws, Path'.refl),
                 (
                   (
                     Reads.reads-struct 𝓤 H A
-                        W Station.the-type Laws'5.the-laws,
+                        W Station.the-type Laws'4.the-laws,
                     Path'.refl,
                   ),
                   tt,
                 ),
               ) Path'.refl (λ ρ m. Make'.tells-both 𝓤 H A W E ρ (Row.out 0 (G17 .locals)) m
               (Laws'8.Is (Declared.row RequestReply.the-type) (m .1 .1 .1 .1 .1 .1 .1 .1 .1 .1 .1 .1 .1 .1 .1 .1 .1 .0) (Laws'7.vals
-              RequestReply.the-type Laws'4.the-laws (m .1 .1 .1 .1 .1 .1 .1 .1 .1 .1 .1 .1 .1 .1 .1 .1 .1 .0))) (Laws'8.Is (Declared'.row
-              Station.the-type) (m .1 .0) (Laws'9.vals Station.the-type Laws'5.the-laws (m .1 .0))) (Make'.tells-row 𝓤 H A W E ρ (Row.out 0 (G17
+              RequestReply.the-type Laws'3.the-laws (m .1 .1 .1 .1 .1 .1 .1 .1 .1 .1 .1 .1 .1 .1 .1 .1 .1 .0))) (Laws'8.Is (Declared'.row
+              Station.the-type) (m .1 .0) (Laws'9.vals Station.the-type Laws'4.the-laws (m .1 .0))) (Make'.tells-row 𝓤 H A W E ρ (Row.out 0 (G17
               .locals)) m 17 (Laws'8.Is (Declared.row RequestReply.the-type) (m .1 .1 .1 .1 .1 .1 .1 .1 .1 .1 .1 .1 .1 .1 .1 .1 .1 .0) (Laws'7.vals
-              RequestReply.the-type Laws'4.the-laws (m .1 .1 .1 .1 .1 .1 .1 .1 .1 .1 .1 .1 .1 .1 .1 .1 .1 .0))) (Make'.whole-is 𝓤 H A W E
-              (Declared.row RequestReply.the-type) Path'.refl (Laws'7.val RequestReply.the-type Laws'4.the-laws) (Laws'7.tells RequestReply.the-type
-              Laws'4.the-laws) ρ 17 (m .1 .1 .1 .1 .1 .1 .1 .1 .1 .1 .1 .1 .1 .1 .1 .1 .1 .0))) (Make'.tells-row 𝓤 H A W E ρ (Row.out 0 (G17 .locals))
-              m 1 (Laws'8.Is (Declared'.row Station.the-type) (m .1 .0) (Laws'9.vals Station.the-type Laws'5.the-laws (m .1 .0))) (Make'.whole-is 𝓤 H
-              A W E (Declared'.row Station.the-type) Path'.refl (Laws'9.val Station.the-type Laws'5.the-laws) (Laws'9.tells Station.the-type
-              Laws'5.the-laws) ρ 1 (m .1 .0)))) (λ m q. Signed.made-val (Apart.apartT RequestAnswer.the-type) Laws'3.the-laws ((Laws'7.val
-              RequestReply.the-type Laws'4.the-laws (m .1 .1 .1 .1 .1 .1 .1 .1 .1 .1 .1 .1 .1 .1 .1 .1 .1 .0)) ∷ (Laws'9.val Station.the-type
-              Laws'5.the-laws (m .1 .0)) ∷ []) (m .1 .1 .1 .1 .1 .1 .1 .1 .1 .1 .1 .1 .1 .1 .1 .1 .1 .0, (m .1 .0, tt)) (
+              RequestReply.the-type Laws'3.the-laws (m .1 .1 .1 .1 .1 .1 .1 .1 .1 .1 .1 .1 .1 .1 .1 .1 .1 .0))) (Make'.whole-is 𝓤 H A W E
+              (Declared.row RequestReply.the-type) Path'.refl (Laws'7.val RequestReply.the-type Laws'3.the-laws) (Laws'7.tells RequestReply.the-type
+              Laws'3.the-laws) ρ 17 (m .1 .1 .1 .1 .1 .1 .1 .1 .1 .1 .1 .1 .1 .1 .1 .1 .1 .0))) (Make'.tells-row 𝓤 H A W E ρ (Row.out 0 (G17 .locals))
+              m 1 (Laws'8.Is (Declared'.row Station.the-type) (m .1 .0) (Laws'9.vals Station.the-type Laws'4.the-laws (m .1 .0))) (Make'.whole-is 𝓤 H
+              A W E (Declared'.row Station.the-type) Path'.refl (Laws'9.val Station.the-type Laws'4.the-laws) (Laws'9.tells Station.the-type
+              Laws'4.the-laws) ρ 1 (m .1 .0)))) (λ m q. Signed.made-val (Apart.apartT RequestAnswer.the-type) Laws''.the-laws ((Laws'7.val
+              RequestReply.the-type Laws'3.the-laws (m .1 .1 .1 .1 .1 .1 .1 .1 .1 .1 .1 .1 .1 .1 .1 .1 .1 .0)) ∷ (Laws'9.val Station.the-type
+              Laws'4.the-laws (m .1 .0)) ∷ []) (m .1 .1 .1 .1 .1 .1 .1 .1 .1 .1 .1 .1 .1 .1 .1 .1 .1 .0, (m .1 .0, tt)) (
                 Make.made-enum
-                    RequestReply.the-type Laws'4.the-laws tt Laws'4.lowers (m .1 .1 .1 .1 .1 .1 .1 .1 .1 .1 .1 .1 .1 .1 .1 .1 .1 .0) (q .0),
-                (Signed.made-struct Station.the-type Laws'5.the-laws Laws'5.lowers (m .1 .0) (q .1), tt),
+                    RequestReply.the-type Laws'3.the-laws tt Laws'3.lowers (m .1 .1 .1 .1 .1 .1 .1 .1 .1 .1 .1 .1 .1 .1 .1 .1 .1 .0) (q .0),
+                (Signed.made-struct Station.the-type Laws'4.the-laws Laws'4.lowers (m .1 .0) (q .1), tt),
               )) λ m q. Signed.made-is (Apart.apartT
-              RequestAnswer.the-type) Laws'3.the-laws ((Laws'7.val RequestReply.the-type Laws'4.the-laws (m .1 .1 .1 .1 .1 .1 .1 .1 .1 .1 .1 .1 .1 .1
-              .1 .1 .1 .0)) ∷ (Laws'9.val Station.the-type Laws'5.the-laws (m .1 .0)) ∷ []) (
+              RequestAnswer.the-type) Laws''.the-laws ((Laws'7.val RequestReply.the-type Laws'3.the-laws (m .1 .1 .1 .1 .1 .1 .1 .1 .1 .1 .1 .1 .1 .1
+              .1 .1 .1 .0)) ∷ (Laws'9.val Station.the-type Laws'4.the-laws (m .1 .0)) ∷ []) (
                 m .1 .1 .1 .1 .1 .1 .1 .1 .1 .1 .1 .1 .1 .1 .1 .1 .1 .0,
                 (m .1 .0, tt),
               ) (
-                Make.made-enum RequestReply.the-type Laws'4.the-laws tt Laws'4.lowers (m .1 .1 .1 .1 .1 .1 .1 .1 .1 .1 .1 .1 .1 .1 .1 .1
+                Make.made-enum RequestReply.the-type Laws'3.the-laws tt Laws'3.lowers (m .1 .1 .1 .1 .1 .1 .1 .1 .1 .1 .1 .1 .1 .1 .1 .1
                     .1 .0) (q .0),
-                (Signed.made-struct Station.the-type Laws'5.the-laws Laws'5.lowers (m .1 .0) (q .1), tt),
+                (Signed.made-struct Station.the-type Laws'4.the-laws Laws'4.lowers (m .1 .0) (q .1), tt),
               )) d7
 
           d9 : Typed.Typed 𝓤 H A 𝓣 E G16 b7 Δ1 (at9 bs)
@@ -1435,10 +1435,10 @@ module _ (claims· : Claims) where
 
           d10 : Typed.Typed 𝓤 H A 𝓣 E G15 b8 Δ1 (at10 bs)
           d10 = Typed.s-seq 𝓤 H A W 𝓣 E G15 G16 b4 b7 Δ1 (Typed.pass T15 T16 (s13 bs)) (at9 bs) (Make.t-enum-make-wt 𝓤 H A W E 𝓣 RequestReply.the-type
-              Laws'4.the-laws Laws'4.the-plain tt G15 17 ((Scalar.oInt Syntax.w8 1) ∷ (Scalar.oAt 9 mirs.questions-Refusal (Laws'7.val
+              Laws'3.the-laws Laws'3.the-plain tt G15 17 ((Scalar.oInt Syntax.w8 1) ∷ (Scalar.oAt 9 mirs.questions-Refusal (Laws'7.val
               Refusal.the-type Laws'.the-laws)) ∷ []) (λ m. RequestReply.enum .make (Logic.inr (Logic.inl (m .1 .1 .1 .1 .1 .1 .1 .1 .1 .0, tt))))
               (Reads'.room-gone 𝓤 H A mirs.sched_core-RequestReply) (tt, ((Whole.reads-enum 𝓤 H A W Refusal.the-type Laws'.the-laws, Path'.refl), tt))
-              Path'.refl (λ m wa. Make.made-val RequestReply.the-type Laws'4.the-laws ((Laws'7.val Refusal.the-type Laws'.the-laws (m .1 .1 .1 .1 .1
+              Path'.refl (λ m wa. Make.made-val RequestReply.the-type Laws'3.the-laws ((Laws'7.val Refusal.the-type Laws'.the-laws (m .1 .1 .1 .1 .1
               .1 .1 .1 .1 .0)) ∷ []) (RequestReply.enum .make (Logic.inr (Logic.inl (m .1 .1 .1 .1 .1 .1 .1 .1 .1 .0, tt)))) (
                 Signed.made-wt
                     Refusal.the-field Laws'.the-field-laws (Whole.enum-wt Refusal.the-type Laws'.the-laws (
@@ -1474,7 +1474,7 @@ module _ (claims· : Claims) where
                     )) (Refusal.the-type .to (m .1 .1 .1 .1 .1 .1 .1 .1 .1 .0)),
                 tt,
               ) (wa .1)) λ m wa. Make.made-is
-              RequestReply.the-type Laws'4.the-laws ((Laws'7.val Refusal.the-type Laws'.the-laws (m .1 .1 .1 .1 .1 .1 .1 .1 .1 .0)) ∷ [])
+              RequestReply.the-type Laws'3.the-laws ((Laws'7.val Refusal.the-type Laws'.the-laws (m .1 .1 .1 .1 .1 .1 .1 .1 .1 .0)) ∷ [])
               (RequestReply.enum .make (Logic.inr (Logic.inl (m .1 .1 .1 .1 .1 .1 .1 .1 .1 .0, tt)))) (
                 Signed.made-wt Refusal.the-field
                     Laws'.the-field-laws (Whole.enum-wt Refusal.the-type Laws'.the-laws (
@@ -1518,49 +1518,49 @@ module _ (claims· : Claims) where
               ) (wa .1)) d9
 
           d11 : Typed.Typed 𝓤 H A 𝓣 E G14 b8 Δ1 (at11 bs)
-          d11 = Typed.g-pre 𝓤 H A W 𝓣 E G14 G15 b8 Δ1 (Typed.pass T14 T15 (s12 bs)) (at10 bs) (Scalar.g-room 𝓤 H A W E G14 8 mirs.Verdict
-              (Local.room-whole 𝓤 H A W (Known.Known Verdict.enum 1) mirs.Verdict Path'.refl)) d10
+          d11 = Typed.g-pre 𝓤 H A W 𝓣 E G14 G15 b8 Δ1 (Typed.pass T14 T15 (s12 bs)) (at10 bs) (Scalar.g-room 𝓤 H A W E G14 8 mirs.Passage
+              (Local.room-whole 𝓤 H A W (Known.Known Passage.enum 1) mirs.Passage Path'.refl)) d10
 
           d12 : Typed.Typed 𝓤 H A 𝓣 E G13 b9 Δ1 (at12 bs)
           d12 = Typed.s-seq 𝓤 H A W 𝓣 E G13 G14 b3 b8 Δ1 (Typed.pass T13 T14 (s11 bs)) (at11 bs) (CopyOut.t-copy-told 𝓤 H A W E 𝓣 (Declared.row
               Refusal.the-type) Path'.refl (Laws'7.val Refusal.the-type Laws'.the-laws) (Laws'7.lawful Refusal.the-type Laws'.the-laws 𝓤 H A W tt)
               (Laws'7.makes Refusal.the-type Laws'.the-plain 𝓤 H A) G13 9 (Scalar.oFld 8 ((Syntax.variant 1) ∷ (Syntax.field 1) ∷ [])
               mirs.questions-Refusal 1 λ v. Laws'7.val Refusal.the-type Laws'.the-laws (v .0)) (λ m. m .1 .1 .1 .1 .1 .1 .1 .1 .0 .0) (λ m.
-              Laws'7.Fields (Declared.variants Verdict.the-type) (Laws'7.spellss (Verdict.enum .parts) Laws'6.the-laws) (Verdict.the-type .to
-              (Known.at Verdict.enum 1 (m .1 .1 .1 .1 .1 .1 .1 .1 .0)))) (Reads'.room-gone 𝓤 H A mirs.questions-Refusal) (
+              Laws'7.Fields (Declared.variants Passage.the-type) (Laws'7.spellss (Passage.enum .parts) Laws'6.the-laws) (Passage.the-type .to
+              (Known.at Passage.enum 1 (m .1 .1 .1 .1 .1 .1 .1 .1 .0)))) (Reads'.room-gone 𝓤 H A mirs.questions-Refusal) (
                 Match.reads-payload 𝓤 H A W
-                    Verdict.enum Laws'6.the-laws 1 Path'.refl Path'.refl (λ v. Val.vcons (Laws'7.val Refusal.the-type Laws'.the-laws (v .0)) Val.vnil) (λ v.
+                    Passage.enum Laws'6.the-laws 1 Path'.refl Path'.refl (λ v. Val.vcons (Laws'7.val Refusal.the-type Laws'.the-laws (v .0)) Val.vnil) (λ v.
                     Path'.refl) 0 mirs.questions-Refusal 1 Path'.refl,
                 Path'.refl,
               ) Path'.refl (λ ρ m. Make'.tells-row 𝓤 H A W E ρ (Row.out 9 (G13 .locals))
-              m 8 (Laws'7.Fields (Declared.variants Verdict.the-type) (Laws'7.spellss (Verdict.enum .parts) Laws'6.the-laws) (Verdict.the-type .to
-              (Known.at Verdict.enum 1 (m .1 .1 .1 .1 .1 .1 .1 .1 .0)))) (Known.known-is 𝓤 H A W E Verdict.enum 1 Laws'6.the-laws ρ 8 (m .1 .1 .1 .1
+              m 8 (Laws'7.Fields (Declared.variants Passage.the-type) (Laws'7.spellss (Passage.enum .parts) Laws'6.the-laws) (Passage.the-type .to
+              (Known.at Passage.enum 1 (m .1 .1 .1 .1 .1 .1 .1 .1 .0)))) (Known.known-is 𝓤 H A W E Passage.enum 1 Laws'6.the-laws ρ 8 (m .1 .1 .1 .1
               .1 .1 .1 .1 .0))) (λ m k wa. Path'.refl) λ m k wa. k .0) d11
 
           d13 : Typed.Typed 𝓤 H A 𝓣 E G12 b9 Δ1 (at13 bs)
-          d13 = Typed.g-pre 𝓤 H A W 𝓣 E G12 G13 b9 Δ1 (Typed.give (s10 bs)) (at12 bs) (Known.g-known-told 𝓤 H A W E Verdict.enum 1 G12 8
-              Laws'6.the-laws (λ x. x) (Reads'.as-is 𝓤 H A (Rows.whole (Known.Known Verdict.enum 1)))) d12
+          d13 = Typed.g-pre 𝓤 H A W 𝓣 E G12 G13 b9 Δ1 (Typed.give (s10 bs)) (at12 bs) (Known.g-known-told 𝓤 H A W E Passage.enum 1 G12 8
+              Laws'6.the-laws (λ x. x) (Reads'.as-is 𝓤 H A (Rows.whole (Known.Known Passage.enum 1)))) d12
 
           d14 : Typed.Typed 𝓤 H A 𝓣 E G11 b9 Δ1 (at14 bs)
-          d14 = Typed.g-pre 𝓤 H A W 𝓣 E G11 G12 b9 Δ1 (Typed.both (s9 bs)) (at13 bs) (Known.g-enum-known 𝓤 H A W E Verdict.enum 1 G11 8 (λ x. x)
+          d14 = Typed.g-pre 𝓤 H A W 𝓣 E G11 G12 b9 Δ1 (Typed.both (s9 bs)) (at13 bs) (Known.g-enum-known 𝓤 H A W E Passage.enum 1 G11 8 (λ x. x)
               (Reads'.as-is 𝓤 H A ρ3)) d13
 
           d15 : Typed.Typed 𝓤 H A 𝓣 E G27 b10 Δ1 (at15 bs)
           d15 = Typed.t-skip 𝓤 H A W 𝓣 E Δ1 tt
 
           d16 : Typed.Typed 𝓤 H A 𝓣 E G26 b10 Δ1 (at16 bs)
-          d16 = Typed.g-pre 𝓤 H A W 𝓣 E G26 G27 b10 Δ1 (Typed.pass T26 T27 (s24 bs)) (at15 bs) (Scalar.g-room 𝓤 H A W E G26 8 mirs.Verdict
-              (Local.room-whole 𝓤 H A W (Declared.row Verdict.the-type) mirs.Verdict Path'.refl)) d15
+          d16 = Typed.g-pre 𝓤 H A W 𝓣 E G26 G27 b10 Δ1 (Typed.pass T26 T27 (s24 bs)) (at15 bs) (Scalar.g-room 𝓤 H A W E G26 8 mirs.Passage
+              (Local.room-whole 𝓤 H A W (Declared.row Passage.the-type) mirs.Passage Path'.refl)) d15
 
           d17 : Typed.Typed 𝓤 H A 𝓣 E G11 b10 Δ1 (at17 bs)
-          d17 = Typed.g-pre 𝓤 H A W 𝓣 E G11 G26 b10 Δ1 (Typed.both (s23 bs)) (at16 bs) (Known.g-enum-told 𝓤 H A W E Verdict.enum 0 G11 8 λ x. x) d16
+          d17 = Typed.g-pre 𝓤 H A W 𝓣 E G11 G26 b10 Δ1 (Typed.both (s23 bs)) (at16 bs) (Known.g-enum-told 𝓤 H A W E Passage.enum 0 G11 8 λ x. x) d16
 
           d18 : Typed.Typed 𝓤 H A 𝓣 E G11 b11 Δ1 (at18 bs)
           d18 = Switch.t-switch-on 𝓤 H A W E 𝓣 G11 (Scalar.oFld 8 ((Syntax.variant 0) ∷ (Syntax.field 0) ∷ []) τ0 0 λ x. Val.vint Syntax.w8
-              (Declared.tagOf Verdict.the-type x)) Syntax.w8 (λ u. Declared.tagOf Verdict.the-type (u .1 .1 .1 .1 .1 .1 .1 .1 .0)) (Syntax.arm (1 ∷
+              (Declared.tagOf Passage.the-type x)) Syntax.w8 (λ u. Declared.tagOf Passage.the-type (u .1 .1 .1 .1 .1 .1 .1 .1 .0)) (Syntax.arm (1 ∷
               []) b9 (Syntax.arm (0 ∷ []) b10 Syntax.noDefault)) Δ1 (at14 bs, (at17 bs, tt)) (
-                Match.reads-tag 𝓤 H A W Verdict.the-type Laws'6.the-laws
-                    ρ3 0 (λ x. x) (Whole.reads-enum 𝓤 H A W Verdict.the-type Laws'6.the-laws),
+                Match.reads-tag 𝓤 H A W Passage.the-type Laws'6.the-laws
+                    ρ3 0 (λ x. x) (Whole.reads-enum 𝓤 H A W Passage.the-type Laws'6.the-laws),
                 Path'.refl,
               ) (λ u. Path'.refl) (d14, (d17, tt))
 
@@ -1618,10 +1618,10 @@ module _ (claims· : Claims) where
 
           d32 : Typed.Typed 𝓤 H A 𝓣 E G43 b22 Δ0 (at32 bs)
           d32 = Typed.s-seq 𝓤 H A W 𝓣 E G43 G44 b20 b21 Δ0 (Typed.pass T43 T44 (s41 bs)) (at31 bs) (Make'.t-make-told 𝓤 H A W E 𝓣 (Declared'.row
-              (Apart.apartT RequestAnswer.the-type)) Path'.refl (Laws'9.val (Apart.apartT RequestAnswer.the-type) Laws'3.the-laws) (Laws'9.lawful
-              (Apart.apartT RequestAnswer.the-type) Laws'3.the-laws 𝓤 H A W) (Laws'9.makes (Apart.apartT RequestAnswer.the-type) Laws'3.the-plain 𝓤 H
-              A) G43 0 ((Scalar.oAt 13 mirs.sched_core-RequestReply (Laws'7.val RequestReply.the-type Laws'4.the-laws)) ∷ (Scalar.oAt 14
-              mirs.sched_core-Station (Laws'9.val Station.the-type Laws'5.the-laws)) ∷ []) (λ m. (
+              (Apart.apartT RequestAnswer.the-type)) Path'.refl (Laws'9.val (Apart.apartT RequestAnswer.the-type) Laws''.the-laws) (Laws'9.lawful
+              (Apart.apartT RequestAnswer.the-type) Laws''.the-laws 𝓤 H A W) (Laws'9.makes (Apart.apartT RequestAnswer.the-type) Laws''.the-plain 𝓤 H
+              A) G43 0 ((Scalar.oAt 13 mirs.sched_core-RequestReply (Laws'7.val RequestReply.the-type Laws'3.the-laws)) ∷ (Scalar.oAt 14
+              mirs.sched_core-Station (Laws'9.val Station.the-type Laws'4.the-laws)) ∷ []) (λ m. (
                 m .1 .1 .1 .1 .1 .1 .1 .1 .1 .1 .1 .1 .1 .0,
                 (
                   m .1
@@ -1629,51 +1629,51 @@ module _ (claims· : Claims) where
                   tt,
                 ),
               )) (λ m. Laws'8.Is (Declared.row RequestReply.the-type) (m .1 .1 .1 .1 .1 .1 .1 .1 .1 .1
-              .1 .1 .1 .0) (Laws'7.vals RequestReply.the-type Laws'4.the-laws (m .1 .1 .1 .1 .1 .1 .1 .1 .1 .1 .1 .1 .1 .0)) × Laws'8.Is
-              (Declared'.row Station.the-type) (m .1 .1 .1 .1 .1 .1 .1 .1 .1 .1 .1 .1 .1 .1 .0) (Laws'9.vals Station.the-type Laws'5.the-laws (m .1 .1
+              .1 .1 .1 .0) (Laws'7.vals RequestReply.the-type Laws'3.the-laws (m .1 .1 .1 .1 .1 .1 .1 .1 .1 .1 .1 .1 .1 .0)) × Laws'8.Is
+              (Declared'.row Station.the-type) (m .1 .1 .1 .1 .1 .1 .1 .1 .1 .1 .1 .1 .1 .1 .0) (Laws'9.vals Station.the-type Laws'4.the-laws (m .1 .1
               .1 .1 .1 .1 .1 .1 .1 .1 .1 .1 .1 .1 .0))) (Reads'.room-gone 𝓤 H A mirs.sched_core-RequestAnswer) (
                 (
                   Whole.reads-enum 𝓤 H A W
-                      RequestReply.the-type Laws'4.the-laws,
+                      RequestReply.the-type Laws'3.the-laws,
                   Path'.refl,
                 ),
-                ((Reads.reads-struct 𝓤 H A W Station.the-type Laws'5.the-laws, Path'.refl), tt),
+                ((Reads.reads-struct 𝓤 H A W Station.the-type Laws'4.the-laws, Path'.refl), tt),
               )
               Path'.refl (λ ρ m. Make'.tells-both 𝓤 H A W E ρ (Row.out 0 (G43 .locals)) m (Laws'8.Is (Declared.row RequestReply.the-type) (m .1 .1 .1
-              .1 .1 .1 .1 .1 .1 .1 .1 .1 .1 .0) (Laws'7.vals RequestReply.the-type Laws'4.the-laws (m .1 .1 .1 .1 .1 .1 .1 .1 .1 .1 .1 .1 .1 .0)))
+              .1 .1 .1 .1 .1 .1 .1 .1 .1 .1 .0) (Laws'7.vals RequestReply.the-type Laws'3.the-laws (m .1 .1 .1 .1 .1 .1 .1 .1 .1 .1 .1 .1 .1 .0)))
               (Laws'8.Is (Declared'.row Station.the-type) (m .1 .1 .1 .1 .1 .1 .1 .1 .1 .1 .1 .1 .1 .1 .0) (Laws'9.vals Station.the-type
-              Laws'5.the-laws (m .1 .1 .1 .1 .1 .1 .1 .1 .1 .1 .1 .1 .1 .1 .0))) (Make'.tells-row 𝓤 H A W E ρ (Row.out 0 (G43 .locals)) m 13
+              Laws'4.the-laws (m .1 .1 .1 .1 .1 .1 .1 .1 .1 .1 .1 .1 .1 .1 .0))) (Make'.tells-row 𝓤 H A W E ρ (Row.out 0 (G43 .locals)) m 13
               (Laws'8.Is (Declared.row RequestReply.the-type) (m .1 .1 .1 .1 .1 .1 .1 .1 .1 .1 .1 .1 .1 .0) (Laws'7.vals RequestReply.the-type
-              Laws'4.the-laws (m .1 .1 .1 .1 .1 .1 .1 .1 .1 .1 .1 .1 .1 .0))) (Make'.whole-is 𝓤 H A W E (Declared.row RequestReply.the-type)
-              Path'.refl (Laws'7.val RequestReply.the-type Laws'4.the-laws) (Laws'7.tells RequestReply.the-type Laws'4.the-laws) ρ 13 (m .1 .1 .1 .1
+              Laws'3.the-laws (m .1 .1 .1 .1 .1 .1 .1 .1 .1 .1 .1 .1 .1 .0))) (Make'.whole-is 𝓤 H A W E (Declared.row RequestReply.the-type)
+              Path'.refl (Laws'7.val RequestReply.the-type Laws'3.the-laws) (Laws'7.tells RequestReply.the-type Laws'3.the-laws) ρ 13 (m .1 .1 .1 .1
               .1 .1 .1 .1 .1 .1 .1 .1 .1 .0))) (Make'.tells-row 𝓤 H A W E ρ (Row.out 0 (G43 .locals)) m 14 (Laws'8.Is (Declared'.row Station.the-type)
-              (m .1 .1 .1 .1 .1 .1 .1 .1 .1 .1 .1 .1 .1 .1 .0) (Laws'9.vals Station.the-type Laws'5.the-laws (m .1 .1 .1 .1 .1 .1 .1 .1 .1 .1 .1 .1 .1
-              .1 .0))) (Make'.whole-is 𝓤 H A W E (Declared'.row Station.the-type) Path'.refl (Laws'9.val Station.the-type Laws'5.the-laws)
-              (Laws'9.tells Station.the-type Laws'5.the-laws) ρ 14 (m .1 .1 .1 .1 .1 .1 .1 .1 .1 .1 .1 .1 .1 .1 .0)))) (λ m q. Signed.made-val
-              (Apart.apartT RequestAnswer.the-type) Laws'3.the-laws ((Laws'7.val RequestReply.the-type Laws'4.the-laws (m .1 .1 .1 .1 .1 .1 .1 .1 .1
-              .1 .1 .1 .1 .0)) ∷ (Laws'9.val Station.the-type Laws'5.the-laws (m .1 .1 .1 .1 .1 .1 .1 .1 .1 .1 .1 .1 .1 .1 .0)) ∷ []) (
+              (m .1 .1 .1 .1 .1 .1 .1 .1 .1 .1 .1 .1 .1 .1 .0) (Laws'9.vals Station.the-type Laws'4.the-laws (m .1 .1 .1 .1 .1 .1 .1 .1 .1 .1 .1 .1 .1
+              .1 .0))) (Make'.whole-is 𝓤 H A W E (Declared'.row Station.the-type) Path'.refl (Laws'9.val Station.the-type Laws'4.the-laws)
+              (Laws'9.tells Station.the-type Laws'4.the-laws) ρ 14 (m .1 .1 .1 .1 .1 .1 .1 .1 .1 .1 .1 .1 .1 .1 .0)))) (λ m q. Signed.made-val
+              (Apart.apartT RequestAnswer.the-type) Laws''.the-laws ((Laws'7.val RequestReply.the-type Laws'3.the-laws (m .1 .1 .1 .1 .1 .1 .1 .1 .1
+              .1 .1 .1 .1 .0)) ∷ (Laws'9.val Station.the-type Laws'4.the-laws (m .1 .1 .1 .1 .1 .1 .1 .1 .1 .1 .1 .1 .1 .1 .0)) ∷ []) (
                 m .1 .1 .1 .1
                     .1 .1 .1 .1 .1 .1 .1 .1 .1 .0,
                 (m .1 .1 .1 .1 .1 .1 .1 .1 .1 .1 .1 .1 .1 .1 .0, tt),
               ) (
                 Make.made-enum RequestReply.the-type
-                    Laws'4.the-laws tt Laws'4.lowers (m .1 .1 .1 .1 .1 .1 .1 .1 .1 .1 .1 .1 .1 .0) (q .0),
+                    Laws'3.the-laws tt Laws'3.lowers (m .1 .1 .1 .1 .1 .1 .1 .1 .1 .1 .1 .1 .1 .0) (q .0),
                 (
                   Signed.made-struct Station.the-type
-                      Laws'5.the-laws Laws'5.lowers (m .1 .1 .1 .1 .1 .1 .1 .1 .1 .1 .1 .1 .1 .1 .0) (q .1),
+                      Laws'4.the-laws Laws'4.lowers (m .1 .1 .1 .1 .1 .1 .1 .1 .1 .1 .1 .1 .1 .1 .0) (q .1),
                   tt,
                 ),
               )) λ m q. Signed.made-is (Apart.apartT
-              RequestAnswer.the-type) Laws'3.the-laws ((Laws'7.val RequestReply.the-type Laws'4.the-laws (m .1 .1 .1 .1 .1 .1 .1 .1 .1 .1 .1 .1 .1
-              .0)) ∷ (Laws'9.val Station.the-type Laws'5.the-laws (m .1 .1 .1 .1 .1 .1 .1 .1 .1 .1 .1 .1 .1 .1 .0)) ∷ []) (
+              RequestAnswer.the-type) Laws''.the-laws ((Laws'7.val RequestReply.the-type Laws'3.the-laws (m .1 .1 .1 .1 .1 .1 .1 .1 .1 .1 .1 .1 .1
+              .0)) ∷ (Laws'9.val Station.the-type Laws'4.the-laws (m .1 .1 .1 .1 .1 .1 .1 .1 .1 .1 .1 .1 .1 .1 .0)) ∷ []) (
                 m .1 .1 .1 .1 .1 .1 .1 .1
                     .1 .1 .1 .1 .1 .0,
                 (m .1 .1 .1 .1 .1 .1 .1 .1 .1 .1 .1 .1 .1 .1 .0, tt),
               ) (
-                Make.made-enum RequestReply.the-type Laws'4.the-laws tt
-                    Laws'4.lowers (m .1 .1 .1 .1 .1 .1 .1 .1 .1 .1 .1 .1 .1 .0) (q .0),
+                Make.made-enum RequestReply.the-type Laws'3.the-laws tt
+                    Laws'3.lowers (m .1 .1 .1 .1 .1 .1 .1 .1 .1 .1 .1 .1 .1 .0) (q .0),
                 (
-                  Signed.made-struct Station.the-type Laws'5.the-laws Laws'5.lowers
+                  Signed.made-struct Station.the-type Laws'4.the-laws Laws'4.lowers
                       (m .1 .1 .1 .1 .1 .1 .1 .1 .1 .1 .1 .1 .1 .1 .0) (q .1),
                   tt,
                 ),
@@ -1681,12 +1681,12 @@ module _ (claims· : Claims) where
 
           d33 : Typed.Typed 𝓤 H A 𝓣 E G42 b22 Δ0 (at33 bs)
           d33 = Typed.g-pre 𝓤 H A W 𝓣 E G42 G43 b22 Δ0 (Typed.pass T42 T43 (s40 bs)) (at32 bs) (Scalar.g-room 𝓤 H A W E G42 10
-              mirs.request_core-RequestPlan (Local.room-whole 𝓤 H A W (Declared'.row RequestPlan.the-type) mirs.request_core-RequestPlan Path'.refl))
-              d32
+              mirs.sched_request-RequestPlan (Local.room-whole 𝓤 H A W (Declared'.row RequestPlan.the-type) mirs.sched_request-RequestPlan
+              Path'.refl)) d32
 
           d34 : Typed.Typed 𝓤 H A 𝓣 E G41 b23 Δ0 (at34 bs)
           d34 = Typed.s-seq 𝓤 H A W 𝓣 E G41 G42 b19 b22 Δ0 (Typed.both (s39 bs)) (at33 bs) (WayStmt.t-way-copy-out 𝓤 H A W E 𝓣 (Declared'.row
-              Station.the-type) Path'.refl (Copies.cStruct Station.the-type Laws'5.the-laws Laws'5.the-copy .copy 𝓤 H A W) (λ ρ. Unit) G41 (Row.out 10
+              Station.the-type) Path'.refl (Copies.cStruct Station.the-type Laws'4.the-laws Laws'4.the-copy .copy 𝓤 H A W) (λ ρ. Unit) G41 (Row.out 10
               (G41 .locals)) (λ u. Row.drop 10 (G41 .locals) u) (G41 .slots) 10 (λ t. ((Syntax.field 1) ∷ t)) mirs.sched_core-Station
               mirs.sched_core-Station 14 ρ4 (λ x. x) (λ u. At.getAt (RequestPlan.the-type .parts) 1 (RequestPlan.struct .as-values (u .1 .1 .1 .1 .1
               .1 .1 .1 .1 .1 .0))) (λ u. (
@@ -1695,10 +1695,10 @@ module _ (claims· : Claims) where
               )) (λ T′. record { locals = Row.setRow 10 ε34 T′; slots = G41 .slots }) (λ u T′ m′. Row.set 10 ε34 (u .1 .1 .1 .1 .1 .1 .1 .1
               .1 .1 .0) T′ m′) (λ u. Unit) (λ x. Unit) (Own.told-none 𝓤 H A (G41 .slots)) (DerefMove.learns-nothing 𝓤 H A (Declared'.row
               Station.the-type)) (λ ρ told u asked. Way'.w-partˢ 𝓤 H A W E (Declared'.row RequestPlan.the-type) (Declared'.row Station.the-type)
-              mirs.request_core-RequestPlan mirs.sched_core-Station 1 8 (u .1 .1 .1 .1 .1 .1 .1 .1 .1 .1 .0) (At.getAt (RequestPlan.the-type .parts) 1
-              (RequestPlan.struct .as-values (u .1 .1 .1 .1 .1 .1 .1 .1 .1 .1 .0))) (
-                Row.hd 0 (Row.tl (Row.tl (Row.tl (Row.tl (Row.tl (Row.tl (Row.tl
-                    (Row.tl (Row.tl (Row.tl bs)))))))))),
+              mirs.sched_request-RequestPlan mirs.sched_core-Station 1 8 (u .1 .1 .1 .1 .1 .1 .1 .1 .1 .1 .0) (At.getAt (RequestPlan.the-type .parts)
+              1 (RequestPlan.struct .as-values (u .1 .1 .1 .1 .1 .1 .1 .1 .1 .1 .0))) (
+                Row.hd 0 (Row.tl (Row.tl (Row.tl (Row.tl (Row.tl (Row.tl
+                    (Row.tl (Row.tl (Row.tl (Row.tl bs)))))))))),
                 0,
               ) (Way.w-look 𝓤 H A W E (Way.w-local 𝓤 H A W E G41 ρ u (G41 .slots) 10 (Declared'.row
               RequestPlan.the-type) ρ5 (λ x. x) (λ x. x) (u .1 .1 .1 .1 .1 .1 .1 .1 .1 .1 .0) (Local.mem-whole 𝓤 H A W (Declared'.row
@@ -1712,7 +1712,7 @@ module _ (claims· : Claims) where
                     (Row.tl (Row.tl (Row.tl (Row.tl (Row.tl (Row.tl (Row.tl (Row.tl (Row.tl bs)))))))))),
                 0,
               ) (Behind.look-at 𝓤 H A W q RequestPlan.the-type
-              Laws''.the-laws 1 8 Path'.refl Path'.refl (
+              Laws'5.the-laws 1 8 Path'.refl Path'.refl (
                 Row.hd 0 (Row.tl (Row.tl (Row.tl (Row.tl (Row.tl (Row.tl (Row.tl (Row.tl (Row.tl (Row.tl
                     bs)))))))))),
                 0,
@@ -1722,20 +1722,20 @@ module _ (claims· : Claims) where
 
           d35 : Typed.Typed 𝓤 H A 𝓣 E G40 b24 Δ0 (at35 bs)
           d35 = Typed.s-seq 𝓤 H A W 𝓣 E G40 G41 b18 b23 Δ0 (Typed.pass T39 T41 (s38 bs)) (at34 bs) (CopyOut.t-copy-told 𝓤 H A W E 𝓣 (Declared.row
-              RequestReply.the-type) Path'.refl (Laws'7.val RequestReply.the-type Laws'4.the-laws) (Laws'7.lawful RequestReply.the-type
-              Laws'4.the-laws 𝓤 H A W tt) (Laws'7.makes RequestReply.the-type Laws'4.the-plain 𝓤 H A) G40 13 (Scalar.oFld 10 ((Syntax.field 0) ∷ [])
-              mirs.sched_core-RequestReply 0 λ x. Laws'7.val RequestReply.the-type Laws'4.the-laws (RequestPlan.struct .as-values x .0)) (λ m.
+              RequestReply.the-type) Path'.refl (Laws'7.val RequestReply.the-type Laws'3.the-laws) (Laws'7.lawful RequestReply.the-type
+              Laws'3.the-laws 𝓤 H A W tt) (Laws'7.makes RequestReply.the-type Laws'3.the-plain 𝓤 H A) G40 13 (Scalar.oFld 10 ((Syntax.field 0) ∷ [])
+              mirs.sched_core-RequestReply 0 λ x. Laws'7.val RequestReply.the-type Laws'3.the-laws (RequestPlan.struct .as-values x .0)) (λ m.
               RequestPlan.struct .as-values (m .1 .1 .1 .1 .1 .1 .1 .1 .1 .1 .0) .0) (λ m. Laws'8.Is (Declared'.row RequestPlan.the-type) (m .1 .1 .1
-              .1 .1 .1 .1 .1 .1 .1 .0) (Laws'9.vals RequestPlan.the-type Laws''.the-laws (m .1 .1 .1 .1 .1 .1 .1 .1 .1 .1 .0))) (Reads'.room-gone 𝓤 H
+              .1 .1 .1 .1 .1 .1 .1 .0) (Laws'9.vals RequestPlan.the-type Laws'5.the-laws (m .1 .1 .1 .1 .1 .1 .1 .1 .1 .1 .0))) (Reads'.room-gone 𝓤 H
               A mirs.sched_core-RequestReply) (
-                Reads.reads-field 𝓤 H A W RequestPlan.the-type Laws''.the-laws 0 mirs.sched_core-RequestReply 0
+                Reads.reads-field 𝓤 H A W RequestPlan.the-type Laws'5.the-laws 0 mirs.sched_core-RequestReply 0
                     Path'.refl,
                 Path'.refl,
               ) Path'.refl (λ ρ m. Make'.tells-row 𝓤 H A W E ρ (Row.out 13 (G40 .locals)) m 10 (Laws'8.Is (Declared'.row
-              RequestPlan.the-type) (m .1 .1 .1 .1 .1 .1 .1 .1 .1 .1 .0) (Laws'9.vals RequestPlan.the-type Laws''.the-laws (m .1 .1 .1 .1 .1 .1 .1 .1
-              .1 .1 .0))) (Make'.whole-is 𝓤 H A W E (Declared'.row RequestPlan.the-type) Path'.refl (Laws'9.val RequestPlan.the-type Laws''.the-laws)
-              (Laws'9.tells RequestPlan.the-type Laws''.the-laws) ρ 10 (m .1 .1 .1 .1 .1 .1 .1 .1 .1 .1 .0))) (λ m k wa. Path'.refl) λ m k wa.
-              Laws'9.owed RequestPlan.the-type Laws''.the-laws (m .1 .1 .1 .1 .1 .1 .1 .1 .1 .1 .0) (Laws'9.vals RequestPlan.the-type Laws''.the-laws
+              RequestPlan.the-type) (m .1 .1 .1 .1 .1 .1 .1 .1 .1 .1 .0) (Laws'9.vals RequestPlan.the-type Laws'5.the-laws (m .1 .1 .1 .1 .1 .1 .1 .1
+              .1 .1 .0))) (Make'.whole-is 𝓤 H A W E (Declared'.row RequestPlan.the-type) Path'.refl (Laws'9.val RequestPlan.the-type Laws'5.the-laws)
+              (Laws'9.tells RequestPlan.the-type Laws'5.the-laws) ρ 10 (m .1 .1 .1 .1 .1 .1 .1 .1 .1 .1 .0))) (λ m k wa. Path'.refl) λ m k wa.
+              Laws'9.owed RequestPlan.the-type Laws'5.the-laws (m .1 .1 .1 .1 .1 .1 .1 .1 .1 .1 .0) (Laws'9.vals RequestPlan.the-type Laws'5.the-laws
               (m .1 .1 .1 .1 .1 .1 .1 .1 .1 .1 .0)) k .0) d34
 
           d36 : Typed.Typed 𝓤 H A 𝓣 E G39 b24 Δ0 (at36 bs)
@@ -1836,7 +1836,7 @@ module _ (claims· : Claims) where
               u. (Row.hd 0 (Row.tl (Row.tl (Row.tl (Row.tl (Row.tl (Row.tl (Row.tl (Row.tl (Row.tl (Row.tl bs)))))))))), Nat._+_ 0 1472)) (λ T′.
               record { locals = Row.setRow 10 ε34 T′; slots = G30 .slots }) (λ u T′ m′. Row.set 10 ε34 (u .1 .1 .1 .1 .1 .1 .1 .1 .1 .1 .0) T′ m′) (λ
               u. Unit) (λ x. Unit) (Own.told-none 𝓤 H A (G30 .slots)) (DerefMove.learns-nothing 𝓤 H A (Declared'.row Record.the-type)) (λ ρ told u
-              asked. Way'.w-partˢ 𝓤 H A W E (Declared'.row RequestPlan.the-type) (Declared'.row Record.the-type) mirs.request_core-RequestPlan
+              asked. Way'.w-partˢ 𝓤 H A W E (Declared'.row RequestPlan.the-type) (Declared'.row Record.the-type) mirs.sched_request-RequestPlan
               mirs.dl_record-Record 3 1472 (u .1 .1 .1 .1 .1 .1 .1 .1 .1 .1 .0) (At.getAt (RequestPlan.the-type .parts) 3 (RequestPlan.struct
               .as-values (u .1 .1 .1 .1 .1 .1 .1 .1 .1 .1 .0))) (
                 Row.hd 0 (Row.tl (Row.tl (Row.tl (Row.tl (Row.tl (Row.tl (Row.tl (Row.tl (Row.tl
@@ -1853,7 +1853,7 @@ module _ (claims· : Claims) where
                 Row.hd 0 (Row.tl (Row.tl (Row.tl (Row.tl (Row.tl
                     (Row.tl (Row.tl (Row.tl (Row.tl (Row.tl bs)))))))))),
                 0,
-              ) (Behind.look-at 𝓤 H A W q RequestPlan.the-type Laws''.the-laws 3 1472
+              ) (Behind.look-at 𝓤 H A W q RequestPlan.the-type Laws'5.the-laws 3 1472
               Path'.refl Path'.refl (Row.hd 0 (Row.tl (Row.tl (Row.tl (Row.tl (Row.tl (Row.tl (Row.tl (Row.tl (Row.tl (Row.tl bs)))))))))), 0) (u .1
               .1 .1 .1 .1 .1 .1 .1 .1 .1 .0) (RequestPlan.struct .as-values (u .1 .1 .1 .1 .1 .1 .1 .1 .1 .1 .0)) Path'.refl)) (Reads'.room-gone 𝓤 H A
               mirs.dl_record-Record) (Yields.makes-mem 𝓤 H A W (λ ρ. Unit) (Declared'.row Record.the-type) Path'.refl ρ2 (λ x. x) λ ρ told.
@@ -1861,8 +1861,8 @@ module _ (claims· : Claims) where
 
           d46 : Typed.Typed 𝓤 H A 𝓣 E G29 b29 Δ0 (at46 bs)
           d46 = Typed.s-seq 𝓤 H A W 𝓣 E G29 G30 b13 b28 Δ0 (Typed.pass T29 T30 (s27 bs)) (at45 bs) (Scalar.t-use 𝓤 H A W E 𝓣 G29 (Scalar.oFld 10
-              ((Syntax.field 2) ∷ []) τ1 1464 (Reads.fieldV RequestPlan.the-type Laws''.the-laws 2)) 11 ρ1 τ1 (Row.valS (Row.sInt Syntax.w64))
-              (Row.sInt Syntax.w64 .of) (Reads.reads-field 𝓤 H A W RequestPlan.the-type Laws''.the-laws 2 τ1 1464 Path'.refl, Path'.refl)
+              ((Syntax.field 2) ∷ []) τ1 1464 (Reads.fieldV RequestPlan.the-type Laws'5.the-laws 2)) 11 ρ1 τ1 (Row.valS (Row.sInt Syntax.w64))
+              (Row.sInt Syntax.w64 .of) (Reads.reads-field 𝓤 H A W RequestPlan.the-type Laws'5.the-laws 2 τ1 1464 Path'.refl, Path'.refl)
               (Reads'.room-gone 𝓤 H A τ1) (Scalar.holds-sc 𝓤 H A W (Row.sInt Syntax.w64)) Path'.refl (λ u. Path'.refl) λ u. tt) d45
 
           d47 : Typed.Typed 𝓤 H A 𝓣 E G28 b29 Δ0 (at47 bs)
@@ -1871,18 +1871,18 @@ module _ (claims· : Claims) where
 
           d48 : Typed.Typed 𝓤 H A 𝓣 E G7 b30 Δ0 (at48 bs)
           d48 = Typed.s-seq 𝓤 H A W 𝓣 E G7 G28 b12 b29 Δ0 (Typed.both (s25 bs)) (at47 bs) (Plain.t-call-plain 𝓤 H A W 𝓣 0 ps·1 r·1 (claims· .2)
-              (claims· .3) "request_core::request_plan" (known .1) E (λ pos β. β) G7 (
+              (claims· .3) "sched_request::request_plan" (known .1) E (λ pos β. β) G7 (
                 record { pos = 1; st = []; d = 0; at = λ x. x },
                 (
-                  Num.vAt 4 λ x.
-                      x,
+                  Num.vAt 4 λ
+                      x. x,
                   (Num.vAt 5 λ x. x, (Num.vAt 6 λ x. x, (Num.vAt 7 λ x. x, tt))),
                 ),
               ) 10 [] (Call.sub-id 𝓤 H A W (G7 .slots)) (
                 (
-                  Yields.yields-copy 𝓤 H A W
-                      (λ ρ. Unit) (Declared'.row Station.the-type) Path'.refl (Copies.cStruct Station.the-type Laws'5.the-laws Laws'5.the-copy .copy 𝓤 H A W)
-                      ρ4 (λ x. x) (λ x. x) (λ ρ told. Local.mem-whole 𝓤 H A W (Declared'.row Station.the-type) ρ) λ ρ told. Local.whole-mem 𝓤 H A W
+                  Yields.yields-copy 𝓤 H
+                      A W (λ ρ. Unit) (Declared'.row Station.the-type) Path'.refl (Copies.cStruct Station.the-type Laws'4.the-laws Laws'4.the-copy .copy 𝓤 H A
+                      W) ρ4 (λ x. x) (λ x. x) (λ ρ told. Local.mem-whole 𝓤 H A W (Declared'.row Station.the-type) ρ) λ ρ told. Local.whole-mem 𝓤 H A W
                       (Declared'.row Station.the-type) ρ,
                   Path'.refl,
                 ),
@@ -1907,7 +1907,7 @@ module _ (claims· : Claims) where
                     ),
                   ),
                 ),
-              ) (Reads'.room-gone 𝓤 H A mirs.request_core-RequestPlan) tt Path'.refl) d47
+              ) (Reads'.room-gone 𝓤 H A mirs.sched_request-RequestPlan) tt Path'.refl) d47
 
           d49 : Typed.Typed 𝓤 H A 𝓣 E G6 b31 Δ0 (at49 bs)
           d49 = Typed.t-seq 𝓤 H A W 𝓣 E G6 G7 b11 b30 Δ0 (at22 bs) (at48 bs) d22 d48
@@ -1935,7 +1935,7 @@ module _ (claims· : Claims) where
               ) 8 (2 ∷ 1 ∷ []) (Call.sub-id 𝓤 H A W (G5 .slots)) (
                 (
                   Yields.yields-copy 𝓤 H A W (λ ρ. Unit)
-                      (Declared'.row Station.the-type) Path'.refl (Copies.cStruct Station.the-type Laws'5.the-laws Laws'5.the-copy .copy 𝓤 H A W) ρ4 (λ x. x)
+                      (Declared'.row Station.the-type) Path'.refl (Copies.cStruct Station.the-type Laws'4.the-laws Laws'4.the-copy .copy 𝓤 H A W) ρ4 (λ x. x)
                       (λ x. x) (λ ρ told. Local.mem-whole 𝓤 H A W (Declared'.row Station.the-type) ρ) λ ρ told. Local.whole-mem 𝓤 H A W (Declared'.row
                       Station.the-type) ρ,
                   Path'.refl,
@@ -1952,7 +1952,7 @@ module _ (claims· : Claims) where
                     (tt, tt),
                   ),
                 ),
-              ) (Reads'.room-gone 𝓤 H A mirs.Verdict) (tt, (tt, tt)) Path'.refl) d49
+              ) (Reads'.room-gone 𝓤 H A mirs.Passage) (tt, (tt, tt)) Path'.refl) d49
 
           d51 : Typed.Typed 𝓤 H A 𝓣 E G4 b33 Δ0 (at51 bs)
           d51 = Typed.s-seq 𝓤 H A W 𝓣 E G4 G5 b1 b32 Δ0 (Typed.ask (s3 bs)) (at50 bs) (Relend.t-sl-aggregate 𝓤 H A W E in-Record.row 𝓣 (Relend.asShr
@@ -2012,18 +2012,18 @@ module _ (claims· : Claims) where
             ty = Declared'.row Station.the-type;
             one = Path'.refl;
             val = Laws'9.val Station.the-type
-                Laws'5.the-laws;
-            tells = Laws'9.tells Station.the-type Laws'5.the-laws;
-            still = Laws'9.still Station.the-type Laws'5.the-copy Exit.yes;
+                Laws'4.the-laws;
+            tells = Laws'9.tells Station.the-type Laws'4.the-laws;
+            still = Laws'9.still Station.the-type Laws'4.the-copy Exit.yes;
             row = Rows.whole (Declared'.row Station.the-type);
             rd = λ x. x;
             mk = λ x. x;
           } λ M 𝓤 H A W. record {
             copies = Laws'9.copy
-                Station.the-type Laws'5.the-copy 𝓤 H A W;
-            lawful = Laws'9.lawful Station.the-type Laws'5.the-laws 𝓤 H A W;
+                Station.the-type Laws'4.the-copy 𝓤 H A W;
+            lawful = Laws'9.lawful Station.the-type Laws'4.the-laws 𝓤 H A W;
             makes = Laws'9.makes
-                Station.the-type Laws'5.the-plain 𝓤 H A;
+                Station.the-type Laws'4.the-plain 𝓤 H A;
             in-mem = Local.mem-whole 𝓤 H A W (Declared'.row Station.the-type);
             of-mem = Local.whole-mem 𝓤 H
                 A W (Declared'.row Station.the-type);
@@ -2162,15 +2162,15 @@ module _ (claims· : Claims) where
 
       module _ (before· : After-ask-memory) where
         pub record At-match-keys1·own : Type 0 where
-          pub keys1 : Run.OneOf (1 ∷ []) (Declared.tagOf Verdict.the-type (Row.get 8 (T10 .locals) (m6 (before· .before) (After-ask-memory·gave
+          pub keys1 : Run.OneOf (1 ∷ []) (Declared.tagOf Passage.the-type (Row.get 8 (T10 .locals) (m6 (before· .before) (After-ask-memory·gave
               before·))))
 
       pub record At-match-keys1 : Type 0 where
         pub before : After-ask-memory
         pub match : At-match-keys1·own before
 
-      abbrev pub Need-enum-known-verdict : Type 0
-      Need-enum-known-verdict = (c : At-match-keys1) → s9 (c .before .before .before .before .blocks) .asks (m6 (c .before .before)
+      abbrev pub Need-enum-known-passage : Type 0
+      Need-enum-known-passage = (c : At-match-keys1) → s9 (c .before .before .before .before .blocks) .asks (m6 (c .before .before)
           (After-ask-memory·gave (c .before)))
 
       abbrev pub m7 : (before : At-match-keys1) → (given : s9 (before .before .before .before .before .blocks) .gives (m6 (before .before .before)
@@ -2179,72 +2179,72 @@ module _ (claims· : Claims) where
           .before))) given
 
       module _ (before· : At-match-keys1) where
-        pub record After-verdict·own : Type 0 where
+        pub record After-passage·own : Type 0 where
           pub given : s9 (before· .before .before .before .before .blocks) .gives (m6 (before· .before .before) (After-ask-memory·gave (before·
               .before)))
 
-      pub record After-verdict : Type 0 where
+      pub record After-passage : Type 0 where
         pub before : At-match-keys1
-        pub verdict : After-verdict·own before
+        pub passage : After-passage·own before
 
-      abbrev pub m8 : (before : After-verdict) → (given : s10 (before .before .before .before .before .before .blocks) .gives (m7 (before .before)
-          (before .verdict .given))) → Typed.Mo T13
-      m8 = λ before given. s10 (before .before .before .before .before .before .blocks) .next (m7 (before .before) (before .verdict .given)) given
+      abbrev pub m8 : (before : After-passage) → (given : s10 (before .before .before .before .before .before .blocks) .gives (m7 (before .before)
+          (before .passage .given))) → Typed.Mo T13
+      m8 = λ before given. s10 (before .before .before .before .before .before .blocks) .next (m7 (before .before) (before .passage .given)) given
 
-      abbrev pub m9 : (before : After-verdict) → (given : s10 (before .before .before .before .before .before .blocks) .gives (m7 (before .before)
-          (before .verdict .given))) → Typed.Mo T14
+      abbrev pub m9 : (before : After-passage) → (given : s10 (before .before .before .before .before .before .blocks) .gives (m7 (before .before)
+          (before .passage .given))) → Typed.Mo T14
       m9 = λ before given. s11 (before .before .before .before .before .before .blocks) (m8 before given)
 
-      abbrev pub m10 : (before : After-verdict) → (given : s10 (before .before .before .before .before .before .blocks) .gives (m7 (before .before)
-          (before .verdict .given))) → Typed.Mo T15
+      abbrev pub m10 : (before : After-passage) → (given : s10 (before .before .before .before .before .before .blocks) .gives (m7 (before .before)
+          (before .passage .given))) → Typed.Mo T15
       m10 = λ before given. s12 (before .before .before .before .before .before .blocks) (m9 before given)
 
-      abbrev pub m11 : (before : After-verdict) → (given : s10 (before .before .before .before .before .before .blocks) .gives (m7 (before .before)
-          (before .verdict .given))) → Typed.Mo T16
+      abbrev pub m11 : (before : After-passage) → (given : s10 (before .before .before .before .before .before .blocks) .gives (m7 (before .before)
+          (before .passage .given))) → Typed.Mo T16
       m11 = λ before given. s13 (before .before .before .before .before .before .blocks) (m10 before given)
 
-      abbrev pub m12 : (before : After-verdict) → (given : s10 (before .before .before .before .before .before .blocks) .gives (m7 (before .before)
-          (before .verdict .given))) → Typed.Mo T17
+      abbrev pub m12 : (before : After-passage) → (given : s10 (before .before .before .before .before .before .blocks) .gives (m7 (before .before)
+          (before .passage .given))) → Typed.Mo T17
       m12 = λ before given. s14 (before .before .before .before .before .before .blocks) (m11 before given)
 
-      abbrev pub m13 : (before : After-verdict) → (given : s10 (before .before .before .before .before .before .blocks) .gives (m7 (before .before)
-          (before .verdict .given))) → Typed.Mo T18
+      abbrev pub m13 : (before : After-passage) → (given : s10 (before .before .before .before .before .before .blocks) .gives (m7 (before .before)
+          (before .passage .given))) → Typed.Mo T18
       m13 = λ before given. s15 (before .before .before .before .before .before .blocks) (m12 before given)
 
-      abbrev pub m14 : (before : After-verdict) → (given : s10 (before .before .before .before .before .before .blocks) .gives (m7 (before .before)
-          (before .verdict .given))) → Typed.Mo T19
+      abbrev pub m14 : (before : After-passage) → (given : s10 (before .before .before .before .before .before .blocks) .gives (m7 (before .before)
+          (before .passage .given))) → Typed.Mo T19
       m14 = λ before given. s16 (before .before .before .before .before .before .blocks) (m13 before given)
 
-      abbrev pub m15 : (before : After-verdict) → (given : s10 (before .before .before .before .before .before .blocks) .gives (m7 (before .before)
-          (before .verdict .given))) → Typed.Mo T20
+      abbrev pub m15 : (before : After-passage) → (given : s10 (before .before .before .before .before .before .blocks) .gives (m7 (before .before)
+          (before .passage .given))) → Typed.Mo T20
       m15 = λ before given. s17 (before .before .before .before .before .before .blocks) (m14 before given)
 
-      abbrev pub m16 : (before : After-verdict) → (given : s10 (before .before .before .before .before .before .blocks) .gives (m7 (before .before)
-          (before .verdict .given))) → Typed.Mo T21
+      abbrev pub m16 : (before : After-passage) → (given : s10 (before .before .before .before .before .before .blocks) .gives (m7 (before .before)
+          (before .passage .given))) → Typed.Mo T21
       m16 = λ before given. s18 (before .before .before .before .before .before .blocks) (m15 before given)
 
-      abbrev pub m17 : (before : After-verdict) → (given : s10 (before .before .before .before .before .before .blocks) .gives (m7 (before .before)
-          (before .verdict .given))) → Typed.Mo T22
+      abbrev pub m17 : (before : After-passage) → (given : s10 (before .before .before .before .before .before .blocks) .gives (m7 (before .before)
+          (before .passage .given))) → Typed.Mo T22
       m17 = λ before given. s19 (before .before .before .before .before .before .blocks) (m16 before given)
 
-      abbrev pub m18 : (before : After-verdict) → (given : s10 (before .before .before .before .before .before .blocks) .gives (m7 (before .before)
-          (before .verdict .given))) → Typed.Mo T23
+      abbrev pub m18 : (before : After-passage) → (given : s10 (before .before .before .before .before .before .blocks) .gives (m7 (before .before)
+          (before .passage .given))) → Typed.Mo T23
       m18 = λ before given. s20 (before .before .before .before .before .before .blocks) (m17 before given)
 
-      abbrev pub m19 : (before : After-verdict) → (given : s10 (before .before .before .before .before .before .blocks) .gives (m7 (before .before)
-          (before .verdict .given))) → Typed.Mo T24
+      abbrev pub m19 : (before : After-passage) → (given : s10 (before .before .before .before .before .before .blocks) .gives (m7 (before .before)
+          (before .passage .given))) → Typed.Mo T24
       m19 = λ before given. s21 (before .before .before .before .before .before .blocks) (m18 before given)
 
-      abbrev pub m20 : (before : After-verdict) → (given : s10 (before .before .before .before .before .before .blocks) .gives (m7 (before .before)
-          (before .verdict .given))) → Typed.Mo T25
+      abbrev pub m20 : (before : After-passage) → (given : s10 (before .before .before .before .before .before .blocks) .gives (m7 (before .before)
+          (before .passage .given))) → Typed.Mo T25
       m20 = λ before given. s22 (before .before .before .before .before .before .blocks) (m19 before given)
 
-      module _ (before· : After-verdict) where
+      module _ (before· : After-passage) where
         pub record After-known-told·own : Type 0 where
-          pub given : s10 (before· .before .before .before .before .before .blocks) .gives (m7 (before· .before) (before· .verdict .given))
+          pub given : s10 (before· .before .before .before .before .before .blocks) .gives (m7 (before· .before) (before· .passage .given))
 
       pub record After-known-told : Type 0 where
-        pub before : After-verdict
+        pub before : After-passage
         pub known-told : After-known-told·own before
 
       abbrev pub Need-same-length : Type 0
@@ -2261,7 +2261,7 @@ module _ (claims· : Claims) where
 
       module _ (before· : After-ask-memory) where
         pub record At-match-keys2·own : Type 0 where
-          pub keys2 : Run.OneOf (0 ∷ []) (Declared.tagOf Verdict.the-type (Row.get 8 (T10 .locals) (m6 (before· .before) (After-ask-memory·gave
+          pub keys2 : Run.OneOf (0 ∷ []) (Declared.tagOf Passage.the-type (Row.get 8 (T10 .locals) (m6 (before· .before) (After-ask-memory·gave
               before·))))
 
       pub record At-match-keys2 : Type 0 where
@@ -2498,7 +2498,7 @@ module _ (claims· : Claims) where
           .before .before .before .before .before .before .before .before .before .before .before .κs) (c .before .before .before .before .before
           .before .before .before .before .before .before .args)) (m44 (c .before) (c .station .given) .1)))
 
-      module _ (ask-memory-requires : Need-ask-memory-requires) (enum-known-verdict : Need-enum-known-verdict) (same-length : Need-same-length)
+      module _ (ask-memory-requires : Need-ask-memory-requires) (enum-known-passage : Need-enum-known-passage) (same-length : Need-same-length)
           (returns : Need-returns) (enum-told : Need-enum-told) (request-plan-requires : Need-request-plan-requires) (put-record-requires :
           Need-put-record-requires) (same-length-2 : Need-same-length-2) (returns-2 : Need-returns-2) where
         lay4 : (c : After-put-record) → at40 (c .before .before .before .before .before .before .before .before .before .blocks) (W0 (c .before
@@ -2632,7 +2632,7 @@ module _ (claims· : Claims) where
             (c .before .before .before .blocks)) (m4 (c .before) (After-ask-memory·gave c))
         lay1 = λ c. (
           λ k. (
-            enum-known-verdict record {
+            enum-known-passage record {
               before = record { before = c .before; ask-memory = c .ask-memory };
               match = record {
                 keys1 = k;
@@ -2650,11 +2650,11 @@ module _ (claims· : Claims) where
                       };
                       match = record { keys1 = k };
                     };
-                    verdict = record { given = g };
+                    passage = record { given = g };
                   } g') .ptr) (Row.get 2 (T25 .locals) (m20
                       record {
                         before = record { before = record { before = c .before; ask-memory = c .ask-memory }; match = record { keys1 = k } };
-                        verdict =
+                        passage =
                             record { given = g };
                       } g') .name) (Row.get 2 (T25 .locals) (m20 record {
                         before = record {
@@ -2664,7 +2664,7 @@ module _ (claims· : Claims) where
                           };
                           match = record { keys1 = k };
                         };
-                        verdict = record { given = g };
+                        passage = record { given = g };
                       } g') .now) (dens (c .before .before .before
                       .κs) (c .before .before .before .args) .1 .0 .now) (same-length record {
                         before = record {
@@ -2676,7 +2676,7 @@ module _ (claims· : Claims) where
                             };
                             match = record { keys1 = k };
                           };
-                          verdict = record { given = g };
+                          passage = record { given = g };
                         };
                         known-told = record {
                           given = g';
@@ -2695,7 +2695,7 @@ module _ (claims· : Claims) where
                     };
                     match = record { keys1 = k };
                   };
-                  verdict = record { given = g };
+                  passage = record { given = g };
                 };
                 known-told = record {
                   given = g';
@@ -2716,8 +2716,8 @@ module _ (claims· : Claims) where
               λ
                   n. n .0 .1 Path'.refl,
               (λ n. n .1 Path'.refl, tt),
-            ) (Declared.tagOf Verdict.the-type (Row.get 8 (T10 .locals) (m6 (c .before)
-                (After-ask-memory·gave c)))) (Match.tag-small Verdict.the-type (Row.get 8 (T10 .locals) (m6 (c .before) (After-ask-memory·gave c)))),
+            ) (Declared.tagOf Passage.the-type (Row.get 8 (T10 .locals) (m6 (c .before)
+                (After-ask-memory·gave c)))) (Match.tag-small Passage.the-type (Row.get 8 (T10 .locals) (m6 (c .before) (After-ask-memory·gave c)))),
           ),
         )
 
@@ -2796,7 +2796,7 @@ module _ (claims· : Claims) where
 
         module _ {M : Type 1} (𝓤 : URA.URA M) (H : Wp.Heap 𝓤) (A : Atoms.Atoms 𝓤) (W : Kit.Given 𝓤 H A) (𝓣 : Wp.Tables 𝓤 H) (known0 : Plain.Known 𝓤 H
             A W 𝓣 2 ps·0 r·0 (claims· .0) (claims· .1) "bs_sched::ask_memory") (known1 : Plain.Known 𝓤 H A W 𝓣 0 ps·1 r·1 (claims· .2) (claims· .3)
-            "request_core::request_plan") (known2 : Plain.Known 𝓤 H A W 𝓣 1 ps·2 r·2 (claims· .4) (claims· .5) "bs_sched::put_record") where
+            "sched_request::request_plan") (known2 : Plain.Known 𝓤 H A W 𝓣 1 ps·2 r·2 (claims· .4) (claims· .5) "bs_sched::put_record") where
           pub spec : Statement.Triple 𝓤 (Wp.WpFn 𝓤 H (𝓣 .C) (𝓣 .Λ) (Function.fnOf 2 ps r xs m hs body)) (Function.plainOf 𝓤 H A 2 ps r Pre· Post·)
           spec = Plain.t-fn-plain 𝓤 H A W 𝓣 2 ps r xs m hs body (λ κs qs bs. Φ bs) (λ κs qs bs bd. typed κs qs 𝓤 H A W 𝓣 (known0, known1, known2) bs
               bd) Pre· Post· asked

@@ -11,9 +11,9 @@ use Rattle.bs_sched.proofs.ul_process_cap_req.Code
 use Rattle.bs_sched.proofs.ul_process_cap_req.Key
 use Rattle.bs_sched.proofs.ul_process_cap_req.Proof.Lts
 use Rattle.bs_sched.proofs.ul_process_cap_req.Statement
-use Rattle.request_core.proofs.request_plan.Met
-use Rattle.request_core.proofs.request_plan.Reads
-use Rattle.request_core.proofs.request_plan.Symbol
+use Rattle.sched_request.proofs.request_plan.Met
+use Rattle.sched_request.proofs.request_plan.Reads
+use Rattle.sched_request.proofs.request_plan.Symbol
 use borrow.Fn.Run
 use borrow.Fn.Written
 use contract.Running
@@ -35,8 +35,8 @@ After-ask-memory = Lts.After-ask-memory (Reads'.Asked, Reads'.Learnt, Reads.Aske
 abbrev pub At-match-keys1 : Type 0
 At-match-keys1 = Lts.At-match-keys1 (Reads'.Asked, Reads'.Learnt, Reads.Asked, Reads.Learnt, Reads''.Asked, Reads''.Learnt) Kinds.Pre Kinds.Post
 
-abbrev pub After-verdict : Type 0
-After-verdict = Lts.After-verdict (Reads'.Asked, Reads'.Learnt, Reads.Asked, Reads.Learnt, Reads''.Asked, Reads''.Learnt) Kinds.Pre Kinds.Post
+abbrev pub After-passage : Type 0
+After-passage = Lts.After-passage (Reads'.Asked, Reads'.Learnt, Reads.Asked, Reads.Learnt, Reads''.Asked, Reads''.Learnt) Kinds.Pre Kinds.Post
 
 abbrev pub After-known-told : Type 0
 After-known-told = Lts.After-known-told (Reads'.Asked, Reads'.Learnt, Reads.Asked, Reads.Learnt, Reads''.Asked, Reads''.Learnt) Kinds.Pre Kinds.Post
@@ -71,8 +71,8 @@ abbrev pub Need-ask-memory-requires : Type 0
 Need-ask-memory-requires = Lts.Need-ask-memory-requires (Reads'.Asked, Reads'.Learnt, Reads.Asked, Reads.Learnt, Reads''.Asked, Reads''.Learnt)
     Kinds.Pre Kinds.Post
 
-abbrev pub Need-enum-known-verdict : Type 0
-Need-enum-known-verdict = Lts.Need-enum-known-verdict (Reads'.Asked, Reads'.Learnt, Reads.Asked, Reads.Learnt, Reads''.Asked, Reads''.Learnt)
+abbrev pub Need-enum-known-passage : Type 0
+Need-enum-known-passage = Lts.Need-enum-known-passage (Reads'.Asked, Reads'.Learnt, Reads.Asked, Reads.Learnt, Reads''.Asked, Reads''.Learnt)
     Kinds.Pre Kinds.Post
 
 abbrev pub Need-same-length : Type 0
@@ -100,7 +100,7 @@ abbrev pub Need-returns-2 : Type 0
 Need-returns-2 = Lts.Need-returns-2 (Reads'.Asked, Reads'.Learnt, Reads.Asked, Reads.Learnt, Reads''.Asked, Reads''.Learnt) Kinds.Pre Kinds.Post
 
 module _ {M : Type 1} where
-  pub spec : (answer : Need-ask-memory-requires) → (answer : Need-enum-known-verdict) → (answer : Need-same-length) → (answer : Need-returns) →
+  pub spec : (answer : Need-ask-memory-requires) → (answer : Need-enum-known-passage) → (answer : Need-same-length) → (answer : Need-returns) →
       (answer : Need-enum-told) → (answer : Need-request-plan-requires) → (answer : Need-put-record-requires) → (answer : Need-same-length-2) →
       (answer : Need-returns-2) → Lts.Closed (Reads'.Asked, Reads'.Learnt, Reads.Asked, Reads.Learnt, Reads''.Asked, Reads''.Learnt) Kinds.Pre
       Kinds.Post M
@@ -140,7 +140,7 @@ module _ {M : Type 1} where
         𝓜 = 𝓜;
         𝓖 = 𝓖;
         𝓡 = 𝓡;
-      } Code.env Symbol.name Symbol.routine Code.calls-request-core·request-plan (Met.met 𝓤 H 𝓜 𝓖 𝓡)) (Reads''.known record {
+      } Code.env Symbol.name Symbol.routine Code.calls-sched-request·request-plan (Met.met 𝓤 H 𝓜 𝓖 𝓡)) (Reads''.known record {
         M = M;
         𝓤 =
             𝓤;

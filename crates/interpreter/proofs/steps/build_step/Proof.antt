@@ -1,12 +1,13 @@
--- The entry's outcome, and its line; at most sixteen tags. Assumes nothing.
+-- The entry's outcome, and its line; at most a tag for each place of the timeslot. Assumes nothing.
 use borrow.Author.Needs.{needs}
 use mathlib.Core.Path.{_≡_}
 use lib.ListN.{length}
+use Rattle.sizes.specs.Sizes.{timeslots}
 use Rattle.interpreter.proofs.StepLaws.{tag-count, built}
 use Rattle.interpreter.proofs.steps.build_step.Statement.{statement}
 use Rattle.interpreter.proofs.steps.build_step.Tie as tie
 
-four : (s : tie.Start) → length (s .args .station .queued) ≡ 4
+four : (s : tie.Start) → length (s .args .station .queued) ≡ timeslots
 four s = search needs
 
 put-build-requires : tie.Need-put-build-requires

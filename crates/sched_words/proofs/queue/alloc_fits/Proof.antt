@@ -9,9 +9,12 @@ returns : tie.Need-returns
 returns c = c .any-word .ensures ∙ no-alloc-fits (c .before .before .before .before .before .args .words .now) (search needs) (c .before .before .if1 .taken)
 
 returns-2 : tie.Need-returns-2
-returns-2 c = let e = c .before .before .before .before .before .before .before .before .before .before in alloc-fits (e .before .before .before .args .words .now) (search needs) (e .if1 .left)
+returns-2 c = let e = c .before .before .before .before .before .before .before .before .before .before in alloc-fits
+    (e .before .before .before .args .words .now) (search needs) (e .if1 .left)
 
 pub alloc-fits-spec : {M : Type 1} → statement M
 alloc-fits-spec =
     tie.close
-    (tie.spec (λ c. search needs) (λ c. search needs) (λ c. search needs) (λ c. search needs) (λ c κs. search needs) returns (λ c. search needs) (λ c. search needs) (λ c. search needs) (λ c. search needs) (λ c. search needs) (λ c. search needs) (λ c. search needs) (λ c. search needs) (λ c. search needs) (λ c. search needs) returns-2)
+    (tie.spec (λ c. search needs) (λ c. search needs) (λ c. search needs) (λ c. search needs) (λ c κs. search needs) returns (λ c. search needs)
+    (λ c. search needs) (λ c. search needs) (λ c. search needs) (λ c. search needs) (λ c. search needs) (λ c. search needs) (λ c. search needs)
+    (λ c. search needs) (λ c. search needs) returns-2)

@@ -13,7 +13,8 @@ returns-2 : tie.Need-returns-2
 returns-2 c =
     ap OptChanAlloc.Of
     (λ i. record {
-      «alloc_type» = c .before .before .before .before .before .before .before .before .before .before .before .before .before .before .before .before .low8 .ensures i;
+      «alloc_type» = c .before .before .before .before .before .before .before .before .before .before .before .before .before .before .before .before .low8
+          .ensures i;
       «ts_assigned» = c .before .before .before .before .before .before .before .before .before .before .before .before .before .before .low82 .ensures i;
       «ul_dl_assigned» = c .before .before .before .before .before .before .before .before .before .before .before .before .low83 .ensures i;
       «clch_permission» = c .before .before .before .before .before .before .before .before .before .before .low84 .ensures i;
@@ -23,7 +24,9 @@ returns-2 c =
       «mon_pattern» = c .before .before .low87 .ensures i;
       «frame18_mon_pattern» = c .opt-u8 .ensures i;
     })
-    ∙ alloc-present _ (c .before .before .before .before .before .before .before .before .before .before .before .before .before .before .before .before .before .before .before .before .before .args .words .now) (c .before .before .before .before .before .before .before .before .before .before .before .before .before .before .before .before .before .before .if1 .left)
+    ∙ alloc-present _ (c .before .before .before .before .before .before .before .before .before .before .before .before .before .before .before .before
+    .before .before .before .before .before .args .words .now) (c .before .before .before .before .before .before .before .before .before .before .before
+    .before .before .before .before .before .before .before .if1 .left)
 
 pub alloc-from-spec : {M : Type 1} → statement M
 alloc-from-spec =

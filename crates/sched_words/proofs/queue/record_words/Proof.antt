@@ -14,7 +14,8 @@ returns c =
     let k = m .before .before .before in
     let r = k .before .before .args .r in
     let h = r .header in
-    λ i. k .kind-word .ensures i ∷ r .«address_kind» ∷ r .number ∷ m .before .before .word-of-16 .ensures i ∷ h .«pos_of_grant» ∷ h .«encryption_mode» ∷ h .«random_access_flag»
+    λ i. k .kind-word .ensures i ∷ r .«address_kind» ∷ r .number ∷ m .before .before .word-of-16 .ensures i ∷ h .«pos_of_grant» ∷ h .«encryption_mode» ∷ h
+    .«random_access_flag»
     ∷ m .before .word-of-162 .ensures i ∷ m .word-of-8 .ensures i ∷ a .before .before .word-of-82 .ensures i ∷ a .before .word-of-83 .ensures i
     ∷ ten-words (a .alloc-words .result) (h .«chan_alloc_element») (r .bits) (r .sent) (a .alloc-words .ensures) i
 

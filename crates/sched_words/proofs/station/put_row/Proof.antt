@@ -13,7 +13,8 @@ use Rattle.sched_words.proofs.station.put_row.Statement.{statement}
 use Rattle.sched_words.proofs.station.put_row.Tie as tie
 
 abbrev Inv-loop : tie.InvT-loop
-Inv-loop words₀ at row i₀ words i = (i ≤ 18) × (length row ≡ 18) × (length words ≡ length words₀) × (sets words (at + 3 * i) (rowWords (drop i row)) ≡ sets words₀ at (rowWords row))
+Inv-loop words₀ at row i₀ words i = (i ≤ 18) × (length row ≡ 18) × (length words ≡ length words₀)
+    × (sets words (at + 3 * i) (rowWords (drop i row)) ≡ sets words₀ at (rowWords row))
 
 abbrev μ-loop : tie.MeasureT-loop
 μ-loop words₀ at row i₀ words i = 18 - i
@@ -29,7 +30,8 @@ loop-again c =
       omega arith,
       l .loop .inv .1,
       search needs,
-      joined-next entryWords 3 (λ e. refl) _ _ _ (s .args .t3) _ _ (l .loop .i) emptyEntry (omega arith) (p .put .ensures) (p .before .before .before .entry-words .ensures) (omega arith)
+      joined-next entryWords 3 (λ e. refl) _ _ _ (s .args .t3) _ _ (l .loop .i) emptyEntry (omega arith) (p .put .ensures)
+          (p .before .before .before .entry-words .ensures) (omega arith)
           ∙ l .loop .inv .3,
     )
 
@@ -45,5 +47,6 @@ returns c =
 pub put-row-spec : {M : Type 1} → statement M
 put-row-spec =
     tie.close
-    (tie.spec Inv-loop μ-loop loop-holds (λ c. search needs) (λ c. search needs) (λ c κs. search needs) (λ c. search needs) (λ c. search needs) (λ c. search needs) (λ c κs. search needs)
+    (tie.spec Inv-loop μ-loop loop-holds (λ c. search needs) (λ c. search needs) (λ c κs. search needs) (λ c. search needs) (λ c. search needs)
+    (λ c. search needs) (λ c κs. search needs)
     (λ c. search needs) (λ c. omega arith) loop-again (λ c. search needs) returns)

@@ -32,10 +32,12 @@ returns c =
     let rows = m .before .before .table-of .ensures in
     let table = stored-on time (as-table rows (p2 .put-table .ensures)) refl 220 refl in
     let counters = stored-on table (stored (p3 .put2 .ensures) (m .four-words .ensures .0) (m .four-words .ensures .1)) refl 224 refl in
-    stored-whole (stored-on counters (stored (p4 .put3 .ensures) (q .four-words2 .ensures .0) (q .four-words2 .ensures .1)) refl 228 refl) (m .before .before .before .before .before .before .before .before .pre)
+    stored-whole (stored-on counters (stored (p4 .put3 .ensures) (q .four-words2 .ensures .0) (q .four-words2 .ensures .1)) refl 228 refl)
+    (m .before .before .before .before .before .before .before .before .pre)
 
 pub put-station-spec : {M : Type 1} → statement M
 put-station-spec =
     tie.close
-    (tie.spec (λ c κs. search needs) (λ c κs. search needs) (λ c κs. search needs) (λ c κs. search needs) (λ c. search needs) (λ c κs. search needs) (λ c κs. search needs)
+    (tie.spec (λ c κs. search needs) (λ c κs. search needs) (λ c κs. search needs) (λ c κs. search needs) (λ c. search needs) (λ c κs. search needs)
+    (λ c κs. search needs)
     (λ c. search needs) (λ c κs. search needs) (λ c. search needs) (λ c κs. search needs) (λ c. search needs) returns)

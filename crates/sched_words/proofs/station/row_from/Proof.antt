@@ -28,8 +28,11 @@ loop-again c =
     let l = c .before .before .before in
     let ws = l .before .before .args .words .now in
     let i = l .loop .i in
-    let read = c .entry-from .ensures ∙ ap entryFrom (rest ws (3 * i)) ∙ sym (part-at entryFrom 3 18 i ws emptyEntry (omega arith)) in
-    (omega arith, rw (l .loop .inv .1, read) (filled-next emptyEntry i (rowFrom ws) (replicate 18 emptyEntry) (omega (arith, length-parts entryFrom 3 18 ws)) (omega arith)))
+    let read = c .entry-from .ensures ∙ ap entryFrom (rest ws (3 * i)) ∙ sym (part-at entryFrom 3 18 i ws emptyEntry (omega arith)) in (
+      omega arith,
+      rw (l .loop .inv .1, read) (filled-next emptyEntry i (rowFrom ws) (replicate 18 emptyEntry) (omega (arith, length-parts entryFrom 3 18 ws))
+          (omega arith)),
+    )
 
 returns : tie.Need-returns Inv-loop μ-loop
 returns c =

@@ -6,8 +6,8 @@ use native.Mathlib.Omega.{arith}
 use lib.Dec.{eqb}
 use lib.ListN.{length, drop}
 use borrow.Author.Needs.{needs}
-use Rattle.sdu_store.specs.Cells.{allZero}
-use Rattle.sdu_store.proofs.ZeroLaws.{or-turn, none-left}
+use Rattle.dl_sdu_store.specs.Cells.{allZero}
+use Rattle.dl_sdu_store.proofs.ZeroLaws.{or-turn, none-left}
 use Rattle.sched_words.proofs.word.any_word.Statement.{statement}
 use Rattle.sched_words.proofs.word.any_word.Tie as tie
 

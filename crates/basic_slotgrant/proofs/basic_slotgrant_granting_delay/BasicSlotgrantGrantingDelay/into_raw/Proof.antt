@@ -10,10 +10,19 @@ returns : tie.Need-returns
 returns c = (sym (ap delayCode (c .before .before .self .given .1) ∙ nearest-from-below (c .before .before .self .given .0 .0) (search needs)), search needs)
 
 returns-2 : tie.Need-returns-2
-returns-2 c = (sym (ap delayCode (c .before .before .before .self .given .1) ∙ nearest-from-above (c .before .before .before .self .given .0 .0) (search needs)), search needs)
+returns-2 c = (
+  sym (ap delayCode (c .before .before .before .self .given .1) ∙ nearest-from-above (c .before .before .before .self .given .0 .0) (search needs)),
+  search needs,
+)
 
 returns-4 : tie.Need-returns-4
-returns-4 c = (sym (ap delayCode (c .before .before .before .self .given .1) ∙ nearest-within (c .before .before .before .self .given .0 .0) (search needs) (search needs)), search needs)
+returns-4 c = (
+  sym (ap delayCode (c .before .before .before .self .given .1)
+      ∙ nearest-within (c .before .before .before .self .given .0 .0) (search needs) (search needs)),
+  search needs,
+)
 
 pub into-raw-spec : {M : Type 1} → statement M
-into-raw-spec = tie.close (tie.spec (λ c. search needs) (λ c. search needs) returns returns-2 (λ c. search needs) (λ c. search needs) (λ c. search needs) returns-4 (λ c. search needs) (λ c. search needs))
+into-raw-spec =
+    tie.close (tie.spec (λ c. search needs) (λ c. search needs) returns returns-2 (λ c. search needs) (λ c. search needs) (λ c. search needs) returns-4
+    (λ c. search needs) (λ c. search needs))

@@ -1,0 +1,8 @@
+// The laws are in proofs/; this function only lets the crate stand.
+ghost use mathlib.Core.Path.{_≡_};
+
+pub fn same(x: usize) -> usize
+    ensures { λ r. ⌜ r ≡ x ⌝ }
+{
+    x
+}
