@@ -28,7 +28,8 @@ ghost use Rattle.questions.specs.Questions.{question, ask};
 ghost use Rattle.sched_core.specs.declared.BuildReply.{BuildReply};
 ghost use Rattle.sched_core.specs.Station.{withQueued};
 ghost use Rattle.sched_core.specs.Questions.{memory, soundStation, memoryQuestions};
-ghost use Rattle.sched_core.specs.Calls.{outcome, current, newCall, advanceCall, ownerCall, usageCall, requestCall, ackCall, tmaCall, buildCall};
+ghost use Rattle.sched_core.specs.Calls.{outcome, current, requestCall, ackCall, tmaCall, buildCall};
+ghost use Rattle.sched_core.specs.Calls.{stationOutcome, newCall, advanceCall, ownerCall, usageCall};
 ghost use Rattle.bs_sched.specs.declared.Passage.{Passage};
 ghost use Rattle.bs_sched.specs.Entries.{buildAnswerOf, buildLeft, leftBy};
 
@@ -182,14 +183,14 @@ fn built(plan: Progress, station: Station) -> BuildAnswer
 
 // A new station at a time: an empty table and queues, and markers at 4.
 pub fn new(time: TdmaTime) -> Answer
-    ensures { λ r. ⌜ r ≡ newCall time ⌝ }
+    ensures { λ r. ⌜ stationOutcome (r .reply) (r .station) ≡ newCall time ⌝ }
 {
     sched_core::new(time)
 }
 
 // One slot on.
 pub fn advance(s: Station) -> Answer
-    ensures { λ r. ⌜ r ≡ advanceCall s ⌝ }
+    ensures { λ r. ⌜ stationOutcome (r .reply) (r .station) ≡ advanceCall s ⌝ }
 {
     sched_core::advance(s)
 }

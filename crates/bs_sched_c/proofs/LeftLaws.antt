@@ -17,12 +17,11 @@ use Rattle.sched_core.specs.declared.Station.{Station}
 use Rattle.questions.specs.declared.Refusal.{Refusal}
 use Rattle.sched_core.specs.declared.Reply.{Reply}
 use Rattle.sched_core.specs.declared.RequestReply.{RequestReply}
-use Rattle.sched_core.specs.declared.Answer.{Answer}
 use Rattle.questions.specs.Questions.{Question, question, refusalNumber, ask, askedNumber}
 use Rattle.questions.proofs.NumberLaws.{number-positive, number-no}
 use Rattle.sched_core.specs.Station.{stationOf, advancedStation}
 use Rattle.sched_core.specs.Questions.{Memory, memory, soundStation, memoryQuestions}
-use Rattle.sched_core.specs.Calls.{Outcome, outcome, judged, replyNumber, requestNumber, advanceCall, ownerCall, usageCall}
+use Rattle.sched_core.specs.Calls.{Outcome, outcome, StationOutcome, judged, replyNumber, requestNumber, advanceCall, ownerCall, usageCall}
 use Rattle.sched_enqueue.specs.declared.QueuePlan.{QueuePlan}
 use Rattle.sched_enqueue.specs.Plan.{SoundQueue, Planned, QueuePlanned}
 use Rattle.sched_words.specs.Words.{stationWordCount, recordWordCount, stationWords, stationFrom, recordWords, recordsFrom}
@@ -38,7 +37,7 @@ is-station ws refused h e = rw (eq-eqb _ _ h) e
 
 -- ---- calls on the station alone
 
-module _ (ws : List ℕ) (a : Answer) (n : ℕ) (numbered : n ≡ replyNumber (a .reply)) where
+module _ (ws : List ℕ) (a : StationOutcome) (n : ℕ) (numbered : n ≡ replyNumber (a .reply)) where
   pub answer-refused : (n ≡ 0 → ⊥) → stationLeft n ws ≡ stationLeftBy ws a
   answer-refused h = rw (sym numbered, ne-eqb _ _ h)
 

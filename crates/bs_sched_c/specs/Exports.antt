@@ -10,15 +10,14 @@ use Rattle.uplink.specs.declared.PhyBlockNum.{PhyBlockNum}
 use Rattle.uplink.specs.declared.Entry.{Entry}
 use Rattle.uplink.specs.UplinkEntry.{ownerOf, usageNumber, usageMarker, markerOrZero}
 use Rattle.dl_send.specs.Arrays.{tagRow}
-use Rattle.sched_core.specs.declared.Answer.{Answer}
 use Rattle.sched_core.specs.declared.RequestReply.{RequestReply}
 use Rattle.sched_core.specs.declared.BuildReply.{BuildReply}
 use Rattle.sched_core.specs.declared.OwnerReply.{OwnerReply}
 use Rattle.sched_core.specs.declared.UsageReply.{UsageReply}
 use Rattle.questions.specs.Questions.{refusalNumber}
 use Rattle.sched_core.specs.Questions.{Memory, memory}
-use Rattle.sched_core.specs.Calls.{Outcome, BuildOutcome, replyNumber, requestNumber, buildNumber, ownerNumber, newCall, advanceCall, ownerCall, usageCall}
-use Rattle.sched_core.specs.Calls.{requestCall, ackCall, tmaCall, buildCall}
+use Rattle.sched_core.specs.Calls.{Outcome, StationOutcome, BuildOutcome, replyNumber, requestNumber, buildNumber, ownerNumber}
+use Rattle.sched_core.specs.Calls.{newCall, advanceCall, ownerCall, usageCall, requestCall, ackCall, tmaCall, buildCall}
 use Rattle.sched_words.specs.Words.{stationWordCount, recordWordCount, wordOf32, stationWords, stationFrom, queueWords, recordsFrom, recordFrom}
 use Rattle.bs_sched_c.specs.declared.reply.BsSchedGrant.{BsSchedGrant}
 use Rattle.bs_sched_c.specs.declared.reply.BsSchedBuilt.{BsSchedBuilt}
@@ -99,7 +98,7 @@ abbrev pub stationLeft : ℕ → List ℕ → StationLeft
 stationLeft n ws = record { reply = n; station = ws }
 
 -- the station's words where the number is 0, else those that came in
-abbrev pub stationLeftBy : List ℕ → Answer → StationLeft
+abbrev pub stationLeftBy : List ℕ → StationOutcome → StationLeft
 stationLeftBy ws a = cond (eqb (replyNumber (a .reply)) 0) (stationLeft 0 (stationWords (a .station))) (stationLeft (replyNumber (a .reply)) ws)
 
 unfoldable pub newLeft : List ℕ → TdmaTime → StationLeft

@@ -13,11 +13,14 @@ use sched_words::STATION_WORDS;
 use sizes::PER_TIMESLOT;
 use tdma_time::TdmaTime;
 ghost use mathlib.Core.Path.{_≡_};
+ghost use mathlib.Core.Bool.{true};
 ghost use mathlib.Core.List.{[], _∷_};
+ghost use Prim.Native.Nat.{_-_, _<_};
 ghost use lib.ListN.{length};
+ghost use Rattle.sizes.specs.Sizes.{timeslots};
 ghost use Rattle.questions.specs.declared.Refusal.{Refusal};
 ghost use Rattle.questions.specs.Questions.{question, askedNumber};
-ghost use Rattle.sched_core.specs.Questions.{memory, memoryQuestions};
+ghost use Rattle.sched_core.specs.Questions.{memory, memoryQuestions, legalTimeslot};
 ghost use Rattle.sched_words.specs.Words.{stationWordCount, stationFrom, recordsFrom};
 ghost use Rattle.bs_sched_c.specs.Exports.{timeAt, stationLeft, newLeft, advanceLeft, ownerAnswer, usageAnswer, left, requestLeft, ackLeft};
 ghost use Rattle.bs_sched_c.specs.Exports.{enqueueLeft, buildWordsLeft, builtLeft};
@@ -134,6 +137,16 @@ fn memory_number(station: &[u32], queue: &[u32], store: &[u8], lent: bool) -> u8
     0
 }
 
+// The row of the table that a request looks at, counted from 0: its timeslot's. A timeslot that there is not is refused, whatever the row.
+fn row_of(timeslot: u8) -> usize
+    ensures { λ r. ⌜ (r < timeslots) × (legalTimeslot timeslot ≡ true → r ≡ timeslot - 1) ⌝ }
+{
+    if !sched_core::timeslot_is_legal(timeslot) {
+        return 0;
+    }
+    (timeslot - 1) as usize
+}
+
 // A request for capacity.
 #[no_mangle]
 pub extern "C" fn bs_sched_request(
@@ -155,7 +168,8 @@ pub extern "C" fn bs_sched_request(
     if no != 0 {
         return reply::not_granted(no);
     }
-    let s = sched_words::station::station_of(station);
+    let row = row_of(timeslot);
+    let s = sched_words::station::station_of_row(station, row);
     let plan = sched_request::request_plan(s, timeslot, code, kind, number);
     let reply = plan.reply;
     let grant = reply::grant_of(reply);
@@ -164,7 +178,7 @@ pub extern "C" fn bs_sched_request(
     }
     let next = plan.station;
     let r = plan.record;
-    sched_words::station::put_station(station, next);
+    sched_words::station::put_row_of(station, row, next);
     sched_words::queue::put_record(queue, plan.place, r);
     grant
 }

@@ -18,7 +18,6 @@ use Rattle.dl_record.specs.Record.{emptyRecord, emptyHeader}
 use Rattle.dl_send.specs.Arrays.{tagRow}
 use Rattle.sched_core.specs.declared.Station.{Station}
 use Rattle.sched_core.specs.declared.Reply.{Reply}
-use Rattle.sched_core.specs.declared.Answer.{Answer}
 use Rattle.interpreter.specs.declared.calls.BuildDone.{BuildDone}
 use Rattle.sched_core.specs.declared.RequestReply.{RequestReply}
 use Rattle.sched_core.specs.declared.BuildReply.{BuildReply}
@@ -26,7 +25,8 @@ use Rattle.questions.specs.declared.Refusal.{Refusal}
 use Rattle.sched_core.specs.Station.{newStation}
 use Rattle.questions.specs.Questions.{refusalNumber}
 use Rattle.sched_core.specs.Questions.{Memory, memory, timeQuestions}
-use Rattle.sched_core.specs.Calls.{Outcome, outcome, replyNumber, newCall, newMemory, advanceCall, advanceMemory, requestCall, tmaCall, buildCall}
+use Rattle.sched_core.specs.Calls.{Outcome, outcome, StationOutcome, replyNumber}
+use Rattle.sched_core.specs.Calls.{newCall, newMemory, advanceCall, advanceMemory, requestCall, tmaCall, buildCall}
 use Rattle.sched_core.specs.Invariant.{isDone}
 use Rattle.questions.proofs.AskLaws.{ask-elim}
 use Rattle.interpreter.specs.declared.calls.RequestLeft.{RequestLeft}
@@ -48,7 +48,7 @@ relined {out} {out'} {count} e w = subst (λ t. Wrote out 0 out' count t) e w
 
 new-station : (x : TdmaTime) → newCall x .station ≡ newStation x
 unfolding newCall
-new-station x = ask-elim (λ (a : Answer). a .station ≡ newStation x) (timeQuestions x) _ _ (λ r. refl) (λ said. refl)
+new-station x = ask-elim (λ (a : StationOutcome). a .station ≡ newStation x) (timeQuestions x) _ _ (λ r. refl) (λ said. refl)
 
 zeros : (n : ℕ) (l : List ℕ) → length l ≡ n → paste l 0 (replicate n 0) n ≡ replicate n 0
 zeros n l e =
@@ -57,39 +57,39 @@ zeros n l e =
     ∙ append-nil (take n (replicate n 0))
     ∙ take-all n (replicate n 0) (omega (arith, length-replicate {A = ℕ} n 0))
 
-module _ (s : Station) (rs : List Record) (st ops out out' : List ℕ) (a : Answer) (h n count : ℕ) (high : h ≡ twoOctets ops 0)
+module _ (s : Station) (rs : List Record) (st ops out out' : List ℕ) (a : StationOutcome) (h n count : ℕ) (high : h ≡ twoOctets ops 0)
     (made : a ≡ newCall (record { h = h; m = octet ops 2; f = octet ops 3; t = octet ops 4 })) (num : n ≡ replyNumber (a .reply)) (few : count ≤ 8)
     (w : Wrote out 0 out' count (line 84 (number n))) where
   called : a ≡ newCall (timeGiven ops)
   called = made ∙ ap (λ (x : ℕ). newCall (record { h = x; m = octet ops 2; f = octet ops 3; t = octet ops 4 })) high
 
   new-line : Wrote out 0 out' count (line 84 (number (replyNumber (newCall (timeGiven ops) .reply))))
-  new-line = relined (ap (λ (k : ℕ). line 84 (number k)) num ∙ ap (λ (b : Answer). line 84 (number (replyNumber (b .reply)))) called) w
+  new-line = relined (ap (λ (k : ℕ). line 84 (number k)) num ∙ ap (λ (b : StationOutcome). line 84 (number (replyNumber (b .reply)))) called) w
 
   pub new-refused : isDone (a .reply) ≡ false → Executes (newStep (memory s rs st) ops) (record { station = s; queue = rs; count = count }) st out out'
   unfolding newStep
   new-refused bad =
-      let d : isDone (newCall (timeGiven ops) .reply) ≡ false = ap (λ (b : Answer). isDone (b .reply)) (sym called) ∙ bad in
+      let d : isDone (newCall (timeGiven ops) .reply) ≡ false = ap (λ (b : StationOutcome). isDone (b .reply)) (sym called) ∙ bad in
       record { memory-after = rw d; line = new-line; most = omega arith }
 
   pub new-done : (st' : List ℕ) → isDone (a .reply) ≡ true → length st ≡ storeOctets → st' ≡ paste st 0 (replicate (length st) 0) (length st)
       → Executes (newStep (memory s rs st) ops) (record { station = a .station; queue = replicate queuePlaces emptyRecord; count = count }) st' out out'
   unfolding newStep newMemory
   new-done st' good size e =
-      let d : isDone (newCall (timeGiven ops) .reply) ≡ true = ap (λ (b : Answer). isDone (b .reply)) (sym called) ∙ good in
-      let station : a .station ≡ newStation (timeGiven ops) = ap (λ (b : Answer). b .station) called ∙ new-station (timeGiven ops) in
+      let d : isDone (newCall (timeGiven ops) .reply) ≡ true = ap (λ (b : StationOutcome). isDone (b .reply)) (sym called) ∙ good in
+      let station : a .station ≡ newStation (timeGiven ops) = ap (λ (b : StationOutcome). b .station) called ∙ new-station (timeGiven ops) in
       let store : st' ≡ replicate storeOctets 0 = e ∙ zeros (length st) st refl ∙ ap (λ (k : ℕ). replicate k 0) size in
       record { memory-after = rw (d, station, store); line = new-line; most = omega arith }
 
 -- ---- 41 advance
 
-pub advanced : (s : Station) (out out' : List ℕ) (a : Answer) (n count : ℕ) → a ≡ advanceCall s → n ≡ replyNumber (a .reply) → count ≤ 8
+pub advanced : (s : Station) (out out' : List ℕ) (a : StationOutcome) (n count : ℕ) → a ≡ advanceCall s → n ≡ replyNumber (a .reply) → count ≤ 8
     → Wrote out 0 out' count (line 65 (number n)) → Advances s (record { station = a .station; count = count }) out out'
 unfolding advanceStep advanceMemory
 advanced s out out' a n count made num few w rs store =
     record {
-      memory-after = ap (λ (b : Answer). memory (b .station) rs store) made;
-      line = relined (ap (λ (k : ℕ). line 65 (number k)) num ∙ ap (λ (b : Answer). line 65 (number (replyNumber (b .reply)))) made) w;
+      memory-after = ap (λ (b : StationOutcome). memory (b .station) rs store) made;
+      line = relined (ap (λ (k : ℕ). line 65 (number k)) num ∙ ap (λ (b : StationOutcome). line 65 (number (replyNumber (b .reply)))) made) w;
       most = omega arith;
     }
 

@@ -15,6 +15,7 @@ ghost use Rattle.interpreter.specs.declared.Command.{Command};
 ghost use Rattle.interpreter.specs.Slotrun.{stageOctets, commandOf, isKnown, operandCount, twoOctets, fourOctets, session, isWhole, commands};
 ghost use Rattle.interpreter.specs.Steps.{Runs};
 
+pub mod begin;
 pub mod calls;
 pub mod steps;
 pub mod text;

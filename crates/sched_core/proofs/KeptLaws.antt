@@ -46,14 +46,14 @@ use Rattle.dl_merge.proofs.SoundMerge.{OneCell, each-cells}
 use Rattle.dl_send.proofs.KeptLaws.{Staying}
 use Rattle.dl_build.specs.Build.{builtOf}
 use Rattle.dl_build.proofs.AfterBuild.{build-stays, build-holds}
-use Rattle.sched_core.specs.declared.Answer.{Answer}
 use Rattle.sched_core.specs.declared.Reply.{Reply}
 use Rattle.sched_core.specs.declared.RequestReply.{RequestReply}
 use Rattle.sched_core.specs.declared.BuildReply.{BuildReply}
 use Rattle.sched_core.specs.Station.{stationOf}
 use Rattle.sched_core.specs.Questions.{Memory, memory, soundCount, asksStation, queuedFor, memoryQuestions, requestQuestions, ackQuestions, tmaQuestions}
 use Rattle.sched_core.specs.Questions.{buildLent}
-use Rattle.sched_core.specs.Calls.{Outcome, withRecord, withSdu, grantQueued, requestAnswered, requestCall, ackCall, tmaCall, BuildOutcome}
+use Rattle.sched_core.specs.Calls.{Outcome, StationOutcome, BuildOutcome, withRecord, withSdu, grantQueued, requestAnswered}
+use Rattle.sched_core.specs.Calls.{requestCall, ackCall, tmaCall}
 use Rattle.sched_core.specs.Calls.{notBuilt, current, buildsNow, builtNow, withLeft, blockBuilt, buildCall, advanceCall, newMemory, advanceMemory}
 use Rattle.sched_core.specs.Invariant.{SoundMemory, EveryCallKeeps}
 use Rattle.questions.proofs.AskLaws.{AllYes, ask-elim}
@@ -108,7 +108,7 @@ memory-parts m h =
 pub advance-keeps : (m : Memory) → SoundMemory m → SoundMemory (advanceMemory m .memory)
 unfolding advanceMemory advanceCall
 advance-keeps m h =
-    ask-elim (λ (a : Answer). SoundMemory (memory (a .station) (m .records) (m .store))) (asksStation (m .station) ∷ []) _ _ (λ r. h)
+    ask-elim (λ (a : StationOutcome). SoundMemory (memory (a .station) (m .records) (m .store))) (asksStation (m .station) ∷ []) _ _ (λ r. h)
     (λ yes.
     let p = memory-parts m h in
     parts-memory _ _ _ _

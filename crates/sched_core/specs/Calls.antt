@@ -30,7 +30,6 @@ use Rattle.sched_core.specs.declared.RequestReply.{RequestReply}
 use Rattle.sched_core.specs.declared.BuildReply.{BuildReply}
 use Rattle.sched_core.specs.declared.OwnerReply.{OwnerReply}
 use Rattle.sched_core.specs.declared.UsageReply.{UsageReply}
-use Rattle.sched_core.specs.declared.Answer.{Answer}
 use Rattle.sched_core.specs.Station.{stationOf, newStation, advancedStation, withQueued}
 use Rattle.sched_core.specs.Questions.{Memory, memory, asksStation, queuedFor, memoryQuestions, requestQuestions, ackQuestions, tmaQuestions, buildLent}
 use Rattle.sched_core.specs.Questions.{timeQuestions}
@@ -55,16 +54,21 @@ ownerNumber (OwnerReply.Refused r) = refusalNumber r
 
 -- ---- calls on the station alone
 
-abbrev pub answerOf : Reply → Station → Answer
-answerOf r s = record { reply = r; station = s }
+-- all that such a call answers and leaves
+pub record StationOutcome : Type 0 where
+  pub reply : Reply
+  pub station : Station
+
+abbrev pub stationOutcome : Reply → Station → StationOutcome
+stationOutcome r s = record { reply = r; station = s }
 
 -- new: "a time given to the call is judged". The station of a time that is not in range is refused by every call.
-unfoldable pub newCall : TdmaTime → Answer
-newCall x = ask (timeQuestions x) (answerOf Reply.Done (newStation x)) (λ r. answerOf (Reply.Refused r) (newStation x))
+unfoldable pub newCall : TdmaTime → StationOutcome
+newCall x = ask (timeQuestions x) (stationOutcome Reply.Done (newStation x)) (λ r. stationOutcome (Reply.Refused r) (newStation x))
 
 -- advance
-unfoldable pub advanceCall : Station → Answer
-advanceCall s = ask (asksStation s ∷ []) (answerOf Reply.Done (advancedStation s)) (λ r. answerOf (Reply.Refused r) s)
+unfoldable pub advanceCall : Station → StationOutcome
+advanceCall s = ask (asksStation s ∷ []) (stationOutcome Reply.Done (advancedStation s)) (λ r. stationOutcome (Reply.Refused r) s)
 
 -- owner and usage of the slot at a time
 unfoldable pub ownerCall : Station → TdmaTime → PhyBlockNum → OwnerReply

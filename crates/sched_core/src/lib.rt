@@ -13,7 +13,7 @@ ghost use Rattle.sizes.specs.Sizes.{timeslots};
 ghost use Rattle.uplink.specs.UplinkEntry.{all};
 ghost use Rattle.sched_core.specs.Station.{withQueued};
 ghost use Rattle.sched_core.specs.Questions.{soundCount, soundStation, legalTimeslot, queuedFor, hasRoom};
-ghost use Rattle.sched_core.specs.Calls.{newCall, advanceCall, ownerCall, usageCall};
+ghost use Rattle.sched_core.specs.Calls.{stationOutcome, newCall, advanceCall, ownerCall, usageCall};
 
 // The station: its uplink, and how many records are queued for each timeslot.
 pub struct Station {
@@ -91,7 +91,7 @@ pub fn station_is_sound(s: Station) -> bool
 
 // A new station at a time: its uplink, and nothing queued.
 pub fn new(time: TdmaTime) -> Answer
-    ensures { λ r. ⌜ r ≡ newCall time ⌝ }
+    ensures { λ r. ⌜ stationOutcome (r .reply) (r .station) ≡ newCall time ⌝ }
 {
     let u = uplink::new_uplink(time);
     let station = Station {
@@ -112,7 +112,7 @@ pub fn new(time: TdmaTime) -> Answer
 
 // One slot on.
 pub fn advance(s: Station) -> Answer
-    ensures { λ r. ⌜ r ≡ advanceCall s ⌝ }
+    ensures { λ r. ⌜ stationOutcome (r .reply) (r .station) ≡ advanceCall s ⌝ }
 {
     if !station_is_sound(s) {
         return Answer {

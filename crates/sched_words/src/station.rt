@@ -2,19 +2,22 @@
 use crate::word;
 use sched_core::Station;
 use sizes::PER_TIMESLOT;
+use sizes::TIMESLOTS;
 use tdma_time::TdmaTime;
 use uplink::Entry;
 ghost use mathlib.Core.Path.{_≡_};
 ghost use mathlib.Core.Bool.{true, _&&_};
-ghost use Prim.Native.Nat.{_+_, _%_, _≤_};
+ghost use Prim.Native.Nat.{_+_, _%_, _≤_, _<_};
 ghost use lib.Dec.{eqb, leb};
 ghost use lib.ListN.{length};
 ghost use Rattle.uplink.specs.UplinkEntry.{entryAt, all, soundCounter, soundMarker, soundEntry, soundCounters};
+ghost use Rattle.uplink.specs.Functions.{rowAlone, withRowOf};
+ghost use Rattle.sizes.specs.Sizes.{timeslots};
 ghost use Rattle.tdma_time.specs.Time.{Valid, valid, slotOf};
-ghost use Rattle.sched_core.specs.Station.{advancedStation, withQueued};
+ghost use Rattle.sched_core.specs.Station.{stationOf, advancedStation, withQueued};
 ghost use Rattle.sched_core.specs.Questions.{soundCount, soundStation};
 ghost use Rattle.sched_words.specs.Words.{stationWordCount, optU8, entryOf, Stored, wordsOfAll, readAll, timeWords, timeFrom, entryWords, entryFrom};
-ghost use Rattle.sched_words.specs.Words.{rowWords, rowFrom, fourFrom, tableWords, tableFrom, stationWords, stationRead, stationFrom};
+ghost use Rattle.sched_words.specs.Words.{rowWords, rowFrom, fourFrom, tableWords, stationWords, stationFrom};
 ghost use Rattle.sched_words.specs.Front.{begins};
 
 fn time_from(words: &[u32]) -> TdmaTime
@@ -104,32 +107,6 @@ fn put_row(words: &mut [u32], at: usize, row: [Entry; 18])
         let e = row[i];
         let w = entry_words(e);
         word::put(words, at + 3 * i, &w);
-    }
-}
-
-fn table_from(words: &[u32]) -> [[Entry; 18]; 4]
-    requires { ⌜ length (now words) ≡ stationWordCount ⌝ }
-    ensures { λ r. ⌜ r ≡ tableFrom (now (words .entry)) ⌝ }
-{
-    let row1 = row_from(&words[4..]);
-    let row2 = row_from(&words[58..]);
-    let row3 = row_from(&words[112..]);
-    let row4 = row_from(&words[166..]);
-    [row1, row2, row3, row4]
-}
-
-fn station_read(words: &[u32]) -> Station
-    requires { ⌜ length (now words) ≡ stationWordCount ⌝ }
-    ensures { λ r. ⌜ r ≡ stationRead (now (words .entry)) ⌝ }
-{
-    let time = time_from(words);
-    let table = table_from(words);
-    let next_usage_marker = four_from(&words[220..]);
-    let queued = four_from(&words[224..]);
-    let u = uplink::uplink_of(time, table, next_usage_marker);
-    Station {
-        uplink: u,
-        queued: queued,
     }
 }
 
@@ -264,12 +241,22 @@ pub fn station_is_sound(words: &[u32]) -> bool
 
 // ---- the words of a sound station
 
-// The station.
-pub fn station_of(words: &[u32]) -> Station
-    requires { ⌜ (length (now words) ≡ stationWordCount) × (soundStation (stationFrom (now words)) ≡ true) ⌝ }
-    ensures { λ r. ⌜ r ≡ stationFrom (now (words .entry)) ⌝ }
+// The station with the row of one timeslot, counted from 0, in the place of all four: as much as a request looks at.
+pub fn station_of_row(words: &[u32], row: usize) -> Station
+    requires { ⌜ (length (now words) ≡ stationWordCount) × (soundStation (stationFrom (now words)) ≡ true) × (row < timeslots) ⌝ }
+    ensures { λ r. ⌜ r ≡ stationOf (rowAlone (stationFrom (now (words .entry)) .uplink) row) (stationFrom (now (words .entry)) .queued) ⌝ }
 {
-    station_read(words)
+    let time = time_from(words);
+    let at = 4 + 54 * row;
+    let one = row_from(&words[at..]);
+    let table = [one; TIMESLOTS];
+    let counters = four_from(&words[220..]);
+    let queued = four_from(&words[224..]);
+    let u = uplink::uplink_of(time, table, counters);
+    Station {
+        uplink: u,
+        queued: queued,
+    }
 }
 
 // The time.
@@ -321,4 +308,21 @@ pub fn put_queued(words: &mut [u32], queued: [u8; 4])
 {
     let w = four_words(queued);
     word::put(words, 224, &w);
+}
+
+// What a request leaves: that row of a station, its counters and its numbers of records queued.
+pub fn put_row_of(words: &mut [u32], row: usize, s: Station)
+    requires { ⌜ (length (now words) ≡ stationWordCount) × (soundStation (stationFrom (now words)) ≡ true) × (row < timeslots) ⌝ }
+    ensures { λ _. ⌜ now (words .exit) ≡ stationWords (stationOf (withRowOf (stationFrom (now (words .entry)) .uplink) row (s .uplink)) (s .queued)) ⌝ }
+{
+    let u = s.uplink;
+    let counters = u.next_usage_marker;
+    let queued = s.queued;
+    let table = uplink::table_of(u);
+    let one = table[row];
+    let a = four_words(counters);
+    let b = four_words(queued);
+    word::put(words, 220, &a);
+    word::put(words, 224, &b);
+    put_row(words, 4 + 54 * row, one);
 }

@@ -4,16 +4,13 @@ use interpreter::RunAnswer;
 use libc::STDIN_FILENO;
 use libc::STDOUT_FILENO;
 use sched_core::Station;
-use tdma_time::TdmaTime;
 ghost use Prim.Native.Nat.{_-_, _*_, _^_, _<_, _≤_};
 ghost use mathlib.Core.Path.{_≡_};
 ghost use mathlib.Core.Bool.{_&&_, not};
-ghost use lib.ListN.{length, take, drop, replicate};
-ghost use Rattle.sizes.specs.Sizes.{queuePlaces, storeOctets};
-ghost use Rattle.dl_record.specs.Record.{emptyRecord};
-ghost use Rattle.sched_core.specs.Station.{newStation};
+ghost use lib.ListN.{length, take, drop};
+ghost use Rattle.sizes.specs.Sizes.{storeOctets};
 ghost use Rattle.sched_core.specs.Questions.{memory};
-ghost use Rattle.interpreter.specs.Slotrun.{stageOctets, firstTime, session, commands};
+ghost use Rattle.interpreter.specs.Slotrun.{stageOctets, session, commands};
 ghost use Rattle.interpreter.specs.Steps.{Runs};
 ghost use Rattle.interpreter.specs.Turns.{isUnknown};
 ghost use Rattle.slotrun.specs.Turned.{Turned, ReadTurn};
@@ -24,20 +21,6 @@ struct Turn {
     queue: [Record; sizes::QUEUE_PLACES],
     held: usize,
     goes_on: bool,
-}
-
-// "Until a first 54 is accepted the station is new at h 0, m 1, f 1, t 1"
-fn start() -> Station
-    ensures { λ r. ⌜ r ≡ newStation firstTime ⌝ }
-{
-    let time = TdmaTime {
-        t: 1,
-        f: 1,
-        m: 1,
-        h: 0,
-    };
-    let a = bs_sched::new(time);
-    a.station
 }
 
 // Is the command at `at` unknown?
@@ -164,25 +147,6 @@ fn read_and_run(
     run_and_keep(station, queue, store, stage, input, all, more, out)
 }
 
-fn empty_queue() -> [Record; sizes::QUEUE_PLACES]
-    ensures { λ r. ⌜ r ≡ replicate queuePlaces emptyRecord ⌝ }
-{
-    [Record::EMPTY; sizes::QUEUE_PLACES]
-}
-
-fn empty_store() -> [u8; sizes::STORE_OCTETS]
-    ensures { λ r. ⌜ r ≡ replicate storeOctets 0 ⌝ }
-{
-    [0; sizes::STORE_OCTETS]
-}
-
-// "A staged SDU is 256 octets, all zero at the start."
-fn empty_stage() -> [u8; interpreter::STAGE_OCTETS]
-    ensures { λ r. ⌜ r ≡ replicate stageOctets 0 ⌝ }
-{
-    [0; interpreter::STAGE_OCTETS]
-}
-
 // What is read at a time, with what was kept of the last.
 fn empty_input() -> [u8; 256]
     ensures { λ r. ⌜ 256 ≡ length r ⌝ }
@@ -191,10 +155,10 @@ fn empty_input() -> [u8; 256]
 }
 
 fn main() {
-    let mut station = start();
-    let mut queue = empty_queue();
-    let mut store = empty_store();
-    let mut stage = empty_stage();
+    let mut station = interpreter::begin::first_station();
+    let mut queue = interpreter::begin::empty_queue();
+    let mut store = interpreter::begin::empty_store();
+    let mut stage = interpreter::begin::empty_stage();
     let mut input = empty_input();
     let mut out = io::large_buffer();
     let mut held = 0;

@@ -12,3 +12,4 @@ pub mod GrantedExactly
 pub mod RowsField
 pub mod VerdictLaws
 pub mod MsLaws
+pub mod RowLaws

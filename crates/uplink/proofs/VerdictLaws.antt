@@ -1,4 +1,4 @@
--- What a grant rests on (`verdict-grant`), and that two views that agree from now on give one verdict. Assumes nothing.
+-- What a grant rests on (`verdict-grant`), and that two views that agree on the slots looked at give one verdict. Assumes nothing.
 use mathlib.Core.Path.{_≡_, refl, ap}
 use mathlib.Core.Bool.{Bool, true, false, cond}
 use mathlib.Core.List.{List, [], _∷_}
@@ -66,11 +66,14 @@ verdict-grant v n r g h =
 -- ---- the slots of a grant
 
 module _ (v : View) (n : ℕ) (r : Request) (g : Run) (h : Granted v n r g) where
+  -- what holds of every candidate holds of them
+  pub granted-all : (P : ℕ → Type 0) → All P (candidates (r .timeslot) n) → All P (g .slots)
+  granted-all P a =
+      rw (h .slots) (all-take P (slotsWanted (r .code)) (drop (g .delay) (candidates (r .timeslot) n)) (all-drop P (g .delay) (candidates (r .timeslot) n) a))
+
   -- they are among the 68 slots from now on
   pub granted-near : All (Near n) (g .slots)
-  granted-near =
-      rw (h .slots) (all-take (Near n) (slotsWanted (r .code)) (drop (g .delay) (candidates (r .timeslot) n))
-      (all-drop (Near n) (g .delay) (candidates (r .timeslot) n) (candidates-near (r .timeslot) n)))
+  granted-near = granted-all (Near n) (candidates-near (r .timeslot) n)
 
   granted-runs : runs (slotFits (wantsHalf (r .code)) v) (slotsWanted (r .code)) (drop (g .delay) (candidates (r .timeslot) n)) ≡ true
   granted-runs = earliest-some (slotFits (wantsHalf (r .code)) v) (slotsWanted (r .code)) (candidates (r .timeslot) n) (g .delay) (h .place) .0
@@ -89,24 +92,35 @@ module _ (v : View) (n : ℕ) (r : Request) (g : Run) (h : Granted v n r g) wher
   granted-room =
       omega (arith, runs-length (slotFits (wantsHalf (r .code)) v) _ _ granted-runs, length-drop (g .delay) (candidates (r .timeslot) n), wanted-pos (r .code))
 
+-- ---- two views that agree on the slots looked at
+
+abbrev pub SameAt : View → View → ℕ → Type 0
+SameAt v w c = (h : Half) → v c h ≡ w c h
+
+fits-cong : (half : Bool) (v w : View) (c : ℕ) → SameAt v w c → slotFits half v c ≡ slotFits half w c
+fits-cong half v w c h = rw (h firstHalf, h secondHalf)
+
+-- on every candidate: one verdict
+pub verdict-same : (v w : View) (n : ℕ) (r : Request) → All (SameAt v w) (candidates (r .timeslot) n) → verdict v n r ≡ verdict w n r
+unfolding verdict earliestRun
+verdict-same v w n r a = ap settle (found-cong _ _ _ _ (all-weaken _ _ (fits-cong (wantsHalf (r .code)) v w) (candidates (r .timeslot) n) a))
+
+-- on the slots of a run: one capacity
+pub capacity-same : (v w : View) (code : ℕ) (cs : List ℕ) → All (SameAt v w) cs → 0 < length cs → capacity v code cs ≡ capacity w code cs
+unfolding capacity
+capacity-same v w code [] a l = absurd (not-suc-le-zero l)
+capacity-same v w code (c ∷ cs) a l = rw (a .0 firstHalf)
+
 -- ---- two views that agree on the 68 slots from now on
 
 abbrev pub AgreeFrom : ℕ → View → View → Type 0
-AgreeFrom n v w = (c : ℕ) → n ≤ c → c < n + timeslots * framesSearched → (h : Half) → v c h ≡ w c h
+AgreeFrom n v w = (c : ℕ) → n ≤ c → c < n + timeslots * framesSearched → SameAt v w c
 
-fits-cong : (half : Bool) (v w : View) (c : ℕ) → ((h : Half) → v c h ≡ w c h) → slotFits half v c ≡ slotFits half w c
-fits-cong half v w c h = rw (h firstHalf, h secondHalf)
-
-pub found-agree : (v w : View) (n t k : ℕ) (half : Bool) → AgreeFrom n v w → earliestRun v n t k half ≡ earliestRun w n t k half
-unfolding earliestRun
-found-agree v w n t k half a =
-    found-cong _ _ _ _ (all-weaken _ _ (λ c (k : Near n c). fits-cong half v w c (a c (k .0) (k .1))) (candidates t n) (candidates-near t n))
+near-same : (v w : View) (n : ℕ) (cs : List ℕ) → AgreeFrom n v w → All (Near n) cs → All (SameAt v w) cs
+near-same v w n cs a = all-weaken _ _ (λ c k. a c (k .0) (k .1)) cs
 
 pub verdict-agree : (v w : View) (n : ℕ) (r : Request) → AgreeFrom n v w → verdict v n r ≡ verdict w n r
-unfolding verdict
-verdict-agree v w n r a = ap settle (found-agree v w n (r .timeslot) (slotsWanted (r .code)) (wantsHalf (r .code)) a)
+verdict-agree v w n r a = verdict-same v w n r (near-same v w n (candidates (r .timeslot) n) a (candidates-near (r .timeslot) n))
 
 pub capacity-agree : (v w : View) (n code : ℕ) (cs : List ℕ) → AgreeFrom n v w → All (Near n) cs → 0 < length cs → capacity v code cs ≡ capacity w code cs
-unfolding capacity
-capacity-agree v w n code [] a h l = absurd (not-suc-le-zero l)
-capacity-agree v w n code (c ∷ cs) a h l = rw (a c (h .0 .0) (h .0 .1) firstHalf)
+capacity-agree v w n code cs a h l = capacity-same v w code cs (near-same v w n cs a h) l

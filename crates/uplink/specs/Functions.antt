@@ -3,7 +3,7 @@ use mathlib.Core.Bool.{Bool, cond}
 use mathlib.Core.Option.{Option, none, some}
 use mathlib.Core.List.{List, [], _∷_}
 use Prim.Native.Nat.{ℕ, _+_, _-_, _*_, _/_, _<_}
-use lib.ListN.{take, getD}
+use lib.ListN.{take, getD, set, replicate}
 use Rattle.sizes.specs.Sizes.{timeslots, framesSearched}
 use Rattle.optional.specs.declared.OptU32.{OptU32}
 use Rattle.tdma_time.specs.declared.TdmaTime.{TdmaTime}
@@ -16,6 +16,7 @@ use Rattle.uplink.specs.declared.Uplink.{Uplink}
 use Rattle.uplink.specs.HalfSlot.{Half, firstHalf, secondHalf, vacant}
 use Rattle.uplink.specs.Search.{Run}
 use Rattle.uplink.specs.UplinkEntry.{Table, tableView}
+use Rattle.uplink.specs.Uplink.{uplinkOf}
 use Rattle.uplink.specs.Request.{Request, earliestRun, grant, given}
 
 -- a run as the search answers it: its start, in frames after the first slot, and the slots passed over
@@ -48,3 +49,11 @@ blockHalves PhyBlockNum.Block2 = secondHalf ∷ []
 unfoldable pub grantedAt : Uplink → Request → ℕ → ℕ → CapAnswer
 grantedAt u r start skips =
     given u r (grant (record { delay = skips; slots = slotsFrom (u .time) (r .timeslot) start (slotsWanted (r .code)) }))
+
+-- the uplink with the row of one timeslot, counted from 0, in the place of all four: a request of that timeslot cannot tell the two apart
+abbrev pub rowAlone : Uplink → ℕ → Uplink
+rowAlone u i = uplinkOf (u .time) (replicate timeslots (getD (u .rows) i [])) (u .«next_usage_marker»)
+
+-- the uplink with that row and the counters of another
+abbrev pub withRowOf : Uplink → ℕ → Uplink → Uplink
+withRowOf u i v = uplinkOf (u .time) (set (u .rows) i (getD (v .rows) i [])) (v .«next_usage_marker»)

@@ -2,11 +2,15 @@
 use borrow.Author.Needs.{needs}
 use borrow.Author.Tests.{ne-eqb}
 use mathlib.Core.Path.{_∙_, ap}
-use Rattle.sched_core.specs.Calls.{newCall}
+use Rattle.sched_core.specs.Calls.{StationOutcome, stationOutcome, newCall}
 use Rattle.bs_sched_c.specs.Exports.{stationLeft, stationLeftBy, newLeft}
 use Rattle.bs_sched_c.proofs.LeftLaws.{is-station, answer-refused, answer-done}
 use Rattle.bs_sched_c.proofs.bs_sched_new.Statement.{statement}
 use Rattle.bs_sched_c.proofs.bs_sched_new.Tie as tie
+
+-- what the call answered
+abbrev given : tie.After-new → StationOutcome
+given w = stationOutcome (w .new .result .reply) (w .new .result .station)
 
 returns : tie.Need-returns
 unfolding newLeft
@@ -19,7 +23,7 @@ returns-2 c =
     let e = w .before .before in
     let ws = e .before .before .args .station .now in
     is-station ws (stationLeft 2 ws) (e .if1 .left)
-    (answer-refused ws (w .new .result) _ (c .before .reply-number .ensures) (c .if2 .taken)
+    (answer-refused ws (given w) _ (c .before .reply-number .ensures) (c .if2 .taken)
     ∙ ap (stationLeftBy ws) (w .new .ensures ∙ ap newCall (w .before .time-at .ensures)))
 
 returns-3 : tie.Need-returns-3
@@ -31,7 +35,7 @@ returns-3 c =
     let e = w .before .before in
     let ws = e .before .before .args .station .now in
     is-station ws (stationLeft 2 ws) (e .if1 .left)
-    (answer-done ws (w .new .result) _ (k .before .reply-number .ensures) (k .if2 .left) _ (p .put-station .ensures)
+    (answer-done ws (given w) _ (k .before .reply-number .ensures) (k .if2 .left) _ (p .put-station .ensures)
     ∙ ap (stationLeftBy ws) (w .new .ensures ∙ ap newCall (w .before .time-at .ensures)))
 
 pub bs-sched-new-spec : {M : Type 1} → statement M

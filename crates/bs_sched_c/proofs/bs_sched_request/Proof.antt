@@ -3,12 +3,18 @@ use borrow.Author.Needs.{needs}
 use borrow.Author.Tests.{ne-eqb}
 use mathlib.Core.Path.{_≡_, sym, _∙_, ap, subst}
 use mathlib.Core.Bool.{true}
+use mathlib.Core.List.{List}
+use Prim.Native.Nat.{ℕ}
+use Rattle.uplink.specs.Functions.{withRowOf}
 use Rattle.sched_core.specs.declared.Station.{Station}
+use Rattle.sched_core.specs.Station.{stationOf}
 use Rattle.sched_core.specs.Questions.{Memory}
 use Rattle.sched_core.specs.Calls.{Outcome, requestNumber, requestCall}
 use Rattle.sched_core.specs.declared.RequestReply.{RequestReply}
+use Rattle.sched_enqueue.specs.Plan.{Planned}
 use Rattle.sched_enqueue.proofs.PlanLaws.{Told}
 use Rattle.sched_request.specs.RequestPlan.{RequestPlanned}
+use Rattle.sched_request.proofs.RowPlan.{row-station-sound, row-planned}
 use Rattle.sched_words.specs.Words.{stationFrom, recordsFrom}
 use Rattle.bs_sched_c.specs.declared.reply.BsSchedGrant.{BsSchedGrant}
 use Rattle.bs_sched_c.specs.Exports.{requestLeft}
@@ -34,14 +40,28 @@ numbered c = ap (λ (x : BsSchedGrant). x .refusal) (c .grant-of .ensures) ∙ g
 
 -- back to the questions
 abbrev asked : tie.After-request-plan → tie.Else2
-asked p = p .before .before .before
+asked p = p .before .before .before .before
 
 abbrev called : tie.After-request-plan → Memory → Outcome RequestReply
 called p m = let a = start (asked p .before) .args in requestCall m (a .timeslot) (a .code) (a .kind) (a .number)
 
--- the plan is that of the station that the words stand for
-planned : (p : tie.After-request-plan) → RequestPlanned (called p) (stationFrom (start (asked p .before) .args .station .now)) (p .request-plan .result)
-planned p = subst (λ (y : Station). RequestPlanned (called p) y (p .request-plan .result)) (p .before .station-of .ensures) (p .request-plan .ensures)
+-- the station that the words stand for, and the row that is read of it
+abbrev whole : tie.After-request-plan → Station
+whole p = stationFrom (start (asked p .before) .args .station .now)
+
+abbrev row : tie.After-request-plan → ℕ
+row p = p .before .before .before .row-of .result
+
+-- the plan on that row, with the row put back, is the plan on the station
+planned : (p : tie.After-request-plan) (st : List ℕ)
+    → let q = p .request-plan .result in
+    Planned requestNumber (called p) (whole p) st st (q .reply) (stationOf (withRowOf (whole p .uplink) (row p) (q .station .uplink)) (q .station .queued))
+    (q .place) (q .«record»)
+planned p =
+    let a = start (asked p .before) .args in
+    let at = p .before .before .before .row-of .ensures in
+    row-planned (whole p) (row p) (a .timeslot) (a .code) (a .kind) (a .number) (p .request-plan .result) (at .0) (at .1) (passed (asked p) .station)
+    (subst (λ (y : Station). RequestPlanned (called p) y (p .request-plan .result)) (p .before .station-of-row .ensures) (p .request-plan .ensures))
 
 returns : tie.Need-returns
 unfolding requestLeft
@@ -55,11 +75,13 @@ returns-2 c =
     exit-no grantReplies (a .station .now) (a .queue .now) (a .store .now) (sized q .if1 .left) _ _ _ (q .memory-number .ensures) (c .before .if2 .taken) _
     (c .not-granted2 .ensures)
 
-station-of-requires : tie.Need-station-of-requires
-station-of-requires c κs = (sized (c .before .before) .if1 .left, passed (c .before) .station)
+station-of-row-requires : tie.Need-station-of-row-requires
+station-of-row-requires c κs =
+    let r = c .before in
+    (sized (r .before .before) .if1 .left, passed (r .before) .station, r .row-of .ensures .0)
 
 request-plan-requires : tie.Need-request-plan-requires
-request-plan-requires c κs = rw (c .station-of .ensures) (passed (c .before .before) .station)
+request-plan-requires c κs = rw (c .station-of-row .ensures) (row-station-sound _ _ (passed (c .before .before .before) .station))
 
 returns-3 : tie.Need-returns-3
 unfolding requestLeft
@@ -70,6 +92,11 @@ returns-3 c =
     let a = start (t .before) .args in
     exit-refused grantReplies (a .station .now) (a .queue .now) (a .store .now) (sized (t .before) .if1 .left) (passed t .queue) (called p) _ _ _ _ _
     (planned p (a .store .now)) _ (numbered g) _ (g .grant-of .ensures) (c .if3 .taken)
+
+put-row-of-requires : tie.Need-put-row-of-requires
+put-row-of-requires c κs =
+    let p = c .before .before .before .before .before .before in
+    (sized (asked p .before) .if1 .left, passed (asked p) .station, p .before .before .before .row-of .ensures .0)
 
 put-record-requires : tie.Need-put-record-requires
 put-record-requires c κs =
@@ -91,11 +118,11 @@ returns-4 c =
     let t = asked p in
     let a = start (t .before) .args in
     exit-done grantReplies (a .station .now) (a .queue .now) (a .store .now) (sized (t .before) .if1 .left) (passed t .queue) (called p) _ _ _ _ _
-    (planned p (a .store .now)) _ (numbered g) _ (g .grant-of .ensures) (n .if3 .left) _ _ (v .put-station .ensures) (w .put-record .ensures)
+    (planned p (a .store .now)) _ (numbered g) _ (g .grant-of .ensures) (n .if3 .left) _ _ (v .put-row-of .ensures) (w .put-record .ensures)
 
 pub bs-sched-request-spec : {M : Type 1} → statement M
 bs-sched-request-spec =
     tie.close
     (tie.spec (λ c κs. search needs) returns (λ c κs. search needs) (λ c κs. search needs) (λ c. search needs) (λ c. search needs) returns-2
-    station-of-requires request-plan-requires (λ c κs. search needs) (λ c. search needs) (λ c. search needs) returns-3 (λ c κs. search needs)
-    put-record-requires (λ c. search needs) (λ c. search needs) returns-4)
+    (λ c κs. search needs) station-of-row-requires request-plan-requires (λ c κs. search needs) (λ c. search needs) (λ c. search needs) returns-3
+    put-row-of-requires put-record-requires (λ c. search needs) (λ c. search needs) returns-4)

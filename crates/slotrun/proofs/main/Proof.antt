@@ -24,9 +24,11 @@ abbrev μ-loop : tie.MeasureT-loop
 
 -- the session at the start
 first : (c : tie.After-empty-stage Inv-loop μ-loop) → let k = c .before .before .before in
-    session (memory (k .start .result) (c .before .before .empty-queue .result) (c .before .empty-store .result)) (c .empty-stage .result) ≡ start
+    session (memory (k .first-station .result) (c .before .before .empty-queue .result) (c .before .empty-store .result)) (c .empty-stage .result) ≡ start
 unfolding newMemory
-first c = rw (c .before .before .before .start .ensures, c .before .before .empty-queue .ensures, c .before .empty-store .ensures, c .empty-stage .ensures)
+first c =
+    let q = c .before .before in
+    rw (q .before .first-station .ensures, q .empty-queue .ensures, c .before .empty-store .ensures, c .empty-stage .ensures)
 
 loop-holds : tie.Need-loop-holds Inv-loop μ-loop
 loop-holds c = (search needs, search needs, search needs, search needs, search needs, reached-start _ (first (c .before .before)))

@@ -18,9 +18,11 @@ room c = omega (arith, c .if1 .left)
 
 -- the session that the run starts from
 first : (c : tie.After-empty-stage) → let k = c .before .before .before in
-    session (memory (k .start .result) (c .before .before .empty-queue .result) (c .before .empty-store .result)) (c .empty-stage .result) ≡ start
+    session (memory (k .first-station .result) (c .before .before .empty-queue .result) (c .before .empty-store .result)) (c .empty-stage .result) ≡ start
 unfolding newMemory
-first c = rw (c .before .before .before .start .ensures, c .before .before .empty-queue .ensures, c .before .empty-store .ensures, c .empty-stage .ensures)
+first c =
+    let q = c .before .before in
+    rw (q .before .first-station .ensures, q .empty-queue .ensures, c .before .empty-store .ensures, c .empty-stage .ensures)
 
 run-requires : tie.Need-run-requires
 run-requires c κs = search (needs, room (c .before .before .before .before .before .before .before))

@@ -8,7 +8,7 @@ returns : tie.Need-returns
 returns c =
     let p = c .before .before in
     let q = p .before .before .before .before in
-    advanced _ _ _ (q .advance .result) (p .before .reply-number .result) (p .put-line .result) (q .advance .ensures)
+    advanced _ _ _ _ (p .before .reply-number .result) (p .put-line .result) (q .advance .ensures)
     (p .before .reply-number .ensures) (p .put-line .ensures .0) (p .put-line .ensures .1)
 
 pub advance-step-spec : {M : Type 1} → statement M

@@ -11,7 +11,7 @@ returns c =
     let p = k .before .before .before in
     let q = p .before .before .before in
     let d = q .before .before .before .before in
-    new-refused _ _ _ _ _ _ (q .new .result) (d .two-octets .result) (p .before .reply-number .result) (p .put-line .result)
+    new-refused _ _ _ _ _ _ _ (d .two-octets .result) (p .before .reply-number .result) (p .put-line .result)
     (d .two-octets .ensures) (q .new .ensures) (p .before .reply-number .ensures) (p .put-line .ensures .0) (p .put-line .ensures .1)
     (said-no (k .is-done .ensures) (c .if1 .taken))
 
@@ -24,7 +24,7 @@ returns-2 c =
     let q = p .before .before .before in
     let d = q .before .before .before .before in
     let s = d .before .before .before .before in
-    new-done _ _ _ _ _ _ (q .new .result) (d .two-octets .result) (p .before .reply-number .result) (p .put-line .result)
+    new-done _ _ _ _ _ _ _ (d .two-octets .result) (p .before .reply-number .result) (p .put-line .result)
     (d .two-octets .ensures) (q .new .ensures) (p .before .reply-number .ensures) (p .put-line .ensures .0) (p .put-line .ensures .1) _
     (said-yes (k .is-done .ensures) (e .if1 .left)) (s .pre .0) (z .zero-octets .ensures)
 
