@@ -74,11 +74,6 @@ unfolding bitsOf
 length-bitsOf [] = refl
 length-bitsOf (x ∷ s) = rw (length-append, length-valueBits, length-bitsOf s) (omega arith)
 
--- an element behind a run replaced
-pub set-append-add : (l m : List ℕ) (n b : ℕ) → set (l ++ m) (length l + n) b ≡ l ++ set m n b
-set-append-add [] m n b = rw zero-add
-set-append-add (x ∷ l) m n b = rw suc-add (ap (_∷_ x) (set-append-add l m n b))
-
 -- a position past the first octet
 pub past : (x i k : ℕ) → 8 * suc i + k ≡ length (valueBits 8 x) + (8 * i + k)
 past x i k = rw length-valueBits (omega arith)

@@ -7,8 +7,9 @@ use native.Mathlib.Omega.{arith}
 use lib.Pow.{high, low}
 use lib.ListN.{length, take, drop, getD, set, length-drop, length-take, take-append-drop, replicate}
 use lib.Seq.{drop-nil, drop-append-add, drop-at, take-at, drop-drop, take-add}
+use Rattle.lists.proofs.Lists.{set-append-add}
 use Rattle.bitbuffer.specs.Bits.{valueBits, bitsValue, bitsOf, packed, written, part, AreBits}
-use Rattle.bitbuffer.proofs.Laws.{length-valueBits, valueBits-append, valueBits-mod, set-append-add, length-bitsOf, value-field, valueBits-value}
+use Rattle.bitbuffer.proofs.Laws.{length-valueBits, valueBits-append, valueBits-mod, length-bitsOf, value-field, valueBits-value}
 use Rattle.bitbuffer.proofs.Laws.{bits-take, bits-drop}
 
 -- the bits of a part, the first `a` and the rest

@@ -32,14 +32,14 @@ use Rattle.sched_words.specs.Words.{stationWordCount, recordWordCount, stationW
 use Rattle.sched_words.proofs.RoundTrip.{station-words-back}
 use Rattle.sched_words.proofs.TimeslotWords.{sound-behind, list-behind}
 use Rattle.bs_sched_c.specs.declared.reply.BsSchedBuilt.{BsSchedBuilt}
-use Rattle.bs_sched_c.specs.Exports.{ifStation, memoryFrom, notBuiltStruct, BuildWordsLeft, buildWordsLeft, buildWordsLeftBy}
+use Rattle.bs_sched_c.specs.Exports.{otherLength, ifStation, memoryFrom, notBuiltStruct, BuildWordsLeft, buildWordsLeft, buildWordsLeftBy}
 use Rattle.bs_sched_c.proofs.AskedLaws.{four-counts, words-back, records-stored}
 use Rattle.bs_sched_c.proofs.LeftLaws.{is-station}
 
 -- a station of its number of words
 module _ (ws qs st block : List ℕ) (size : length ws ≡ stationWordCount) where
   abbrev other : BuildWordsLeft
-  other = buildWordsLeft (notBuiltStruct 2) ws qs st block
+  other = buildWordsLeft (notBuiltStruct otherLength) ws qs st block
 
   abbrev m : Memory
   m = memoryFrom ws qs st

@@ -28,7 +28,7 @@ use Rattle.sched_words.specs.Words.{stationWordCount, recordWordCount, stationW
 use Rattle.bs_sched_c.specs.declared.reply.BsSchedGrant.{BsSchedGrant}
 use Rattle.bs_sched_c.specs.declared.reply.BsSchedOwners.{BsSchedOwners}
 use Rattle.bs_sched_c.specs.Exports.{noOwnersStruct, entryOwners, ownersStruct, usageStruct, usageStructOf, ifStation, stationLeft, stationLeftBy, Left}
-use Rattle.bs_sched_c.specs.Exports.{left, memoryFrom, wordsLeftBy, notGrantedStruct, grantStruct}
+use Rattle.bs_sched_c.specs.Exports.{otherLength, left, memoryFrom, wordsLeftBy, notGrantedStruct, grantStruct}
 use Rattle.bs_sched_c.proofs.AskedLaws.{record-stored}
 
 -- a station of its number of words
@@ -130,7 +130,7 @@ by-counts s ns e call before after p plan sound =
 -- a station of its number of words
 module _ {A R : Type 0} (k : Replies A R) (ws qs st : List ℕ) (size : length ws ≡ stationWordCount) where
   abbrev other : Left R
-  other = left (k .numbered 2) ws qs st
+  other = left (k .numbered otherLength) ws qs st
 
   abbrev m : Memory
   m = memoryFrom ws qs st

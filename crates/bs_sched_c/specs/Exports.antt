@@ -14,6 +14,7 @@ use Rattle.sched_core.specs.declared.RequestReply.{RequestReply}
 use Rattle.sched_core.specs.declared.BuildReply.{BuildReply}
 use Rattle.sched_core.specs.declared.OwnerReply.{OwnerReply}
 use Rattle.sched_core.specs.declared.UsageReply.{UsageReply}
+use Rattle.questions.specs.declared.Refusal.{Refusal}
 use Rattle.questions.specs.Questions.{refusalNumber}
 use Rattle.sched_core.specs.Questions.{Memory, memory}
 use Rattle.sched_core.specs.Calls.{Outcome, StationOutcome, BuildOutcome, replyNumber, requestNumber, buildNumber, ownerNumber}
@@ -82,7 +83,10 @@ usageStructOf (UsageReply.Refused r) = usageStruct (refusalNumber r) 0 0
 abbrev pub timeAt : ℕ → ℕ → ℕ → ℕ → TdmaTime
 timeAt h m f t = record { t = t; f = f; m = m; h = h }
 
--- ---- a station of another number of words: 2, and nothing is altered
+-- ---- a station of another number of words: question 2, and nothing is altered
+
+abbrev pub otherLength : ℕ
+otherLength = refusalNumber Refusal.Lengths
 
 abbrev pub ifStation : {A : Type 0} → List ℕ → A → A → A
 ifStation ws done refused = cond (eqb (length ws) stationWordCount) done refused
@@ -102,19 +106,19 @@ abbrev pub stationLeftBy : List ℕ → StationOutcome → StationLeft
 stationLeftBy ws a = cond (eqb (replyNumber (a .reply)) 0) (stationLeft 0 (stationWords (a .station))) (stationLeft (replyNumber (a .reply)) ws)
 
 unfoldable pub newLeft : List ℕ → TdmaTime → StationLeft
-newLeft ws x = ifStation ws (stationLeftBy ws (newCall x)) (stationLeft 2 ws)
+newLeft ws x = ifStation ws (stationLeftBy ws (newCall x)) (stationLeft otherLength ws)
 
 unfoldable pub advanceLeft : List ℕ → StationLeft
-advanceLeft ws = ifStation ws (stationLeftBy ws (advanceCall (stationFrom ws))) (stationLeft 2 ws)
+advanceLeft ws = ifStation ws (stationLeftBy ws (advanceCall (stationFrom ws))) (stationLeft otherLength ws)
 
 unfoldable pub ownerAnswer : List ℕ → TdmaTime → BsSchedOwners
 ownerAnswer ws x =
     let s = stationFrom ws in
     ifStation ws (ownersStruct (ownerCall s x PhyBlockNum.Both) (ownerCall s x PhyBlockNum.Block1) (ownerCall s x PhyBlockNum.Block2))
-    (noOwnersStruct 2)
+    (noOwnersStruct otherLength)
 
 unfoldable pub usageAnswer : List ℕ → TdmaTime → BsSchedUsage
-usageAnswer ws x = ifStation ws (usageStructOf (usageCall (stationFrom ws) x)) (usageStruct 2 0 0)
+usageAnswer ws x = ifStation ws (usageStructOf (usageCall (stationFrom ws) x)) (usageStruct otherLength 0 0)
 
 -- ---- calls that queue
 
@@ -140,20 +144,21 @@ wordsLeftBy number reply ws qs st o =
 
 unfoldable pub requestLeft : List ℕ → List ℕ → List ℕ → ℕ → ℕ → ℕ → ℕ → Left BsSchedGrant
 requestLeft ws qs st t code kind n =
-    ifStation ws (wordsLeftBy requestNumber grantStruct ws qs st (requestCall (memoryFrom ws qs st) t code kind n)) (left (notGrantedStruct 2) ws qs st)
+    ifStation ws (wordsLeftBy requestNumber grantStruct ws qs st (requestCall (memoryFrom ws qs st) t code kind n))
+    (left (notGrantedStruct otherLength) ws qs st)
 
 unfoldable pub ackLeft : List ℕ → List ℕ → List ℕ → ℕ → ℕ → ℕ → Left ℕ
-ackLeft ws qs st t kind n = ifStation ws (wordsLeftBy replyNumber replyNumber ws qs st (ackCall (memoryFrom ws qs st) t kind n)) (left 2 ws qs st)
+ackLeft ws qs st t kind n = ifStation ws (wordsLeftBy replyNumber replyNumber ws qs st (ackCall (memoryFrom ws qs st) t kind n)) (left otherLength ws qs st)
 
--- of the words of the record that is offered kind and sent do not count; of another number of words: 2, like the station
+-- of the words of the record that is offered kind and sent do not count; of another number of words: question 2, like the station
 unfoldable pub enqueueLeft : List ℕ → List ℕ → List ℕ → ℕ → List ℕ → List ℕ → Left ℕ
 enqueueLeft ws qs st t rs sdu =
     let r = recordFrom rs in
     ifStation ws
     (cond (eqb (length rs) recordWordCount)
     (wordsLeftBy replyNumber replyNumber ws qs st (tmaCall (memoryFrom ws qs st) t (r .«address_kind») (r .number) (r .tag) (r .header) (r .bits) sdu))
-    (left 2 ws qs st))
-    (left 2 ws qs st)
+    (left otherLength ws qs st))
+    (left otherLength ws qs st)
 
 -- ---- a build
 
@@ -176,4 +181,4 @@ buildWordsLeftBy ws qs st block o =
 
 unfoldable pub builtLeft : List ℕ → List ℕ → List ℕ → List ℕ → BuildWordsLeft
 builtLeft ws qs st block = ifStation ws (buildWordsLeftBy ws qs st block (buildCall (memoryFrom ws qs st) block))
-    (buildWordsLeft (notBuiltStruct 2) ws qs st block)
+    (buildWordsLeft (notBuiltStruct otherLength) ws qs st block)

@@ -22,7 +22,7 @@ ghost use Rattle.questions.specs.declared.Refusal.{Refusal};
 ghost use Rattle.questions.specs.Questions.{question, askedNumber};
 ghost use Rattle.sched_core.specs.Questions.{memory, memoryQuestions, legalTimeslot};
 ghost use Rattle.sched_words.specs.Words.{stationWordCount, stationFrom, recordsFrom};
-ghost use Rattle.bs_sched_c.specs.Exports.{timeAt, stationLeft, newLeft, advanceLeft, ownerAnswer, usageAnswer, left, requestLeft, ackLeft};
+ghost use Rattle.bs_sched_c.specs.Exports.{otherLength, timeAt, stationLeft, newLeft, advanceLeft, ownerAnswer, usageAnswer, left, requestLeft, ackLeft};
 ghost use Rattle.bs_sched_c.specs.Exports.{enqueueLeft, buildWordsLeft, builtLeft};
 
 fn time_at(h: u16, m: u8, f: u8, t: u8) -> TdmaTime
@@ -36,13 +36,20 @@ fn time_at(h: u16, m: u8, f: u8, t: u8) -> TdmaTime
     }
 }
 
+// The number of question 2, for a station or an offered record of another number of words.
+fn other_length() -> u8
+    ensures { λ r. ⌜ r ≡ otherLength ⌝ }
+{
+    questions::number(Refusal::Lengths)
+}
+
 // A new station at a time. Queue and store of a new station are all 0.
 #[no_mangle]
 pub extern "C" fn bs_sched_new(station: &mut [u32], h: u16, m: u8, f: u8, t: u8) -> u8
     ensures { λ r. ⌜ stationLeft r (now (station .exit)) ≡ newLeft (now (station .entry)) (timeAt h m f t) ⌝ }
 {
     if station.len() != STATION_WORDS {
-        return 2;
+        return other_length();
     }
     let time = time_at(h, m, f, t);
     let answer = sched_core::new(time);
@@ -62,7 +69,7 @@ pub extern "C" fn bs_sched_advance(station: &mut [u32]) -> u8
     ensures { λ r. ⌜ stationLeft r (now (station .exit)) ≡ advanceLeft (now (station .entry)) ⌝ }
 {
     if station.len() != STATION_WORDS {
-        return 2;
+        return other_length();
     }
     if !sched_words::station::station_is_sound(station) {
         return questions::number(Refusal::Unsound);
@@ -77,7 +84,7 @@ pub extern "C" fn bs_sched_slot_owner(station: &[u32], h: u16, m: u8, f: u8, t: 
     ensures { λ r. ⌜ r ≡ ownerAnswer (now (station .entry)) (timeAt h m f t) ⌝ }
 {
     if station.len() != STATION_WORDS {
-        return reply::no_owners(2);
+        return reply::no_owners(other_length());
     }
     let time = time_at(h, m, f, t);
     if !sched_words::station::station_is_sound(station) {
@@ -96,7 +103,7 @@ pub extern "C" fn bs_sched_usage(station: &[u32], h: u16, m: u8, f: u8, t: u8) -
     ensures { λ r. ⌜ r ≡ usageAnswer (now (station .entry)) (timeAt h m f t) ⌝ }
 {
     if station.len() != STATION_WORDS {
-        return reply::usage_answer(2, 0, 0);
+        return reply::usage_answer(other_length(), 0, 0);
     }
     let time = time_at(h, m, f, t);
     if !sched_words::station::station_is_sound(station) {
@@ -162,7 +169,7 @@ pub extern "C" fn bs_sched_request(
         (now (queue .entry)) (now (store .entry)) timeslot code kind number ⌝ }
 {
     if station.len() != STATION_WORDS {
-        return reply::not_granted(2);
+        return reply::not_granted(other_length());
     }
     let no = memory_number(station, queue, store, true);
     if no != 0 {
@@ -197,7 +204,7 @@ pub extern "C" fn bs_sched_enqueue_ack(
         (now (queue .entry)) (now (store .entry)) timeslot kind number ⌝ }
 {
     if station.len() != STATION_WORDS {
-        return 2;
+        return other_length();
     }
     let no = memory_number(station, queue, store, true);
     if no != 0 {
@@ -231,10 +238,10 @@ pub extern "C" fn bs_sched_enqueue(
         (now (queue .entry)) (now (store .entry)) timeslot (now (offered .entry)) (now (sdu .entry)) ⌝ }
 {
     if station.len() != STATION_WORDS {
-        return 2;
+        return other_length();
     }
     if offered.len() != RECORD_WORDS {
-        return 2;
+        return other_length();
     }
     let no = memory_number(station, queue, store, true);
     if no != 0 {
@@ -282,7 +289,7 @@ pub extern "C" fn bs_sched_build(
         (now (queue .entry)) (now (store .entry)) (now (block .entry)) ⌝ }
 {
     if station.len() != STATION_WORDS {
-        return reply::not_built(2);
+        return reply::not_built(other_length());
     }
     let no = memory_number(station, queue, store, block.len() == sizes::BLOCK_OCTETS);
     if no != 0 {

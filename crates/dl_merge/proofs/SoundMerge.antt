@@ -91,42 +91,9 @@ header-joined Kind.Ack g r o m l =
       grant = l .grant;
       alloc = l .alloc;
     }
-header-joined Kind.Record g r o m l =
-    record {
-      position = l .position;
-      encryption = l .encryption;
-      flag = l .flag;
-      number = l .number;
-      label = l .label;
-      marker = l .marker;
-      power = l .power;
-      grant = l .grant;
-      alloc = l .alloc;
-    }
-header-joined Kind.Waiting g r o m l =
-    record {
-      position = l .position;
-      encryption = l .encryption;
-      flag = l .flag;
-      number = l .number;
-      label = l .label;
-      marker = l .marker;
-      power = l .power;
-      grant = l .grant;
-      alloc = l .alloc;
-    }
-header-joined Kind.Started g r o m l =
-    record {
-      position = l .position;
-      encryption = l .encryption;
-      flag = l .flag;
-      number = l .number;
-      label = l .label;
-      marker = l .marker;
-      power = l .power;
-      grant = l .grant;
-      alloc = l .alloc;
-    }
+header-joined Kind.Record g r o m l = l
+header-joined Kind.Waiting g r o m l = l
+header-joined Kind.Started g r o m l = l
 
 -- a record with another header, both legal
 record-header : (k : Kind) (r q : Record) → isRecord k ≡ true → q .bits ≡ r .bits → q .sent ≡ r .sent → (LegalHeader r → LegalHeader q) → soundAs k r ≡ true

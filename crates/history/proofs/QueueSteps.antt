@@ -162,7 +162,7 @@ module _ (m : Memory) (b : Model) (k : SoundMemory m) (a : Same m b) where
         subst (λ (r : CapReply). Agree Same (answered requestReply (answeredAs r)) (requested c (modelVerdict (b .uplink) (requestOf c)) b))
         (sym (answer-reply _ _ up (requestOf c) (modelVerdict (b .uplink) (requestOf c)) refl)) (answered-agrees legal fits _ refl)
 
-    -- its own questions decide, and the book counts what the station counts
+    -- its own questions decide, and the model counts what the station counts
     request-asks : requestCall m (c .timeslot) (c .code) (c .kind) (c .number) ≡ ask (requestAsked c b) (answeredAs (given .reply)) no
     unfolding requestCall requestAnswered
     request-asks =

@@ -15,7 +15,7 @@ use Rattle.uplink.specs.declared.Uplink.{Uplink}
 use Rattle.uplink.specs.HalfSlot.{Half, firstHalf, secondHalf}
 use Rattle.uplink.specs.UplinkEntry.{Table, emptyTable, tableView, reserve, markerOrZero}
 use Rattle.uplink.specs.Uplink.{uplinkOf}
-use Rattle.uplink.specs.Request.{Request, Verdict, noRun, tooLate, grant, verdict, answer}
+use Rattle.uplink.specs.Request.{Request, Verdict, noRun, tooLate, grant, verdict, capNumber, answer}
 use Rattle.mac_reader.specs.PduList.{Pdu, whole, first, frag, final, null, body, pduBits}
 use Rattle.dl_record.specs.declared.Kind.{Kind}
 use Rattle.dl_record.specs.declared.Record.{Record}
@@ -52,8 +52,8 @@ both = firstHalf ∷ secondHalf ∷ []
 -- "number (0 done); after a 0 only, [..] capacity, delay, marker or 0"
 abbrev pub shown : CapReply → List ℕ
 shown (CapReply.Granted cap delay m) = 0 ∷ cap ∷ delay ∷ markerOrZero m ∷ []
-shown CapReply.NoRun = 9 ∷ []
-shown CapReply.TooLate = 10 ∷ []
+shown CapReply.NoRun = capNumber CapReply.NoRun ∷ []
+shown CapReply.TooLate = capNumber CapReply.TooLate ∷ []
 
 -- the frames of the slots granted
 abbrev pub framesGranted : Verdict → List ℕ

@@ -9,7 +9,7 @@ use lib.ListN.{length, take, drop, length-append, length-drop, List·getD-append
 use lib.Seq.{take-append-le, drop-append-le}
 use borrow.Author.Tests.{leb-true, le-leb}
 use Rattle.optional.proofs.Tests.{and-left, and-right, and-intro}
-use Rattle.bitbuffer.specs.Bits.{part}
+use Rattle.bitbuffer.proofs.Chunks.{part-left}
 use Rattle.sched_core.specs.Questions.{Memory}
 use Rattle.interpreter.specs.declared.Command.{Command}
 use Rattle.interpreter.specs.Slotrun.{Session, Step, step, newStep, requestStep, queueStep, staged, stageLine, timeGiven, octet, twoOctets}
@@ -52,13 +52,9 @@ queue-cut m stage ops b h =
           8 (omega arith),
     )
 
-part-cut : (ops b : List ℕ) (at n : ℕ) → at + n ≤ length ops → part (ops ++ b) at n ≡ part ops at n
-unfolding part
-part-cut ops b at n h = ap (take n) (drop-append-le at ops b (omega arith)) ∙ take-append-le n (drop at ops) b (omega (arith, length-drop at ops))
-
 staged-cut : (stage ops b : List ℕ) → 33 ≤ length ops → staged stage (ops ++ b) ≡ staged stage ops
 unfolding staged
-staged-cut stage ops b h = rw (octet-cut ops b 0 (omega arith), part-cut ops b 1 32 h)
+staged-cut stage ops b h = rw (octet-cut ops b 0 (omega arith), part-left ops b 1 32 h)
 
 stage-line-cut : (ops b : List ℕ) → 33 ≤ length ops → stageLine (ops ++ b) ≡ stageLine ops
 unfolding stageLine

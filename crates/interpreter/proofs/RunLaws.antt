@@ -9,9 +9,10 @@ use lib.Dec.{leb}
 use lib.ListN.{length, getD, take, drop, set, length-drop, take-append-drop}
 use lib.Seq.{drop-cons, drop-drop, drop-length, length-take-le, take-all}
 use borrow.Author.Tests.{leb-true}
+use Rattle.lists.proofs.Lists.{rest, set-append-add}
 use Rattle.optional.proofs.Tests.{and-right}
 use Rattle.bitbuffer.specs.Bits.{written, Wrote}
-use Rattle.bitbuffer.proofs.Laws.{then, set-append-add}
+use Rattle.bitbuffer.proofs.Laws.{then}
 use Rattle.interpreter.proofs.TextLaws.{nothing}
 use Rattle.dl_record.specs.declared.Record.{Record}
 use Rattle.sched_core.specs.declared.Station.{Station}
@@ -49,23 +50,20 @@ pub whole-inside : (input : List ℕ) (at : ℕ) → isWhole (drop at input) ≡
 whole-inside input at h = omega (arith, some (drop at input) h, length-drop at input)
 
 -- the octets from a place on, as the code takes them
-rest-of : (l : List ℕ) (at : ℕ) → take (length l - at) (drop at l) ≡ drop at l
-rest-of l at = take-all (length l - at) (drop at l) (omega (arith, length-drop at l))
-
 pub whole-fits : (input : List ℕ) (at : ℕ) (command : Command) → isWhole (drop at input) ≡ true → command ≡ commandOf (getD input at 0)
     → operandCount command ≤ length (take (length input - (at + 1)) (drop (at + 1) input))
 whole-fits input at command h e =
     let w : isWhole (getD input at 0 ∷ drop (at + 1) input) ≡ true = ap (λ (l : List ℕ). isWhole l) (sym (here input at (whole-inside input at h))) ∙ h in
-    rw (e, rest-of input (at + 1)) (leb-true _ _ (and-right (isKnown (commandOf (getD input at 0))) _ w))
+    rw (e, rest input (at + 1)) (leb-true _ _ (and-right (isKnown (commandOf (getD input at 0))) _ w))
 
 pub ends-inside : (input : List ℕ) (at m : ℕ) (command : Command) → isWhole (drop at input) ≡ true → command ≡ commandOf (getD input at 0)
     → m ≡ operandCount command → at + 1 + m ≤ length input
 ends-inside input at m command h e num =
     let i = whole-inside input at h in
-    omega (arith, whole-fits input at command h e, ap (λ (l : List ℕ). length l) (rest-of input (at + 1)), length-drop (at + 1) input)
+    omega (arith, whole-fits input at command h e, ap (λ (l : List ℕ). length l) (rest input (at + 1)), length-drop (at + 1) input)
 
 pub room-left : (l : List ℕ) (at n : ℕ) → at + n ≤ length l → n ≤ length (take (length l - at) (drop at l))
-room-left l at n h = rw (rest-of l at) (omega (arith, length-drop at l))
+room-left l at n h = rw (rest l at) (omega (arith, length-drop at l))
 
 -- ---- commands
 
@@ -150,7 +148,7 @@ wrote-back out part count n f h w =
     let none : drop (length out - count) (drop count out) ≡ [] = drop-drop (length out - count) count out ∙ ap (λ (k : ℕ). drop k out) all ∙ drop-length out in
     let same : part ≡ part ++ drop (length out - count) (drop count out) = sym (ap (λ (l : List ℕ). part ++ l) none ∙ append-nil part) in
     subst (λ l. Wrote out count (take count out ++ l) (count + n) f) same
-    (wrote-behind out part count n f h (subst (λ l. Wrote l 0 part n f) (rest-of out count) w))
+    (wrote-behind out part count n f h (subst (λ l. Wrote l 0 part n f) (rest out count) w))
 
 -- a turn
 running-step : (input : List ℕ) (s₀ s s' : Session) (out₀ out out' : List ℕ) (taken count n m : ℕ) (command : Command) (x : Step)
@@ -192,7 +190,7 @@ pub running-turn : (input : List ℕ) (s₀ s : Session) (out₀ out part store 
 running-turn input s₀ s out₀ out part store stage taken count m command r k whole e num fits h =
     let x = step s command (take (length input - (taken + 1)) (drop (taken + 1) input)) in
     running-step input s₀ s _ out₀ out _ taken count (r .count) m command x k (sym whole) (whole-inside input taken whole) e num
-    (ap (step s command) (rest-of input (taken + 1))) (h .session-after) (h .most)
+    (ap (step s command) (rest input (taken + 1))) (h .session-after) (h .most)
     (wrote-back out part count (r .count) (x .line) fits (h .line))
 
 -- a turn that is an advance

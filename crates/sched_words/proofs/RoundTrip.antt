@@ -28,7 +28,7 @@ use Rattle.sched_core.proofs.StationLaws.{station-parts}
 use Rattle.sched_core.specs.Questions.{soundCount, soundStation}
 use Rattle.sched_words.specs.Words.{wordOf8, wordOf32, optU8, optU32, wordsOfAll, readAll, sameWords, entryWords, entryFrom, rowWords, rowFrom}
 use Rattle.sched_words.specs.Words.{fourFrom, tableFrom, stationWords, stationRead, stationFrom, noStation}
-use Rattle.sched_words.proofs.WordLaws.{length-joined}
+use Rattle.sched_words.proofs.WordLaws.{row-size}
 
 -- ---- words compared
 
@@ -165,20 +165,17 @@ module _ (s : Station) (sizes : Arrays s) (sound : soundStation s ≡ true) wher
   abbrev c : List ℕ
   c = s .uplink .«next_usage_marker»
 
-  row-length : (row : List Entry) → length row ≡ 18 → length (rowWords row) ≡ 54
-  row-length row e = length-joined entryWords 3 (λ x. refl) row ∙ omega (arith, e)
-
   l1 : length r1 ≡ 54
-  l1 = row-length (getD tb 0 []) (sizes .table .columns 0 (omega arith))
+  l1 = row-size (getD tb 0 []) (sizes .table .columns 0 (omega arith))
 
   l2 : length r2 ≡ 54
-  l2 = row-length (getD tb 1 []) (sizes .table .columns 1 (omega arith))
+  l2 = row-size (getD tb 1 []) (sizes .table .columns 1 (omega arith))
 
   l3 : length r3 ≡ 54
-  l3 = row-length (getD tb 2 []) (sizes .table .columns 2 (omega arith))
+  l3 = row-size (getD tb 2 []) (sizes .table .columns 2 (omega arith))
 
   l4 : length r4 ≡ 54
-  l4 = row-length (getD tb 3 []) (sizes .table .columns 3 (omega arith))
+  l4 = row-size (getD tb 3 []) (sizes .table .columns 3 (omega arith))
 
   -- the words from each row on
   abbrev from-c : List ℕ

@@ -19,14 +19,11 @@ use Rattle.sched_core.specs.Questions.{soundStation}
 use Rattle.sched_core.proofs.StationLaws.{sound-time}
 use Rattle.sched_words.specs.Words.{sameWords, timeWords, timeFrom, entryWords, entryFrom, rowWords, rowFrom, fourFrom, tableWords}
 use Rattle.sched_words.specs.Words.{tableFrom, stationWords, stationRead, stationFrom, noStation}
-use Rattle.sched_words.proofs.WordLaws.{sets-whole, length-joined, length-parts, part-at}
+use Rattle.sched_words.proofs.WordLaws.{row-size, sets-whole, length-parts, part-at}
 use Rattle.sched_words.proofs.StoreLaws.{sets-left, sets-right, set-joined}
 use Rattle.sched_words.proofs.RoundTrip.{unsound-none, station-words-back}
 
 -- ---- a row of the table
-
-row-size : (row : List Entry) → length row ≡ 18 → length (rowWords row) ≡ 54
-row-size row e = length-joined entryWords 3 (λ x. refl) row ∙ omega (arith, e)
 
 module _ (a b c d : List Entry) (sa : length a ≡ 18) (sb : length b ≡ 18) (sc : length c ≡ 18) (sd : length d ≡ 18) where
   abbrev tb : Table

@@ -2,10 +2,10 @@
 use mathlib.Core.Path.{_≡_, refl, sym, ap, ap₂, _∙_}
 use mathlib.Core.List.{List, [], _∷_, _++_, append-assoc}
 use Prim.Native.Nat.{ℕ, zero, suc, _+_, _*_, _≤_, _<_}
-use native.Mathlib.Nat.{zero-add}
 use native.Mathlib.Omega.{arith}
 use lib.ListN.{length, getD, set, take, drop, length-append, length-set, take-append-drop}
 use lib.Seq.{sets, sets-eq, set-append-left, set-split, drop-cons, drop-drop, take-at, drop-at, length-take-le}
+use Rattle.lists.proofs.Lists.{set-append-add}
 use Rattle.sched_words.specs.Words.{wordsOfAll}
 use Rattle.sched_words.proofs.WordLaws.{length-joined}
 use Rattle.sched_words.proofs.FitLaws.{joined-append}
@@ -16,18 +16,12 @@ sets-left a b i [] h = refl
 sets-left a b i (x ∷ w) h =
     ap (λ (l : List ℕ). sets l (suc i) w) (set-append-left a b i x (omega arith)) ∙ sets-left (set a i x) b (suc i) w (omega (arith, length-set a i x))
 
-set-right : (a b : List ℕ) (i x : ℕ) → set (a ++ b) (length a + i) x ≡ a ++ set b i x
-set-right [] b i x = rw (zero-add i)
-set-right (y ∷ a) b i x =
-    let e : suc (length a) + i ≡ suc (length a + i) = omega arith in
-    ap (λ (j : ℕ). set (y ∷ (a ++ b)) j x) e ∙ ap (λ (l : List ℕ). y ∷ l) (set-right a b i x)
-
 -- in the second
 pub sets-right : (a b : List ℕ) (n i : ℕ) (w : List ℕ) → length a ≡ n → sets (a ++ b) (n + i) w ≡ a ++ sets b i w
 sets-right a b n i [] e = refl
 sets-right a b n i (x ∷ w) e =
     let k : suc (n + i) ≡ n + suc i = omega arith in
-    ap₂ (λ (l : List ℕ) (j : ℕ). sets l j w) (ap (λ (m : ℕ). set (a ++ b) (m + i) x) (sym e) ∙ set-right a b i x) k ∙ sets-right a (set b i x) n (suc i) w e
+    ap₂ (λ (l : List ℕ) (j : ℕ). sets l j w) (ap (λ (m : ℕ). set (a ++ b) (m + i) x) (sym e) ∙ set-append-add a b i x) k ∙ sets-right a (set b i x) n (suc i) w e
 
 -- words over as many in the middle
 pub sets-middle : (a v r w : List ℕ) (n : ℕ) → length a ≡ n → length v ≡ length w → sets (a ++ (v ++ r)) n w ≡ a ++ (w ++ r)

@@ -12,11 +12,12 @@ use borrow.Author.Tests.{not-true, not-false}
 use Rattle.optional.specs.declared.OptU8.{OptU8}
 use Rattle.optional.specs.declared.OptU16.{OptU16}
 use Rattle.optional.specs.declared.OptU32.{OptU32}
+use Rattle.uplink.specs.declared.Entry.{Entry}
 use Rattle.mac_pdus.specs.declared.OptChanAlloc.{OptChanAlloc}
 use Rattle.dl_record.specs.declared.Kind.{Kind}
 use Rattle.dl_record.specs.declared.Record.{Record}
 use Rattle.sched_words.specs.Words.{recordWordCount, Stored, optU8, optU16, optU32, kindFrom, wordsOfAll, readAll, sameWords, allocWords, allocFields}
-use Rattle.sched_words.specs.Words.{allocFrom, recordWords}
+use Rattle.sched_words.specs.Words.{allocFrom, recordWords, entryWords, rowWords}
 
 -- ---- single words
 
@@ -76,10 +77,6 @@ module _ {A : Type 0} (write : A → List ℕ) (read : List ℕ → A) (none x :
 
 -- ---- words stored
 
--- the rest of a list, as the code lends it
-pub rest : (l : List ℕ) (n : ℕ) → take (length l - n) (drop n l) ≡ drop n l
-rest l n = take-all (length l - n) (drop n l) (omega (arith, length-drop n l))
-
 pub sets-append : (l : List ℕ) (at : ℕ) (f g : List ℕ) → sets l at (f ++ g) ≡ sets (sets l at f) (at + length f) g
 sets-append l at [] g = ap (λ (n : ℕ). sets l n g) (sym (add-zero at))
 sets-append l at (x ∷ f) g = sets-append (set l at x) (suc at) f g ∙ ap (λ (n : ℕ). sets (sets (set l at x) (suc at) f) n g) (omega arith)
@@ -132,6 +129,10 @@ module _ {A : Type 0} (f : A → List ℕ) (k : ℕ) (size : (x : A) → length 
   pub joined-done : (l : List ℕ) (xs : List A) (p i : ℕ) → length xs ≤ i → sets l p (wordsOfAll f (drop i xs)) ≡ l
   unfolding wordsOfAll
   joined-done l xs p i h = rw (drop-of-length-le xs {i = i} h)
+
+-- the words of a row
+pub row-size : (row : List Entry) → length row ≡ 18 → length (rowWords row) ≡ 54
+row-size row e = length-joined entryWords 3 (λ x. refl) row ∙ omega (arith, e)
 
 module _ {A : Type 0} (f : List ℕ → A) (k : ℕ) where
   pub length-parts : (n : ℕ) (ws : List ℕ) → length (readAll f k n ws) ≡ n

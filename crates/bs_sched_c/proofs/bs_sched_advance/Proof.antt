@@ -4,14 +4,14 @@ use borrow.Author.Tests.{ne-eqb}
 use mathlib.Core.Path.{_∙_, ap}
 use Prim.Native.Nat.{ℕ}
 use Rattle.questions.proofs.AskLaws.{said-no, said-yes}
-use Rattle.bs_sched_c.specs.Exports.{stationLeft, advanceLeft}
+use Rattle.bs_sched_c.specs.Exports.{otherLength, stationLeft, advanceLeft}
 use Rattle.bs_sched_c.proofs.LeftLaws.{is-station, advance-no, advance-yes}
 use Rattle.bs_sched_c.proofs.bs_sched_advance.Statement.{statement}
 use Rattle.bs_sched_c.proofs.bs_sched_advance.Tie as tie
 
 returns : tie.Need-returns
 unfolding advanceLeft
-returns c = rw (ne-eqb _ _ (c .if1 .taken))
+returns c = rw (c .other-length .ensures, ne-eqb _ _ (c .before .if1 .taken))
 
 returns-2 : tie.Need-returns-2
 unfolding advanceLeft
@@ -20,7 +20,7 @@ returns-2 c =
     let k = t .before in
     let e = k .before .before in
     let ws = e .before .before .args .station .now in
-    is-station ws (stationLeft 2 ws) (e .if1 .left)
+    is-station ws (stationLeft otherLength ws) (e .if1 .left)
     (ap (λ (n : ℕ). stationLeft n ws) (c .number .ensures) ∙ advance-no ws (said-no (k .station-is-sound .ensures) (t .if2 .taken)))
 
 advance-requires : tie.Need-advance-requires
@@ -37,9 +37,9 @@ returns-3 c =
     let k = t .before in
     let e = k .before .before in
     let ws = e .before .before .args .station .now in
-    is-station ws (stationLeft 2 ws) (e .if1 .left) (advance-yes ws (said-yes (k .station-is-sound .ensures) (t .if2 .left)) _ (p .advance .ensures))
+    is-station ws (stationLeft otherLength ws) (e .if1 .left) (advance-yes ws (said-yes (k .station-is-sound .ensures) (t .if2 .left)) _ (p .advance .ensures))
 
 pub bs-sched-advance-spec : {M : Type 1} → statement M
 bs-sched-advance-spec =
     tie.close
-    (tie.spec returns (λ c κs. search needs) (λ c κs. search needs) (λ c. search needs) returns-2 advance-requires (λ c. search needs) returns-3)
+    (tie.spec (λ c κs. search needs) returns (λ c κs. search needs) (λ c κs. search needs) (λ c. search needs) returns-2 advance-requires (λ c. search needs) returns-3)

@@ -57,11 +57,11 @@ planned p =
 
 returns : tie.Need-returns
 unfolding enqueueLeft
-returns c = rw (ne-eqb _ _ (c .if1 .taken))
+returns c = rw (c .other-length .ensures, ne-eqb _ _ (c .before .if1 .taken))
 
 returns-2 : tie.Need-returns-2
 unfolding enqueueLeft
-returns-2 c = rw (eq-eqb _ _ (c .before .if1 .left), ne-eqb _ _ (c .if2 .taken))
+returns-2 c = rw (c .other-length2 .ensures, eq-eqb _ _ (c .before .before .if1 .left), ne-eqb _ _ (c .before .if2 .taken))
 
 returns-3 : tie.Need-returns-3
 unfolding enqueueLeft tmaCall
@@ -122,6 +122,6 @@ returns-5 c =
 pub bs-sched-enqueue-spec : {M : Type 1} → statement M
 bs-sched-enqueue-spec =
     tie.close
-    (tie.spec returns returns-2 (λ c κs. search needs) (λ c. search needs) (λ c. search needs) (λ c. search needs) returns-3
+    (tie.spec (λ c κs. search needs) returns (λ c κs. search needs) returns-2 (λ c κs. search needs) (λ c. search needs) (λ c. search needs) (λ c. search needs) returns-3
     queued-of-requires (λ c κs. search needs) tma-joins-requires (λ c κs. search needs) (λ c. search needs) (λ c. search needs) (λ c. search needs) returns-4
     put-queued-requires put-record-requires (λ c. search needs) (λ c. search needs) (λ c. search needs) returns-5)

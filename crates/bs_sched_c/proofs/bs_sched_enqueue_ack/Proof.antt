@@ -46,7 +46,7 @@ planned p =
 
 returns : tie.Need-returns
 unfolding ackLeft
-returns c = rw (ne-eqb _ _ (c .if1 .taken))
+returns c = rw (c .other-length .ensures, ne-eqb _ _ (c .before .if1 .taken))
 
 returns-2 : tie.Need-returns-2
 unfolding ackLeft ackCall
@@ -98,6 +98,6 @@ returns-4 c =
 pub bs-sched-enqueue-ack-spec : {M : Type 1} → statement M
 bs-sched-enqueue-ack-spec =
     tie.close
-    (tie.spec returns (λ c κs. search needs) (λ c. search needs) (λ c. search needs) returns-2 queued-of-requires (λ c κs. search needs)
+    (tie.spec (λ c κs. search needs) returns (λ c κs. search needs) (λ c. search needs) (λ c. search needs) returns-2 queued-of-requires (λ c κs. search needs)
     (λ c κs. search needs) (λ c. search needs) (λ c. search needs) returns-3 put-queued-requires put-record-requires (λ c. search needs)
     (λ c. search needs) returns-4)

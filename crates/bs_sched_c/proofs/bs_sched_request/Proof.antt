@@ -65,7 +65,7 @@ planned p =
 
 returns : tie.Need-returns
 unfolding requestLeft
-returns c = rw (c .not-granted .ensures, ne-eqb _ _ (c .before .if1 .taken))
+returns c = rw (c .not-granted .ensures, c .before .other-length .ensures, ne-eqb _ _ (c .before .before .if1 .taken))
 
 returns-2 : tie.Need-returns-2
 unfolding requestLeft requestCall
@@ -123,6 +123,6 @@ returns-4 c =
 pub bs-sched-request-spec : {M : Type 1} → statement M
 bs-sched-request-spec =
     tie.close
-    (tie.spec (λ c κs. search needs) returns (λ c κs. search needs) (λ c κs. search needs) (λ c. search needs) (λ c. search needs) returns-2
+    (tie.spec (λ c κs. search needs) (λ c κs. search needs) returns (λ c κs. search needs) (λ c κs. search needs) (λ c. search needs) (λ c. search needs) returns-2
     (λ c κs. search needs) station-of-row-requires request-plan-requires (λ c κs. search needs) (λ c. search needs) (λ c. search needs) returns-3
     put-row-of-requires put-record-requires (λ c. search needs) (λ c. search needs) returns-4)

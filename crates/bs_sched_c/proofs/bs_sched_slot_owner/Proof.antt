@@ -11,7 +11,7 @@ use Rattle.tdma_time.proofs.TimeLaws.{true-valid}
 use Rattle.uplink.specs.UplinkEntry.{entryAt}
 use Rattle.sched_core.specs.Questions.{soundStation}
 use Rattle.sched_words.specs.Words.{stationFrom}
-use Rattle.bs_sched_c.specs.Exports.{timeAt, noOwnersStruct, entryOwners, ownerAnswer}
+use Rattle.bs_sched_c.specs.Exports.{otherLength, timeAt, noOwnersStruct, entryOwners, ownerAnswer}
 use Rattle.bs_sched_c.proofs.LeftLaws.{is-station, owner-unsound, owner-no-time, owner-yes}
 use Rattle.bs_sched_c.proofs.bs_sched_slot_owner.Statement.{statement}
 use Rattle.bs_sched_c.proofs.bs_sched_slot_owner.Tie as tie
@@ -31,7 +31,7 @@ valid-is v = v .is-valid .ensures ∙ ap valid (v .before .before .before .time-
 
 returns : tie.Need-returns
 unfolding ownerAnswer
-returns c = rw (c .no-owners .ensures, ne-eqb _ _ (c .before .if1 .taken))
+returns c = rw (c .no-owners .ensures, c .before .other-length .ensures, ne-eqb _ _ (c .before .before .if1 .taken))
 
 returns-2 : tie.Need-returns-2
 unfolding ownerAnswer
@@ -40,7 +40,7 @@ returns-2 c =
     let k = t .before in
     let s = start k in
     let ws = s .args .station .now in
-    is-station ws (noOwnersStruct 2) (k .before .before .if1 .left)
+    is-station ws (noOwnersStruct otherLength) (k .before .before .if1 .left)
     (c .no-owners2 .ensures ∙ ap noOwnersStruct (c .before .number .ensures)
     ∙ owner-unsound (stationFrom ws) (time s) (said-no (k .station-is-sound .ensures) (t .if2 .taken)))
 
@@ -52,7 +52,7 @@ returns-3 c =
     let k = v .before .before in
     let s = start k in
     let ws = s .args .station .now in
-    is-station ws (noOwnersStruct 2) (k .before .before .if1 .left)
+    is-station ws (noOwnersStruct otherLength) (k .before .before .if1 .left)
     (c .no-owners3 .ensures ∙ ap noOwnersStruct (c .before .number2 .ensures)
     ∙ owner-no-time (stationFrom ws) (time s) (sound (v .before)) (said-no (valid-is v) (t .if3 .taken)))
 
@@ -71,12 +71,12 @@ returns-4 c =
     let s = start k in
     let ws = s .args .station .now in
     let x = ap (λ (y : TdmaTime). entryAt (stationFrom ws .uplink .rows) (slotOf y)) (k .before .time-at .ensures) in
-    is-station ws (noOwnersStruct 2) (k .before .before .if1 .left)
+    is-station ws (noOwnersStruct otherLength) (k .before .before .if1 .left)
     (c .owners-of .ensures ∙ ap entryOwners (e .entry-at .ensures ∙ x)
     ∙ owner-yes (stationFrom ws) (time s) (sound (v .before)) (said-yes (valid-is v) (t .if3 .left)))
 
 pub bs-sched-slot-owner-spec : {M : Type 1} → statement M
 bs-sched-slot-owner-spec =
     tie.close
-    (tie.spec (λ c κs. search needs) returns (λ c κs. search needs) (λ c κs. search needs) (λ c κs. search needs) (λ c κs. search needs) returns-2
+    (tie.spec (λ c κs. search needs) (λ c κs. search needs) returns (λ c κs. search needs) (λ c κs. search needs) (λ c κs. search needs) (λ c κs. search needs) returns-2
     (λ c κs. search needs) (λ c κs. search needs) (λ c κs. search needs) returns-3 entry-at-requires (λ c κs. search needs) returns-4)

@@ -12,7 +12,7 @@ use Rattle.uplink.specs.declared.AccessAssignUlUsage.{AccessAssignUlUsage}
 use Rattle.uplink.specs.UplinkEntry.{entryAt, usageOf, usageNumber, usageMarker, markerOrZero}
 use Rattle.sched_core.specs.Questions.{soundStation}
 use Rattle.sched_words.specs.Words.{stationFrom}
-use Rattle.bs_sched_c.specs.Exports.{timeAt, usageStruct, usageAnswer}
+use Rattle.bs_sched_c.specs.Exports.{otherLength, timeAt, usageStruct, usageAnswer}
 use Rattle.bs_sched_c.proofs.LeftLaws.{is-station, usage-unsound, usage-no-time, usage-yes}
 use Rattle.bs_sched_c.proofs.bs_sched_usage.Statement.{statement}
 use Rattle.bs_sched_c.proofs.bs_sched_usage.Tie as tie
@@ -32,7 +32,7 @@ valid-is v = v .is-valid .ensures ∙ ap valid (v .before .before .before .time-
 
 returns : tie.Need-returns
 unfolding usageAnswer
-returns c = rw (c .usage-answer .ensures, ne-eqb _ _ (c .before .if1 .taken))
+returns c = rw (c .usage-answer .ensures, c .before .other-length .ensures, ne-eqb _ _ (c .before .before .if1 .taken))
 
 returns-2 : tie.Need-returns-2
 unfolding usageAnswer
@@ -41,7 +41,7 @@ returns-2 c =
     let k = t .before in
     let s = start k in
     let ws = s .args .station .now in
-    is-station ws (usageStruct 2 0 0) (k .before .before .if1 .left)
+    is-station ws (usageStruct otherLength 0 0) (k .before .before .if1 .left)
     (c .usage-answer2 .ensures ∙ ap (λ (n : ℕ). usageStruct n 0 0) (c .before .number .ensures)
     ∙ usage-unsound (stationFrom ws) (time s) (said-no (k .station-is-sound .ensures) (t .if2 .taken)))
 
@@ -53,7 +53,7 @@ returns-3 c =
     let k = v .before .before in
     let s = start k in
     let ws = s .args .station .now in
-    is-station ws (usageStruct 2 0 0) (k .before .before .if1 .left)
+    is-station ws (usageStruct otherLength 0 0) (k .before .before .if1 .left)
     (c .usage-answer3 .ensures ∙ ap (λ (n : ℕ). usageStruct n 0 0) (c .before .number2 .ensures)
     ∙ usage-no-time (stationFrom ws) (time s) (sound (v .before)) (said-no (valid-is v) (t .if3 .taken)))
 
@@ -73,12 +73,12 @@ returns-4 c =
     let s = start k in
     let ws = s .args .station .now in
     let x = ap (λ (y : TdmaTime). entryAt (stationFrom ws .uplink .rows) (slotOf y)) (k .before .time-at .ensures) in
-    is-station ws (usageStruct 2 0 0) (k .before .before .if1 .left)
+    is-station ws (usageStruct otherLength 0 0) (k .before .before .if1 .left)
     (c .usage-found .ensures ∙ ap (λ (y : AccessAssignUlUsage). usageStruct 0 (usageNumber y) (markerOrZero (usageMarker y))) (u .usage-of .ensures)
     ∙ usage-yes (stationFrom ws) (time s) (sound (v .before)) (said-yes (valid-is v) (t .if3 .left)) _ (e .entry-at .ensures ∙ x))
 
 pub bs-sched-usage-spec : {M : Type 1} → statement M
 bs-sched-usage-spec =
     tie.close
-    (tie.spec (λ c κs. search needs) returns (λ c κs. search needs) (λ c κs. search needs) (λ c κs. search needs) (λ c κs. search needs) returns-2
+    (tie.spec (λ c κs. search needs) (λ c κs. search needs) returns (λ c κs. search needs) (λ c κs. search needs) (λ c κs. search needs) (λ c κs. search needs) returns-2
     (λ c κs. search needs) (λ c κs. search needs) (λ c κs. search needs) returns-3 entry-at-requires (λ c κs. search needs) (λ c κs. search needs) returns-4)

@@ -9,7 +9,8 @@ use borrow.Author.Needs.{needs}
 use Rattle.sizes.specs.Sizes.{perTimeslot, queuePlaces}
 use Rattle.dl_record.specs.Record.{emptyRecord}
 use Rattle.sched_words.specs.Words.{recordWordCount, recordRead, recordsRead}
-use Rattle.sched_words.proofs.WordLaws.{rest, part-at, length-parts, filled-next}
+use Rattle.lists.proofs.Lists.{rest}
+use Rattle.sched_words.proofs.WordLaws.{part-at, length-parts, filled-next}
 use Rattle.sched_words.proofs.queue.records_read.Statement.{statement}
 use Rattle.sched_words.proofs.queue.records_read.Tie as tie
 

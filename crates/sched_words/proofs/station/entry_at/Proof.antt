@@ -4,7 +4,7 @@ use native.Mathlib.Omega.{arith}
 use lib.ListN.{length-drop}
 use borrow.Author.Needs.{needs}
 use Rattle.sched_words.specs.Words.{entryFrom}
-use Rattle.sched_words.proofs.WordLaws.{rest}
+use Rattle.lists.proofs.Lists.{rest}
 use Rattle.sched_words.proofs.StationWords.{entry-words}
 use Rattle.sched_words.proofs.station.entry_at.Statement.{statement}
 use Rattle.sched_words.proofs.station.entry_at.Tie as tie

@@ -2,7 +2,7 @@
 use mathlib.Core.Path.{_∙_, ap}
 use borrow.Author.Needs.{needs}
 use Rattle.sched_words.specs.Words.{fourFrom}
-use Rattle.sched_words.proofs.WordLaws.{rest}
+use Rattle.lists.proofs.Lists.{rest}
 use Rattle.sched_words.proofs.StationWords.{counts-read}
 use Rattle.sched_words.proofs.station.queued_of.Statement.{statement}
 use Rattle.sched_words.proofs.station.queued_of.Tie as tie

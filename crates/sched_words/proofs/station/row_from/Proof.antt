@@ -7,7 +7,8 @@ use lib.ListN.{drop, take, replicate, length-drop}
 use borrow.Author.Needs.{needs}
 use Rattle.uplink.specs.UplinkEntry.{emptyEntry}
 use Rattle.sched_words.specs.Words.{entryFrom, rowFrom}
-use Rattle.sched_words.proofs.WordLaws.{rest, part-at, length-parts, filled-next, filled-whole}
+use Rattle.lists.proofs.Lists.{rest}
+use Rattle.sched_words.proofs.WordLaws.{part-at, length-parts, filled-next, filled-whole}
 use Rattle.sched_words.proofs.station.row_from.Statement.{statement}
 use Rattle.sched_words.proofs.station.row_from.Tie as tie
 

@@ -8,7 +8,7 @@ use Rattle.uplink.specs.UplinkEntry.{all, soundEntry, soundCounters}
 use Rattle.sched_core.specs.Questions.{soundCount}
 use Rattle.sched_words.specs.Words.{wordsOfAll, readAll, entryWords, entryFrom, fourFrom}
 use Rattle.sched_words.specs.Front.{begins}
-use Rattle.sched_words.proofs.WordLaws.{rest}
+use Rattle.lists.proofs.Lists.{rest}
 use Rattle.sched_words.proofs.SoundStation.{station-judged}
 use Rattle.sched_words.proofs.station.station_is_sound.Statement.{statement}
 use Rattle.sched_words.proofs.station.station_is_sound.Tie as tie

@@ -6,7 +6,7 @@ use Rattle.sizes.specs.Sizes.{timeslots}
 use Rattle.uplink.specs.Uplink.{uplinkOf}
 use Rattle.sched_core.specs.Station.{stationOf}
 use Rattle.sched_words.specs.Words.{rowFrom, fourFrom}
-use Rattle.sched_words.proofs.WordLaws.{rest}
+use Rattle.lists.proofs.Lists.{rest}
 use Rattle.sched_words.proofs.StationWords.{time-read, row-read, counters-read, counts-read}
 use Rattle.sched_words.proofs.station.station_of_row.Statement.{statement}
 use Rattle.sched_words.proofs.station.station_of_row.Tie as tie
