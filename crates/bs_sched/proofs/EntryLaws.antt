@@ -4,12 +4,11 @@ use mathlib.Core.Bool.{Bool, true, false}
 use mathlib.Core.List.{List, [], _∷_, _++_}
 use Prim.Native.Nat.{ℕ, _*_}
 use native.Mathlib.Omega.{arith}
-use lib.ListN.{length, getD, set, take, drop}
+use lib.ListN.{length, getD, set}
 use lib.Seq.{paste}
 use borrow.Author.Tests.{eqb-true}
-use Rattle.sizes.specs.Sizes.{timeslots, perTimeslot, cellOctets, blockOctets}
+use Rattle.sizes.specs.Sizes.{timeslots, perTimeslot, blockOctets}
 use Rattle.dl_record.specs.declared.Record.{Record}
-use Rattle.dl_queue.specs.Questions.{soundPlaces}
 use Rattle.dl_send.specs.declared.Progress.{Progress}
 use Rattle.dl_build.specs.Build.{BuiltIn}
 use Rattle.sched_core.specs.declared.Station.{Station}
@@ -17,12 +16,12 @@ use Rattle.questions.specs.declared.Refusal.{Refusal}
 use Rattle.sched_core.specs.declared.BuildReply.{BuildReply}
 use Rattle.questions.specs.Questions.{Question, question, ask}
 use Rattle.sched_core.specs.Station.{withQueued}
-use Rattle.sched_core.specs.Questions.{Memory, memory, soundStation, asksBlock, memoryQuestions, buildLent}
+use Rattle.sched_core.specs.Questions.{Memory, memory, asksBlock, memoryQuestions, buildLent}
 use Rattle.sched_core.specs.Calls.{Outcome, outcome, judged, notBuilt, current, buildsNow, builtNow, buildCall}
 use Rattle.questions.proofs.AskLaws.{asked-yes, asked-no}
 use Rattle.sched_enqueue.specs.Plan.{SoundQueue, Planned}
 use Rattle.sched_enqueue.proofs.PlanLaws.{Told, yes-told}
-use Rattle.sched_build.proofs.BuildCallLaws as plan
+use Rattle.sched_build.proofs.BuildCallLaws.{plan-called}
 use Rattle.bs_sched.specs.declared.Passage.{Passage}
 use Rattle.bs_sched.specs.declared.BuildAnswer.{BuildAnswer}
 use Rattle.bs_sched.specs.Entries.{buildAnswerOf, buildLeft, leftBy}
@@ -81,25 +80,19 @@ module _ (s : Station) (rs : List Record) (st : List ℕ) where
         let yes = asked-yes Passage.Passed Passage.No no-passes (memoryQuestions m (buildLent block)) (sym e ∙ passed) in
         ap leftBy (sym (rw (yes .0, yes .1 .0, yes .1 .1 .0, yes .1 .1 .1 .0, nothing)))
 
-    -- every question is answered yes, and the plan of the current timeslot is stored
-    module _ (passed : Told s rs st (asksBlock block .holds)) (builds : buildsNow s ≡ true) where
-      pub records-sound : length (s .queued) ≡ timeslots
-          → soundPlaces perTimeslot (getD (s .queued) (current s) 0) (take perTimeslot (drop (perTimeslot * current s) rs))
-          (drop (cellOctets * (perTimeslot * current s)) st) ≡ true
-      records-sound four =
-          plan.records-sound (memory s rs st) block (passed .station) (passed .queue .places) (passed .queue .cells) (eqb-true _ _ (passed .lengths))
-          (passed .queue .sound) builds four
-
-      pub plan-built : (p : Progress) (answer : BuildAnswer) (z : List Record) (st' block' : List ℕ)
-          → BuiltIn (builtNow (memory s rs st)) blockOctets st (perTimeslot * current s) p st' block'
-          → answer ≡ record {
-            reply = BuildReply.Built;
-            tags = p .tags;
-            «tag_count» = p .«tag_count»;
-            station = withQueued s (set (s .queued) (current s) (p .left));
-          } → z ≡ paste rs (perTimeslot * current s) (p .records) perTimeslot → buildLeft answer z st' block' ≡ leftBy (buildCall (memory s rs st) block)
-      plan-built p answer z st' block' h ea ez =
-          rw (ea, h .tags, h .tag-count)
-          (ap leftBy
-          (plan.plan-called (memory s rs st) block (passed .station) (passed .queue .places) (passed .queue .cells) (eqb-true _ _ (passed .lengths))
-          (passed .queue .sound) builds p _ z st' block' h refl ez))
+  -- every question is answered yes, and of the plan of the current timeslot as many records are stored as were queued
+  pub plan-built : (block : List ℕ) → Told s rs st (asksBlock block .holds) → buildsNow s ≡ true → length (s .queued) ≡ timeslots
+      → (p : Progress) (answer : BuildAnswer) (z : List Record) (st' block' : List ℕ)
+      → BuiltIn (builtNow (memory s rs st)) blockOctets st (perTimeslot * current s) p st' block'
+      → answer ≡ record {
+        reply = BuildReply.Built;
+        tags = p .tags;
+        «tag_count» = p .«tag_count»;
+        station = withQueued s (set (s .queued) (current s) (p .left));
+      } → z ≡ paste rs (perTimeslot * current s) (p .records) (getD (s .queued) (current s) 0)
+      → buildLeft answer z st' block' ≡ leftBy (buildCall (memory s rs st) block)
+  plan-built block passed builds four p answer z st' block' h ea ez =
+      rw (ea, h .tags, h .tag-count)
+      (ap leftBy
+      (plan-called (memory s rs st) (passed .station) (passed .queue .places) (passed .queue .cells) (passed .queue .sound) block
+      (eqb-true _ _ (passed .lengths)) builds four p _ z st' block' h refl ez))

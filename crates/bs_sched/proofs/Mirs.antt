@@ -55,6 +55,7 @@ use Rattle.sched_core.proofs.Answer.Laws as sched_core-Answer-laws
 use Rattle.sched_core.proofs.RequestAnswer.Laws as sched_core-RequestAnswer-laws
 use Rattle.sched_request.proofs.RequestPlan.Laws as sched_request-RequestPlan-laws
 use Rattle.sched_enqueue.proofs.QueuePlan.Laws as sched_enqueue-QueuePlan-laws
+use Rattle.sched_enqueue.proofs.Joining.Laws as sched_enqueue-Joining-laws
 
 abbrev pub slice : Ty → Ty
 slice = sliceTy
@@ -217,3 +218,6 @@ sched_request-RequestPlan = sched_request-RequestPlan-laws.mir
 
 abbrev pub sched_enqueue-QueuePlan : Ty
 sched_enqueue-QueuePlan = sched_enqueue-QueuePlan-laws.mir
+
+abbrev pub sched_enqueue-Joining : Ty
+sched_enqueue-Joining = sched_enqueue-Joining-laws.mir

@@ -22,8 +22,8 @@ use mathlib.Core.Path as Path'
 use mir.Syntax
 
 abbrev pub kinds : List.List (Kinds.PK 1)
-kinds = (MutSlice.pMutS in-Record.row 0 tt) ∷ (Kinds.pNum Syntax.w64) ∷ (Array.pArr (Array.eStruct Record.the-type Laws.the-laws Laws.the-copy)
-    (Array.eStruct-laws Record.the-type Laws.the-laws Laws.the-copy Laws.the-plain) 16) ∷ []
+kinds = (MutSlice.pMutS in-Record.row 0 tt) ∷ (Kinds.pNum Syntax.w64) ∷ (Kinds.pNum Syntax.w64) ∷ (Array.pArr (Array.eStruct Record.the-type
+    Laws.the-laws Laws.the-copy) (Array.eStruct-laws Record.the-type Laws.the-laws Laws.the-copy Laws.the-plain) 16) ∷ []
 
 abbrev pub result : Kinds.RK 1
 result = Kinds.rUnit
@@ -55,9 +55,9 @@ module _ (κs : Lifetimes.Lfts 1) where
   ensures = λ a g r s w. save_timeslot.clauses (w .𝓤) (w .H) (w .𝓖 .A) (w .𝓜 .mem) (w .𝓡 .run) κs a .ensures g r s
 
   abbrev pub requires-1·read : (a : World.ArgsD save_timeslot.signature κs) → (g : Ghost) → Read.Read (World.In save_timeslot.signature κs a)
-      Read.no-know λ w. save_timeslot.requires-1 (w .𝓤) (w .H) κs (w .𝓖 .A) (w .𝓜 .mem) (w .𝓡 .run) (a .0) (a .1 .0) (a .1 .1 .0)
+      Read.no-know λ w. save_timeslot.requires-1 (w .𝓤) (w .H) κs (w .𝓖 .A) (w .𝓜 .mem) (w .𝓡 .run) (a .0) (a .1 .0) (a .1 .1 .0) (a .1 .1 .1 .0)
   requires-1·read = λ a g. Read.all-models (λ w. save_timeslot.requires-1 (w .𝓤) (w .H) κs (w .𝓖 .A) (w .𝓜 .mem) (w .𝓡 .run) (a .0) (a .1 .0) (a .1 .1
-      .0)) (λ w. Read.r-last _) (λ w. Path'.refl) (λ w. Path'.refl) λ w. Path'.refl
+      .0) (a .1 .1 .1 .0)) (λ w. Read.r-last _) (λ w. Path'.refl) (λ w. Path'.refl) λ w. Path'.refl
 
   abbrev pub pre-read : (a : World.ArgsD save_timeslot.signature κs) → (g : Ghost) → Read.Read (World.In save_timeslot.signature κs a) Read.no-know
       (requires a g)
@@ -65,14 +65,14 @@ module _ (κs : Lifetimes.Lfts 1) where
 
   abbrev pub ensures-1·read : (a : World.ArgsD save_timeslot.signature κs) → (g : Ghost) → (r : World.ResD save_timeslot.signature κs) → (s :
       Clauses.AtExit (Kinds.endedOf 1 kinds result) κs) → Read.Read (Base a) (Owned r s) λ w. save_timeslot.ensures-1 (w .𝓤) (w .H) κs (w .𝓖 .A) (w .𝓜
-      .mem) (w .𝓡 .run) (a .0) (a .1 .0) (a .1 .1 .0) record { entry = a .0; exit = s .0 } record { entry = a .1 .0; exit = s .1 .0 } record {
-        entry =
-            a .1 .1 .0;
-        exit = s .1 .1 .0;
-      } r
+      .mem) (w .𝓡 .run) (a .0) (a .1 .0) (a .1 .1 .0) (a .1 .1 .1 .0) record { entry = a .0; exit = s .0 } record { entry = a .1 .0; exit = s .1 .0 }
+      record { entry = a .1 .1 .0; exit = s .1 .1 .0 } record { entry = a .1 .1 .1 .0; exit = s .1 .1 .1 .0 } r
   ensures-1·read = λ a g r s. Read.all-models (λ w. save_timeslot.ensures-1 (w .𝓤) (w .H) κs (w .𝓖 .A) (w .𝓜 .mem) (w .𝓡 .run) (a .0) (a .1 .0) (a .1
-      .1 .0) record { entry = a .0; exit = s .0 } record { entry = a .1 .0; exit = s .1 .0 } record { entry = a .1 .1 .0; exit = s .1 .1 .0 } r) (λ w.
-      Read.r-last _) (λ w. Path'.refl) (λ w. Path'.refl) λ w. Path'.refl
+      .1 .0) (a .1 .1 .1 .0) record { entry = a .0; exit = s .0 } record { entry = a .1 .0; exit = s .1 .0 } record {
+        entry = a .1 .1 .0;
+        exit = s .1
+            .1 .0;
+      } record { entry = a .1 .1 .1 .0; exit = s .1 .1 .1 .0 } r) (λ w. Read.r-last _) (λ w. Path'.refl) (λ w. Path'.refl) λ w. Path'.refl
 
   abbrev pub post-read : (a : World.ArgsD save_timeslot.signature κs) → (g : Ghost) → (r : World.ResD save_timeslot.signature κs) → (s :
       Clauses.AtExit (Kinds.endedOf 1 kinds result) κs) → Read.Read (Base a) (Owned r s) (ensures a g r s)

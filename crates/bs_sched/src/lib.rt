@@ -17,8 +17,8 @@ use uplink::PhyBlockNum;
 ghost use mathlib.Core.Path.{_≡_};
 ghost use mathlib.Core.Bool.{true, false};
 ghost use mathlib.Core.List.{[], _∷_};
-ghost use Prim.Native.Nat.{ℕ, _+_, _<_, _≤_};
-ghost use lib.ListN.{length, getD, set, take, drop};
+ghost use Prim.Native.Nat.{_+_, _≤_};
+ghost use lib.ListN.{length, set, take, drop, replicate};
 ghost use lib.Seq.{paste};
 ghost use Rattle.sizes.specs.Sizes.{perTimeslot};
 ghost use Rattle.dl_record.specs.Record.{emptyRecord};
@@ -124,7 +124,7 @@ fn ask_memory(s: Station, queue: &[Record], store: &[u8], lent: bool) -> Passage
 // The records of a timeslot, from place `first` on: `n` of them, and behind those empty places.
 fn load_timeslot(queue: &[Record], first: usize, n: usize) -> [Record; sizes::PER_TIMESLOT]
     requires { ⌜ (first + perTimeslot ≤ length (now queue)) × (n ≤ perTimeslot) ⌝ }
-    requires { ⌜ ((i : ℕ) → n ≤ i → i < perTimeslot → getD (now queue) (first + i) emptyRecord ≡ emptyRecord) ⌝ }
+    requires { ⌜ drop n (take perTimeslot (drop first (now queue))) ≡ drop n (replicate perTimeslot emptyRecord) ⌝ }
     ensures { λ r. ⌜ r ≡ take perTimeslot (drop first (now (queue .entry))) ⌝ }
 {
     let empty = empty_record();
@@ -137,13 +137,18 @@ fn load_timeslot(queue: &[Record], first: usize, n: usize) -> [Record; sizes::PE
     records
 }
 
-// Stores the records of a timeslot, from place `first` on.
-fn save_timeslot(queue: &mut [Record], first: usize, records: [Record; sizes::PER_TIMESLOT])
-    requires { ⌜ first + perTimeslot ≤ length (now queue) ⌝ }
-    ensures { λ _. ⌜ now (queue .exit) ≡ paste (now (queue .entry)) first records perTimeslot ⌝ }
+// Stores the first n records of a timeslot, from place `first` on.
+fn save_timeslot(
+    queue: &mut [Record],
+    first: usize,
+    n: usize,
+    records: [Record; sizes::PER_TIMESLOT],
+)
+    requires { ⌜ (first + perTimeslot ≤ length (now queue)) × (n ≤ perTimeslot) ⌝ }
+    ensures { λ _. ⌜ now (queue .exit) ≡ paste (now (queue .entry)) first records n ⌝ }
 {
     let mut i = 0;
-    while i < sizes::PER_TIMESLOT {
+    while i < n {
         put_record(queue, first + i, records[i]);
         i += 1;
     }
@@ -330,6 +335,6 @@ pub fn dl_build_block(
     let records = load_timeslot(queue, first, n);
     let plan = sched_build::build_sound(s, records, store, block);
     let left = plan.records;
-    save_timeslot(queue, first, left);
+    save_timeslot(queue, first, n, left);
     built(plan, s)
 }

@@ -1,14 +1,14 @@
 -- The questions that an export asks first, and the words of a queue that passes them. Assumes nothing.
-use mathlib.Core.Path.{_≡_, refl, sym, ap, subst, _∙_}
+use mathlib.Core.Path.{_≡_, refl, sym, ap, _∙_}
 use mathlib.Core.Bool.{Bool, true, false, cond}
 use mathlib.Core.List.{List, [], _∷_}
 use Prim.Native.Nat.{ℕ, _*_, _≤_, _<_, _+_}
 use native.Mathlib.Omega.{arith}
 use lib.Dec.{eqb}
-use lib.ListN.{length, replicate, set, take, drop}
+use lib.ListN.{length, replicate, set, take}
 use lib.Seq.{sets, paste}
 use borrow.Author.Tests.{eq-eqb, ne-eqb, eqb-true}
-use Rattle.sizes.specs.Sizes.{timeslots, perTimeslot, queuePlaces}
+use Rattle.sizes.specs.Sizes.{timeslots, queuePlaces}
 use Rattle.uplink.proofs.Basics.{not-both}
 use Rattle.dl_record.specs.declared.Record.{Record}
 use Rattle.dl_queue.specs.Questions.{soundQueue}
@@ -91,11 +91,8 @@ module _ (ws qs st : List ℕ) (queue : SoundQueue (stationFrom ws) (recordsFrom
       → sets qs (recordWordCount * place) (recordWords r) ≡ queueWords (set (recordsFrom qs) place r)
   record-stored place h r = set-words ns st qs (four-counts ws) sound place h r ∙ ap (λ (rs : List Record). queueWords (set rs place r)) whole
 
-  -- those of a timeslot's first n places, where all others are as they were
-  pub records-stored : (f : ℕ) → f + perTimeslot ≤ queuePlaces → (xs : List Record) → length xs ≡ perTimeslot → (n : ℕ) → n ≤ perTimeslot
-      → drop n xs ≡ drop n (take perTimeslot (drop f (recordsFrom qs)))
-      → sets qs (recordWordCount * f) (queueWords (take n xs)) ≡ queueWords (paste (recordsFrom qs) f xs perTimeslot)
-  records-stored f room xs size n low same =
-      subst (λ (rs : List Record). drop n xs ≡ drop n (take perTimeslot (drop f rs)) → sets qs (recordWordCount * f) (queueWords (take n xs))
-      ≡ queueWords (paste rs f xs perTimeslot)) whole
-      (pasted-words ns st qs (four-counts ws) sound f room xs size n low) same
+  -- those of n places, from place f on
+  pub records-stored : (f n : ℕ) → f + n ≤ queuePlaces → (xs : List Record) → n ≤ length xs
+      → sets qs (recordWordCount * f) (queueWords (take n xs)) ≡ queueWords (paste (recordsFrom qs) f xs n)
+  records-stored f n room xs long =
+      pasted-words ns st qs (four-counts ws) sound f n room xs long ∙ ap (λ (rs : List Record). queueWords (paste rs f xs n)) whole

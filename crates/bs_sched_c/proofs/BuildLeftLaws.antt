@@ -2,16 +2,12 @@
 use mathlib.Core.Path.{_≡_, refl, sym, ap, _∙_}
 use mathlib.Core.Bool.{true, false}
 use mathlib.Core.List.{List, []}
-use Prim.Native.Nat.{ℕ, _*_, _≤_}
+use Prim.Native.Nat.{ℕ, _*_}
 use native.Mathlib.Omega.{arith}
-use lib.ListN.{length, getD, set, take, drop, replicate, length-drop}
+use lib.ListN.{length, getD, set, take}
 use lib.Seq.{sets}
 use borrow.Author.Tests.{ne-eqb}
-use Rattle.sizes.specs.Sizes.{perTimeslot, cellOctets, blockOctets}
-use Rattle.dl_record.specs.declared.Record.{Record}
-use Rattle.dl_record.specs.Record.{emptyRecord}
-use Rattle.dl_queue.specs.Questions.{soundPlaces}
-use Rattle.dl_queue.proofs.SoundLaws.{queue-at}
+use Rattle.sizes.specs.Sizes.{perTimeslot, blockOctets}
 use Rattle.dl_queue.proofs.SetLaws.{length-records}
 use Rattle.dl_send.specs.declared.Progress.{Progress}
 use Rattle.dl_send.specs.Arrays.{tagRow}
@@ -22,7 +18,7 @@ use Rattle.sched_core.specs.declared.BuildReply.{BuildReply}
 use Rattle.questions.specs.Questions.{refusalNumber, askedNumber}
 use Rattle.questions.proofs.NumberLaws.{number-positive, number-no}
 use Rattle.sched_core.specs.Station.{withQueued}
-use Rattle.sched_core.specs.Questions.{Memory, memory, soundStation, memoryQuestions, buildLent}
+use Rattle.sched_core.specs.Questions.{Memory, soundStation, memoryQuestions, buildLent}
 use Rattle.sched_core.specs.Calls.{BuildOutcome, current, buildsNow, builtNow, buildCall}
 use Rattle.sched_core.specs.Calls.{notBuilt as nothing}
 use Rattle.sched_core.proofs.StationLaws.{sound-time}
@@ -30,7 +26,6 @@ use Rattle.sched_enqueue.specs.Plan.{SoundQueue}
 use Rattle.sched_build.proofs.BuildCallLaws as plan
 use Rattle.sched_words.specs.Words.{stationWordCount, recordWordCount, stationWords, stationFrom, queueWords, recordsFrom}
 use Rattle.sched_words.proofs.RoundTrip.{station-words-back}
-use Rattle.sched_words.proofs.TimeslotWords.{sound-behind, list-behind}
 use Rattle.bs_sched_c.specs.declared.reply.BsSchedBuilt.{BsSchedBuilt}
 use Rattle.bs_sched_c.specs.Exports.{otherLength, ifStation, memoryFrom, notBuiltStruct, BuildWordsLeft, buildWordsLeft, buildWordsLeftBy}
 use Rattle.bs_sched_c.proofs.AskedLaws.{four-counts, words-back, records-stored}
@@ -73,42 +68,25 @@ module _ (ws qs st block : List ℕ) (size : length ws ≡ stationWordCount) whe
     pub build-none : buildsNow s ≡ false → (x : BsSchedBuilt) → x ≡ notBuiltStruct 0 → buildWordsLeft x ws qs st block ≡ promised
     unfolding tagRow
     build-none idle x ex =
-        let o : nothing BuildReply.NoBlock m block ≡ buildCall m block = plan.none-called m block good (queue .places) (queue .cells) full
-        (queue .sound) idle in
+        let o : nothing BuildReply.NoBlock m block ≡ buildCall m block = plan.none-called m good (queue .places) (queue .cells)
+        (queue .sound) block full idle in
         is-station ws other size
         ((λ i. buildWordsLeft (ex i) (sym (station-words-back ws good) i) (sym (words-back ws qs st queue) i) st block)
         ∙ ap (buildWordsLeftBy ws qs st block) o)
 
-    -- a block: the records of the current timeslot are stored
-    module _ (can : buildsNow s ≡ true) where
-      pub records-sound : soundPlaces perTimeslot (getD (s .queued) (current s) 0) (take perTimeslot (drop (perTimeslot * current s) (recordsFrom qs)))
-          (drop (cellOctets * (perTimeslot * current s)) st) ≡ true
-      records-sound = plan.records-sound m block good (queue .places) (queue .cells) full (queue .sound) can (four-counts ws)
-
-      -- the places behind those filled are empty
-      pub behind : drop (getD (s .queued) (current s) 0) (take perTimeslot (drop (perTimeslot * current s) (recordsFrom qs)))
-          ≡ drop (getD (s .queued) (current s) 0) (replicate perTimeslot emptyRecord)
-      behind =
-          let rs : List Record = drop (perTimeslot * current s) (recordsFrom qs) in
-          let low = plan.current-low s (sound-time s good) in
-          let long : perTimeslot ≤ length rs = rw length-drop (omega (arith, low, queue .places)) in
-          sound-behind (getD (s .queued) (current s) 0) rs (drop (cellOctets * (perTimeslot * current s)) st) long
-          (queue-at (s .queued) (recordsFrom qs) st (queue .sound) (current s) (omega (arith, low, four-counts ws)) .1)
-
-      pub build-built : (p : Progress) (st' block' ws' qs' : List ℕ)
-          → BuiltIn (builtNow m) blockOctets st (perTimeslot * current s) p st' block' → ws'
-          ≡ stationWords (withQueued s (set (s .queued) (current s) (p .left)))
-          → qs' ≡ sets qs (recordWordCount * (perTimeslot * current s)) (queueWords (take (getD (s .queued) (current s) 0) (p .records)))
-          → p .left ≤ getD (s .queued) (current s) 0
-          → buildWordsLeft (record { refusal = 0; built = 1; «tag_count» = p .«tag_count»; tags = p .tags }) ws' qs' st' block' ≡ promised
-      build-built p st' block' ws' qs' h ew eq few =
-          let low = plan.current-low s (sound-time s good) in
-          let n : ℕ = getD (s .queued) (current s) 0 in
-          let same = ap (drop n) (h .records) ∙ list-behind perTimeslot n (builtNow m .left) (omega (arith, few, h .count)) ∙ sym behind in
-          let stored = eq ∙ records-stored ws qs st queue (perTimeslot * current s) (omega (arith, low)) (p .records)
-          (ap length (h .records) ∙ length-records perTimeslot (builtNow m .left))
-          n (plan.count-few s good (current s) (omega (arith, low, four-counts ws))) same in
-          is-station ws other size
-          (rw (ew, stored, h .tags, h .tag-count)
-          (ap (buildWordsLeftBy ws qs st block) (plan.plan-called m block good (queue .places) (queue .cells) full
-          (queue .sound) can p _ _ st' block' h refl refl)))
+    -- a block: as many records of the current timeslot are stored as were queued
+    pub build-built : buildsNow s ≡ true → (p : Progress) (st' block' ws' qs' : List ℕ)
+        → BuiltIn (builtNow m) blockOctets st (perTimeslot * current s) p st' block'
+        → ws' ≡ stationWords (withQueued s (set (s .queued) (current s) (p .left)))
+        → qs' ≡ sets qs (recordWordCount * (perTimeslot * current s)) (queueWords (take (getD (s .queued) (current s) 0) (p .records)))
+        → buildWordsLeft (record { refusal = 0; built = 1; «tag_count» = p .«tag_count»; tags = p .tags }) ws' qs' st' block' ≡ promised
+    build-built can p st' block' ws' qs' h ew eq =
+        let low = plan.current-low s (sound-time s good) in
+        let few = plan.few-now s good (four-counts ws) in
+        let row = ap length (h .records) ∙ length-records perTimeslot (builtNow m .left) in
+        let stored = eq ∙ records-stored ws qs st queue (perTimeslot * current s) (getD (s .queued) (current s) 0) (omega (arith, low, few)) (p .records)
+        (omega (arith, few, row)) in
+        is-station ws other size
+        (rw (ew, stored, h .tags, h .tag-count)
+        (ap (buildWordsLeftBy ws qs st block)
+        (plan.plan-called m good (queue .places) (queue .cells) (queue .sound) block full can (four-counts ws) p _ _ st' block' h refl refl)))

@@ -82,7 +82,7 @@ part-take (x ∷ l) zero (suc a) n h = absurd (omega arith)
 part-take (x ∷ l) (suc m) (suc a) n h = part-take l m a n (omega arith)
 
 -- where a list agrees with what it would be written over, it need not be written
-pub paste-kept : {A : Type 0} (d : List A) (at : ℕ) (s : List A) (i k : ℕ) → take k (drop (at + i) d) ≡ take k (drop i s) → at + (i + k) ≤ length d
+paste-kept : {A : Type 0} (d : List A) (at : ℕ) (s : List A) (i k : ℕ) → take k (drop (at + i) d) ≡ take k (drop i s) → at + (i + k) ≤ length d
     → i + k ≤ length s
     → paste d at s i ≡ paste d at s (i + k)
 paste-kept {A} d at s i k h hd hs =
@@ -91,6 +91,16 @@ paste-kept {A} d at s i k h hd hs =
     let behind : drop m x ≡ drop m d = drop-paste d at s i (omega arith) (omega arith) in
     sym (ap (λ (l : List A). l ++ drop (m + k) x) (sym (take-add m k x)) ∙ take-append-drop (m + k) x)
     ∙ paste-next d at s i (drop m x) k (ap (take k) behind ∙ h) hd hs
+
+-- nor need its rest, behind the first n of k
+pub paste-rest : {A : Type 0} (d : List A) (at : ℕ) (s : List A) (n k : ℕ) → n ≤ k → at + k ≤ length d → k ≤ length s
+    → drop n s ≡ drop n (take k (drop at d))
+    → paste d at s n ≡ paste d at s k
+paste-rest d at s n k h hd hs e =
+    let j : ℕ = k - n in
+    let m : n + j ≡ k = omega arith in
+    paste-kept d at s n j (sym (ap (take j) e ∙ part-take (drop at d) k n j (omega arith) ∙ ap (take j) (drop-drop n at d))) (omega arith) (omega arith)
+    ∙ ap (paste d at s) m
 
 module _ (d : List ℕ) (first : ℕ) (fs : List ℕ) (room : cellOctets * first + timeslotOctets ≤ length d) (all : length fs ≡ perTimeslot) where
   abbrev cells : List ℕ
@@ -143,11 +153,7 @@ module _ (d : List ℕ) (first : ℕ) (fs : List ℕ) (room : cellOctets * first
   pub rest-kept : (n : ℕ) → n ≤ perTimeslot → drop (cellOctets * n) (arranged cells fs) ≡ drop (cellOctets * n) cells
       → paste d (cellOctets * first) (arranged cells fs) (cellOctets * n) ≡ paste d (cellOctets * first) (arranged cells fs) timeslotOctets
   rest-kept n h e =
-      let k : ℕ = timeslotOctets - cellOctets * n in
-      let m : cellOctets * n + k ≡ timeslotOctets = omega arith in
-      paste-kept d (cellOctets * first) (arranged cells fs) (cellOctets * n) k
-      (sym (cells-part (cellOctets * n) k (omega arith)) ∙ ap (take k) (sym e)) (omega arith) (omega (arith, whole))
-      ∙ ap (paste d (cellOctets * first) (arranged cells fs)) m
+      paste-rest d (cellOctets * first) (arranged cells fs) (cellOctets * n) timeslotOctets (omega arith) (omega arith) (omega (arith, whole)) e
 
 -- a whole array written over
 pub read-list : {A : Type 0} (n : ℕ) (z e : List A) → length z ≡ n → paste z 0 e n ≡ take n e

@@ -44,34 +44,36 @@ cells-length s k e = rw length-drop (omega arith)
 cell-length : (s : List ℕ) (k : ℕ) → cellOctets * suc k ≤ length s → length (take cellOctets s) ≡ cellOctets
 cell-length s k e = length-take-le cellOctets s (omega arith)
 
-pub empty-place : (r : Record) (cell : List ℕ) → length cell ≡ cellOctets → Octets cell → soundPlace false r cell ≡ true → (r ≡ emptyRecord) × (cell ≡ zeroCell)
+-- a place that is not filled holds the empty record, and its cell zeros
+empty-record : (r : Record) (cell : List ℕ) → soundPlace false r cell ≡ true → r ≡ emptyRecord
 unfolding soundPlace
-empty-place r cell l h e =
-    let z : r ≡ emptyRecord = empty-is r (and-left (isEmpty r) (cleanPast (r .bits) cell) e) in
-    let q : cleanPast (r .bits) cell ≡ true = and-right (isEmpty r) (cleanPast (r .bits) cell) e in
-    (z, zero-cell cell l h (ap (λ (x : Record). cleanPast (x .bits) cell) (sym z) ∙ q))
+empty-record r cell e = empty-is r (and-left (isEmpty r) (cleanPast (r .bits) cell) e)
+
+pub empty-cell : (r : Record) (cell : List ℕ) → length cell ≡ cellOctets → Octets cell → soundPlace false r cell ≡ true → cell ≡ zeroCell
+unfolding soundPlace
+empty-cell r cell l h e =
+    zero-cell cell l h
+    (ap (λ (x : Record). cleanPast (x .bits) cell) (sym (empty-record r cell e)) ∙ and-right (isEmpty r) (cleanPast (r .bits) cell) e)
 
 -- a sound timeslot is what its list gives back
-pub records-back : (k n : ℕ) (rs : List Record) (s : List ℕ) → n ≤ k → k ≤ length rs → cellOctets * k ≤ length s → Octets s → soundPlaces k n rs s ≡ true
-    → recordsOf k (queueOf n rs s) ≡ take k rs
+records-back : (k n : ℕ) (rs : List Record) (s : List ℕ) → n ≤ k → k ≤ length rs → soundPlaces k n rs s ≡ true → recordsOf k (queueOf n rs s) ≡ take k rs
 unfolding recordsOf queueOf soundPlaces
-records-back zero zero rs s b l m h e = refl
-records-back zero (suc n) rs s b l m h e = absurd (omega arith)
-records-back (suc k) zero rs s b l m h e =
+records-back zero zero rs s b l e = refl
+records-back zero (suc n) rs s b l e = absurd (omega arith)
+records-back (suc k) zero rs s b l e =
     let r : Record = getD rs 0 emptyRecord in
     let p : soundPlace false r (take cellOctets s) ≡ true =
     and-left (soundPlace false r (take cellOctets s)) (soundPlaces k zero (drop 1 rs) (drop cellOctets s)) e in
     let q : soundPlaces k zero (drop 1 rs) (drop cellOctets s) ≡ true =
     and-right (soundPlace false r (take cellOctets s)) (soundPlaces k zero (drop 1 rs) (drop cellOctets s)) e in
-    ap₂ (λ (x : Record) (l : List Record). x ∷ l) (sym (empty-place r (take cellOctets s) (cell-length s k m) (octets-take cellOctets s h) p .0))
-    (records-back k zero (drop 1 rs) (drop cellOctets s) (omega arith) (tail-length rs k l) (cells-length s k m) (octets-drop cellOctets s h) q)
+    ap₂ (λ (x : Record) (l : List Record). x ∷ l) (sym (empty-record r (take cellOctets s) p))
+    (records-back k zero (drop 1 rs) (drop cellOctets s) (omega arith) (tail-length rs k l) q)
     ∙ sym (first rs emptyRecord k l)
-records-back (suc k) (suc n) rs s b l m h e =
+records-back (suc k) (suc n) rs s b l e =
     let r : Record = getD rs 0 emptyRecord in
     let q : soundPlaces k n (drop 1 rs) (drop cellOctets s) ≡ true =
     and-right (soundPlace true r (take cellOctets s)) (soundPlaces k n (drop 1 rs) (drop cellOctets s)) e in
-    ap (λ (l : List Record). r ∷ l) (records-back k n (drop 1 rs) (drop cellOctets s) (omega arith) (tail-length rs k l) (cells-length s k m)
-    (octets-drop cellOctets s h) q)
+    ap (λ (l : List Record). r ∷ l) (records-back k n (drop 1 rs) (drop cellOctets s) (omega arith) (tail-length rs k l) q)
     ∙ sym (first rs emptyRecord k l)
 
 pub cells-back : (k n : ℕ) (rs : List Record) (s : List ℕ) → n ≤ k → cellOctets * k ≤ length s → Octets s → soundPlaces k n rs s ≡ true
@@ -85,7 +87,7 @@ cells-back (suc k) zero rs s b m h e =
     and-left (soundPlace false r (take cellOctets s)) (soundPlaces k zero (drop 1 rs) (drop cellOctets s)) e in
     let q : soundPlaces k zero (drop 1 rs) (drop cellOctets s) ≡ true =
     and-right (soundPlace false r (take cellOctets s)) (soundPlaces k zero (drop 1 rs) (drop cellOctets s)) e in
-    ap₂ (λ (a b : List ℕ). a ++ b) (sym (empty-place r (take cellOctets s) (cell-length s k m) (octets-take cellOctets s h) p .1))
+    ap₂ (λ (a b : List ℕ). a ++ b) (sym (empty-cell r (take cellOctets s) (cell-length s k m) (octets-take cellOctets s h) p))
     (cells-back k zero (drop 1 rs) (drop cellOctets s) (omega arith) (cells-length s k m) (octets-drop cellOctets s h) q)
     ∙ cells-first s k
 cells-back (suc k) (suc n) rs s b m h e =
@@ -100,6 +102,24 @@ pub length-queue : (n : ℕ) (rs : List Record) (s : List ℕ) → length (queue
 unfolding queueOf
 length-queue zero rs s = refl
 length-queue (suc n) rs s = ap suc (length-queue n (drop 1 rs) (drop cellOctets s))
+
+-- behind a list that takes the places of a timeslot there are empty records
+pub list-behind : {C : Type 0} (k n : ℕ) (xs : List (Item C)) → length xs ≤ n → drop n (recordsOf k xs) ≡ drop n (replicate k emptyRecord)
+unfolding recordsOf
+list-behind zero n xs h = refl
+list-behind (suc k) zero [] h = ap (λ (l : List Record). emptyRecord ∷ l) (list-behind k zero [] h)
+list-behind (suc k) zero (x ∷ xs) h = absurd (omega (arith, h))
+list-behind (suc k) (suc n) [] h = list-behind k n [] (omega arith)
+list-behind (suc k) (suc n) (x ∷ xs) h = list-behind k n xs (omega (arith, h))
+
+-- and so there are behind the filled places of a sound timeslot
+pub sound-behind : (k n : ℕ) (rs : List Record) (s : List ℕ) → n ≤ k → k ≤ length rs → soundPlaces k n rs s ≡ true
+    → drop n (take k rs) ≡ drop n (replicate k emptyRecord)
+sound-behind k n rs s b l e = ap (drop n) (sym (records-back k n rs s b l e)) ∙ list-behind k n (queueOf n rs s) (omega (arith, length-queue n rs s))
+
+-- so the filled ones, with empty ones behind them, are the timeslot's
+pub filled-back : (n : ℕ) (rs es : List Record) → drop n rs ≡ drop n es → take n rs ++ drop n es ≡ rs
+filled-back n rs es e = ap (λ (l : List Record). take n rs ++ l) (sym e) ∙ take-append-drop n rs
 
 -- the whole memory: the lists of all timeslots give back the counts, the records and the cells
 parts : (n : ℕ) (ns : List ℕ) (rs : List Record) (s : List ℕ) → soundQueue (n ∷ ns) rs s ≡ true
@@ -116,16 +136,14 @@ unfolding queuesOf
 counts-back [] rs s = refl
 counts-back (n ∷ ns) rs s = ap₂ (λ (m : ℕ) (l : List ℕ). m ∷ l) (length-queue n rs s) (counts-back ns (drop perTimeslot rs) (drop timeslotOctets s))
 
-pub memory-records : (ns : List ℕ) (rs : List Record) (s : List ℕ) → length rs ≡ perTimeslot * length ns → length s ≡ timeslotOctets * length ns → Octets s
-    → soundQueue ns rs s ≡ true
+pub memory-records : (ns : List ℕ) (rs : List Record) (s : List ℕ) → length rs ≡ perTimeslot * length ns → soundQueue ns rs s ≡ true
     → allRecords (queuesOf ns rs s) ≡ rs
 unfolding queuesOf allRecords
-memory-records [] rs s l m h e = nothing-left rs (omega arith)
-memory-records (n ∷ ns) rs s l m h e =
+memory-records [] rs s l e = nothing-left rs (omega arith)
+memory-records (n ∷ ns) rs s l e =
     let p = parts n ns rs s e in
-    ap₂ (λ (a b : List Record). a ++ b) (records-back perTimeslot n rs s (leb-true n perTimeslot (p .0)) (omega arith) (omega arith) h (p .1))
-    (memory-records ns (drop perTimeslot rs) (drop timeslotOctets s) (rw length-drop (omega arith)) (rw length-drop (omega arith))
-    (octets-drop timeslotOctets s h) (p .2))
+    ap₂ (λ (a b : List Record). a ++ b) (records-back perTimeslot n rs s (leb-true n perTimeslot (p .0)) (omega arith) (p .1))
+    (memory-records ns (drop perTimeslot rs) (drop timeslotOctets s) (rw length-drop (omega arith)) (p .2))
     ∙ take-append-drop perTimeslot rs
 
 pub memory-cells : (ns : List ℕ) (rs : List Record) (s : List ℕ) → length s ≡ timeslotOctets * length ns → Octets s → soundQueue ns rs s ≡ true
@@ -153,7 +171,7 @@ module _ (ns ns' : List ℕ) (rs rs' : List Record) (s s' : List ℕ)
   same-counts = sym (counts-back ns rs s) ∙ ap (map length) same ∙ counts-back ns' rs' s'
 
   pub same-records : rs ≡ rs'
-  same-records = sym (memory-records ns rs s l m h e) ∙ ap allRecords same ∙ memory-records ns' rs' s' l' m' h' e'
+  same-records = sym (memory-records ns rs s l e) ∙ ap allRecords same ∙ memory-records ns' rs' s' l' e'
 
   pub same-cells : s ≡ s'
   same-cells = sym (memory-cells ns rs s m h e) ∙ ap allCells same ∙ memory-cells ns' rs' s' m' h' e'

@@ -12,7 +12,7 @@ use Rattle.sizes.specs.Sizes.{perTimeslot, cellOctets, timeslotOctets}
 use Rattle.optional.proofs.Tests.{and-left, and-right, and-intro}
 use Rattle.dl_sdu_store.proofs.CellBits.{all-zeros}
 use Rattle.dl_sdu_store.proofs.OctetLaws.{Octets, octets-take, octets-drop, octets-zero}
-use Rattle.dl_queue.proofs.QueueLaws.{empty-place}
+use Rattle.dl_queue.proofs.QueueLaws.{empty-cell}
 use borrow.Author.Tests.{eqb-true, eqb-false, leb-true, le-leb, lt-ltb, le-ltb, ltb-true}
 use Rattle.mac_pdus.proofs.Conjunctions.{and3}
 use Rattle.dl_record.proofs.Tests.{same-test}
@@ -286,6 +286,6 @@ unused-cell ns rs s t n inside count few size octets e =
     let full : length (cellAt s (perTimeslot * t + n)) ≡ cellOctets =
     length-take-le cellOctets (drop (cellOctets * (perTimeslot * t + n)) s) (rw length-drop (omega arith)) in
     let zeros : cellAt s (perTimeslot * t + n) ≡ zeroCell =
-    empty-place (recAt (drop (perTimeslot * t) rs) n) (cellAt s (perTimeslot * t + n)) full
-    (octets-take cellOctets (drop (cellOctets * (perTimeslot * t + n)) s) (octets-drop (cellOctets * (perTimeslot * t + n)) s octets)) place .1 in
+    empty-cell (recAt (drop (perTimeslot * t) rs) n) (cellAt s (perTimeslot * t + n)) full
+    (octets-take cellOctets (drop (cellOctets * (perTimeslot * t + n)) s) (octets-drop (cellOctets * (perTimeslot * t + n)) s octets)) place in
     paste-self s (cellOctets * (perTimeslot * t + n)) ∙ ap (λ (c : List ℕ). paste s (cellOctets * (perTimeslot * t + n)) c cellOctets) zeros

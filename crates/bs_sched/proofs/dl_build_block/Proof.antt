@@ -3,29 +3,20 @@
 mod Lts
 mod Tie
 use mathlib.Core.Path.{_≡_, sym, ap, _∙_}
-use mathlib.Core.Bool.{Bool, true}
-use mathlib.Core.List.{List}
-use Prim.Native.Nat.{ℕ, _+_, _*_, _<_, _≤_}
+use mathlib.Core.Bool.{true}
+use Prim.Native.Nat.{ℕ, _*_, _≤_}
 use native.Mathlib.Omega.{arith}
-use lib.ListN.{length, getD, take, drop}
-use lib.Seq.{paste, getD-drop}
+use lib.ListN.{length, take, drop}
+use lib.Seq.{paste}
 use borrow.Author.Needs.{needs}
-use borrow.Author.Tests.{eqb-true, le-ltb}
-use Rattle.optional.proofs.Tests.{and-left}
-use Rattle.sizes.specs.Sizes.{timeslots, perTimeslot, cellOctets}
-use Rattle.dl_record.specs.declared.Record.{Record}
-use Rattle.dl_record.specs.Record.{emptyRecord}
-use Rattle.dl_record.specs.Questions.{isEmpty}
-use Rattle.dl_record.proofs.RecordLaws.{empty-is}
-use Rattle.dl_sdu_store.specs.Cells.{cleanPast}
-use Rattle.dl_queue.specs.Questions.{soundPlace, soundQueue}
-use Rattle.dl_queue.proofs.PushLaws.{cellAt}
-use Rattle.dl_queue.proofs.SoundLaws.{places-at, queue-at}
-use Rattle.sched_core.specs.Questions.{asksBlock}
+use borrow.Author.Tests.{eqb-true}
+use Rattle.sizes.specs.Sizes.{timeslots, perTimeslot}
+use Rattle.sched_core.specs.Questions.{memory, asksBlock}
 use Rattle.sched_core.specs.Calls.{current, buildsNow}
 use Rattle.questions.proofs.AskLaws.{said-no, said-yes}
 use Rattle.sched_enqueue.proofs.PlanLaws.{Told}
-use Rattle.bs_sched.proofs.EntryLaws.{told, build-refused, build-nothing, records-sound, plan-built}
+use Rattle.sched_build.proofs.BuildCallLaws.{few-now, records-sound, records-behind}
+use Rattle.bs_sched.proofs.EntryLaws.{told, build-refused, build-nothing, plan-built}
 use Rattle.bs_sched.proofs.dl_build_block.Statement.{statement}
 use Rattle.bs_sched.proofs.dl_build_block.Proof.Tie as tie
 
@@ -74,18 +65,12 @@ first-place-requires c κs = passed (c .before .before) .station
 queued-now-requires : tie.Need-queued-now-requires
 queued-now-requires c κs = passed (c .before .before .before) .station
 
--- behind the records of a timeslot there are empty places
-unfilled : (ns : List ℕ) (rs : List Record) (st : List ℕ) (t i : ℕ) → soundQueue ns rs st ≡ true → t < length ns → getD ns t 0 ≤ i → i < perTimeslot
-    → getD rs (perTimeslot * t + i) emptyRecord ≡ emptyRecord
-unfolding soundPlace
-unfilled ns rs st t i sound inside h k =
-    let n = getD ns t 0 in
-    let own = drop (perTimeslot * t) rs in
-    let cells = drop (cellOctets * (perTimeslot * t)) st in
-    let here = places-at perTimeslot n own cells (queue-at ns rs st sound t inside .1) i k in
-    let r = getD own i emptyRecord in
-    sym (getD-drop (perTimeslot * t) rs i emptyRecord)
-    ∙ empty-is r (and-left (isEmpty r) (cleanPast (r .bits) (cellAt cells i)) (ap (λ (b : Bool). soundPlace b r (cellAt cells i)) (sym (le-ltb i n h)) ∙ here))
+-- as many are queued as have a place
+few : (n : tie.After-queued-now) → n .queued-now .result ≤ perTimeslot
+few n =
+    let e = n .before .before .before .before in
+    let z = start (e .before .before) in
+    omega (arith, n .queued-now .ensures, few-now (z .args .s) (passed e .station) (four z))
 
 load-timeslot-requires : tie.Need-load-timeslot-requires
 load-timeslot-requires c κs =
@@ -93,70 +78,63 @@ load-timeslot-requires c κs =
     let f = n .before in
     let e = f .before .before .before in
     let a = start (e .before .before) .args in
-    let p = passed e in
-    let first = f .first-place .ensures in
-    let inside : current (a .s) < length (a .s .queued) = omega (arith, first .0, first .1, four (start (e .before .before))) in
-    let most = queue-at (a .s .queued) (a .queue .now) (a .store .now) (p .queue .sound) (current (a .s)) inside .0 in (
-      (omega (arith, first .1, p .queue .places), omega (arith, n .queued-now .ensures, most)),
-      λ i h k. ap (λ (q : ℕ). getD (a .queue .now) (q + i) emptyRecord) (first .0)
-          ∙ unfilled (a .s .queued) (a .queue .now) (a .store .now) (current (a .s)) i (p .queue .sound) inside (omega (arith, n .queued-now .ensures)) k,
+    let p = passed e in (
+      (omega (arith, f .first-place .ensures .1, p .queue .places), few n),
+      rw (n .queued-now .ensures, f .first-place .ensures .0) (records-behind (memory (a .s) (a .queue .now) (a .store .now))
+          (p .station) (p .queue .places) (p .queue .cells) (p .queue .sound) (four (start (e .before .before)))),
     )
+
+-- the records loaded are those of the caller's queue
+own : (l : tie.After-load-timeslot)
+    → let a = start (l .before .before .before .before .before .before .before .before) .args in
+    take perTimeslot (drop (perTimeslot * current (a .s)) (a .queue .now)) ≡ l .load-timeslot .result
+own l =
+    let f = l .before .before .before in
+    let a = start (f .before .before .before .before .before) .args in
+    sym (l .load-timeslot .ensures ∙ ap (λ (i : ℕ). take perTimeslot (drop i (a .queue .now))) (f .first-place .ensures .0))
 
 build-sound-requires : tie.Need-build-sound-requires
 build-sound-requires c κs =
     let l = c .before .before in
-    let f = l .before .before .before in
-    let e = f .before .before .before in
+    let e = l .before .before .before .before .before .before in
     let a = start (e .before .before) .args in
-    let p = passed e in
-    let own : l .load-timeslot .result ≡ take perTimeslot (drop (perTimeslot * current (a .s)) (a .queue .now)) =
-    l .load-timeslot .ensures ∙ ap (λ (i : ℕ). take perTimeslot (drop i (a .queue .now))) (f .first-place .ensures .0) in (
+    let p = passed e in (
       (p .station, p .queue .cells, eqb-true _ _ (p .lengths)),
-      rw own (records-sound (a .s) (a .queue .now) (a .store .now) (a .block .now) (e .before .before .ask-memory .ensures) p (builds (f .before))
+      rw (sym (own l)) (records-sound (memory (a .s) (a .queue .now) (a .store .now)) (p .station) (p .queue .places) (p .queue .cells) (p .queue .sound)
           (four (start (e .before .before)))),
     )
 
 save-timeslot-requires : tie.Need-save-timeslot-requires
 save-timeslot-requires c κs =
-    let d = c .before .before .before .before .before .before in
-    let f = d .before .before .before .before .before .before in
+    let n = c .before .before .before .before .before .before .before .before .before .before .before in
+    let f = n .before in
     let p = passed (f .before .before .before) in
-    omega (arith, f .first-place .ensures .1, p .queue .places)
+    (omega (arith, f .first-place .ensures .1, p .queue .places), few n)
 
 -- the build
 abbrev made : tie.After-queue → tie.After-build-sound
 made c = c .before .before .before .before .before .before .before .before
-
--- the records that it got are those of the caller's queue
-own : (d : tie.After-build-sound)
-    → let l = d .before .before .before in
-    let a = start (l .before .before .before .before .before .before .before .before) .args in
-    take perTimeslot (drop (perTimeslot * current (a .s)) (a .queue .now)) ≡ l .load-timeslot .result
-own d =
-    let l = d .before .before .before in
-    let f = l .before .before .before in
-    let a = start (f .before .before .before .before .before) .args in
-    sym (l .load-timeslot .ensures ∙ ap (λ (i : ℕ). take perTimeslot (drop i (a .queue .now))) (f .first-place .ensures .0))
 
 built-requires : tie.Need-built-requires
 built-requires c κs =
     let d = made c in
     let f = d .before .before .before .before .before .before in
     let p = passed (f .before .before .before) in
-    let h = d .build-sound .ensures (start (f .before .before .before .before .before) .args .queue .now) (own d) in
+    let h = d .build-sound .ensures (start (f .before .before .before .before .before) .args .queue .now) (own (d .before .before .before)) in
     (p .station, h .few, h .few-tags)
 
 returns-3 : tie.Need-returns-3
 returns-3 c =
     let q = c .before in
     let d = made q in
-    let f = d .before .before .before .before .before .before in
+    let n = d .before .before .before .before .before in
+    let f = n .before in
     let e = f .before .before .before in
     let a = start (e .before .before) .args in
-    plan-built (a .s) (a .queue .now) (a .store .now) (a .block .now) (e .before .before .ask-memory .ensures) (passed e) (builds (f .before))
+    plan-built (a .s) (a .queue .now) (a .store .now) (a .block .now) (passed e) (builds (f .before)) (four (start (e .before .before)))
     (d .build-sound .result) _ _ _ _
-    (d .build-sound .ensures (a .queue .now) (own d)) (c .built .ensures) (q .before .save-timeslot .ensures
-    ∙ ap (λ (i : ℕ). paste (a .queue .now) i (d .build-sound .result .records) perTimeslot) (f .first-place .ensures .0))
+    (d .build-sound .ensures (a .queue .now) (own (d .before .before .before))) (c .built .ensures) (q .before .save-timeslot .ensures
+    ∙ (λ i. paste (a .queue .now) (f .first-place .ensures .0 i) (d .build-sound .result .records) (n .queued-now .ensures i)))
 
 pub dl-build-block-spec : {M : Type 1} → statement M
 dl-build-block-spec =

@@ -1,32 +1,21 @@
 -- `bs_sched::load_timeslot` meets its contract, by its derivation (`Proof/Lts.antt`). The loop's invariant: the first i records are copied.
 mod Lts
 mod Tie
-use mathlib.Core.Path.{_≡_, refl, sym, _∙_, ap, ap₂}
-use mathlib.Core.List.{List, [], _∷_, _++_}
-use Prim.Native.Nat.{ℕ, zero, suc, _+_, _<_, _≤_, _-_}
+use mathlib.Core.Path.{_≡_, sym, _∙_, ap}
+use mathlib.Core.List.{_++_}
+use Prim.Native.Nat.{ℕ, _+_, _≤_, _-_}
 use native.Mathlib.Nat.{zero-add}
 use native.Mathlib.Omega.{arith}
 use lib.ListN.{length, getD, set, take, drop, replicate, length-drop}
-use lib.Seq.{paste, paste-zero, getD-drop}
+use lib.Seq.{paste, paste-zero, getD-drop, take-take}
 use borrow.Author.Needs.{needs}
 use Rattle.sizes.specs.Sizes.{perTimeslot}
 use Rattle.dl_record.specs.declared.Record.{Record}
 use Rattle.dl_record.specs.Record.{emptyRecord}
 use Rattle.dl_sdu_store.proofs.CellLaws.{paste-turn}
+use Rattle.dl_queue.proofs.QueueLaws.{filled-back}
 use Rattle.bs_sched.proofs.load_timeslot.Statement.{statement}
 use Rattle.bs_sched.proofs.load_timeslot.Proof.Tie as tie
-
--- behind the first n there are empty records
-empty-behind : (k n : ℕ) (xs : List Record) → n ≤ k → k ≤ length xs → ((i : ℕ) → n ≤ i → i < k → getD xs i emptyRecord ≡ emptyRecord)
-    → take n xs ++ drop n (replicate k emptyRecord) ≡ take k xs
-empty-behind zero zero xs h l e = refl
-empty-behind zero (suc n) xs h l e = absurd (omega arith)
-empty-behind (suc k) n [] h l e = absurd (omega arith)
-empty-behind (suc k) zero (x ∷ xs) h l e =
-    ap₂ (λ (r : Record) (rs : List Record). r ∷ rs) (sym (e 0 (omega arith) (omega arith)))
-    (empty-behind k zero xs (omega arith) (omega arith) (λ i a b. e (suc i) (omega arith) (omega arith)))
-empty-behind (suc k) (suc n) (x ∷ xs) h l e =
-    ap (λ (rs : List Record). x ∷ rs) (empty-behind k n xs (omega arith) (omega arith) (λ i a b. e (suc i) (omega arith) (omega arith)))
 
 abbrev Inv-loop : tie.InvT-loop
 Inv-loop queue first n records₀ i₀ records i = (i ≤ n) × (records ≡ paste (replicate perTimeslot emptyRecord) 0 (drop first queue) i)
@@ -64,13 +53,11 @@ returns c =
     let l = c .before in
     let s = l .before .before in
     let a = s .args in
-    let q = a .queue .now in
+    let own = drop (a .first) (a .queue .now) in
     let e : l .loop .i ≡ a .n = omega arith in
-    let room : a .first + perTimeslot ≤ length q = s .pre .0 .0 in
-    l .loop .inv .1 ∙ ap (paste (replicate perTimeslot emptyRecord) 0 (drop (a .first) q)) e
-    ∙ ap (λ (m : ℕ). take (a .n) (drop (a .first) q) ++ drop m (replicate perTimeslot emptyRecord)) (zero-add (a .n))
-    ∙ empty-behind perTimeslot (a .n) (drop (a .first) q) (s .pre .0 .1) (rw length-drop (omega arith)) (λ i h k. getD-drop (a .first) q i emptyRecord
-    ∙ s .pre .1 i h k)
+    l .loop .inv .1 ∙ ap (paste (replicate perTimeslot emptyRecord) 0 own) e
+    ∙ (λ i. sym (take-take (a .n) perTimeslot own (s .pre .0 .1)) i ++ drop (zero-add (a .n) i) (replicate perTimeslot emptyRecord))
+    ∙ filled-back (a .n) (take perTimeslot own) (replicate perTimeslot emptyRecord) (s .pre .1)
 
 pub load-timeslot-spec : {M : Type 1} → statement M
 load-timeslot-spec =

@@ -7,16 +7,16 @@ use mathlib.Core.Bool.{true, not, _&&_}
 use mathlib.Core.List.{List, _++_}
 use Prim.Native.Nat.{ℕ, _+_, _-_, _*_, _<_, _≤_}
 use lib.Dec.{eqb, ltb}
-use lib.ListN.{length, getD, set, take, drop, replicate, length-drop}
+use lib.ListN.{length, getD, set, take, drop, replicate}
 use lib.Seq.{sets}
-use Rattle.sizes.specs.Sizes.{timeslots, perTimeslot, queuePlaces, cellOctets, timeslotOctets, blockOctets, blockWidth}
+use Rattle.sizes.specs.Sizes.{timeslots, perTimeslot, queuePlaces, cellOctets, blockOctets, blockWidth}
 use Rattle.tdma_time.specs.declared.TdmaTime.{TdmaTime}
 use Rattle.tdma_time.specs.Time.{Valid}
 use Rattle.dl_record.specs.declared.Record.{Record}
 use Rattle.dl_record.specs.Record.{emptyRecord}
 use Rattle.dl_queue.specs.Questions.{soundPlaces}
+use Rattle.dl_queue.proofs.QueueLaws.{filled-back}
 use Rattle.dl_build.specs.Build.{builtFrom, CanBuild, BuiltIn}
-use Rattle.dl_build.proofs.BuildLaws.{built-few}
 use Rattle.questions.proofs.AskLaws.{said-no, said-yes}
 use Rattle.sched_core.specs.declared.Station.{Station}
 use Rattle.sched_core.specs.Station.{withQueued}
@@ -24,12 +24,11 @@ use Rattle.sched_core.specs.Questions.{asksBlock, memory}
 use Rattle.sched_core.specs.Calls.{current, buildsNow, builtNow}
 use Rattle.sched_core.proofs.StationLaws.{sound-time}
 use Rattle.sched_enqueue.proofs.PlanLaws.{Told}
-use Rattle.sched_build.proofs.BuildCallLaws.{builds-now, current-is, count-few, can-build, plan-now}
-use Rattle.sched_words.specs.Words.{recordWordCount, stationWords, stationFrom, queueWords, recordsRead, recordsFrom}
-use Rattle.sched_words.proofs.TimeslotWords.{filled-read}
+use Rattle.sched_build.proofs.BuildCallLaws.{builds-now, current-is, count-few, can-build, plan-now, records-sound, records-behind}
+use Rattle.sched_words.specs.Words.{recordWordCount, stationWords, stationFrom, queueWords, recordsFrom}
 use Rattle.bs_sched_c.specs.Exports.{builtLeft}
 use Rattle.bs_sched_c.proofs.AskedLaws.{all-words, asked-yes, four-counts, as-read}
-use Rattle.bs_sched_c.proofs.BuildLeftLaws.{build-no, build-none, records-sound, behind, build-built}
+use Rattle.bs_sched_c.proofs.BuildLeftLaws.{build-no, build-none, build-built}
 use Rattle.bs_sched_c.proofs.bs_sched_build.Statement.{statement}
 use Rattle.bs_sched_c.proofs.bs_sched_build.Tie as tie
 
@@ -167,9 +166,9 @@ own r =
     ∙ (λ i. take (count-is k i) (take perTimeslot (drop (perTimeslot * here k i)
     (as-read (a .station .now) (a .queue .now) (a .store .now) (passed t .queue) i)))
     ++ drop (count-is k i) (replicate perTimeslot emptyRecord))
-    ∙ filled-read n (take perTimeslot (drop (perTimeslot * current (station t)) (recordsFrom (a .queue .now)))) (replicate perTimeslot emptyRecord)
-    (behind (a .station .now) (a .queue .now) (a .store .now) (a .block .now) (sized (t .before) .if1 .left) (passed t .station) (width t) (passed t .queue)
-    (builds (r .before .before .before))))
+    ∙ filled-back n (take perTimeslot (drop (perTimeslot * current (station t)) (recordsFrom (a .queue .now)))) (replicate perTimeslot emptyRecord)
+    (records-behind (memory (station t) (recordsFrom (a .queue .now)) (a .store .now)) (passed t .station) (passed t .queue .places) (passed t .queue .cells)
+    (passed t .queue .sound) (four-counts (a .station .now))))
 
 sound : (r : tie.After-records-read)
     → let t = asked (queued r) in
@@ -181,8 +180,8 @@ sound r =
     subst (λ (rs : List Record). soundPlaces perTimeslot (getD (station t .queued) (current (station t)) 0) rs
     (drop (cellOctets * (perTimeslot * current (station t))) (a .store .now)) ≡ true)
     (own r)
-    (records-sound (a .station .now) (a .queue .now) (a .store .now) (a .block .now) (sized (t .before) .if1 .left) (passed t .station) (width t)
-    (passed t .queue) (builds (r .before .before .before)))
+    (records-sound (memory (station t) (recordsFrom (a .queue .now)) (a .store .now)) (passed t .station) (passed t .queue .places) (passed t .queue .cells)
+    (passed t .queue .sound) (four-counts (a .station .now)))
 
 build-timeslot-requires : tie.Need-build-timeslot-requires
 build-timeslot-requires c κs =
@@ -214,28 +213,6 @@ planned d =
     (d .build-timeslot .last .1 .1 .1 .1 .0))
     (counts-are k) (d .build-timeslot .ensures))
     (recordsFrom (a .queue .now)) (own r)
-
--- no more are left than were queued
-no-more : (d : tie.After-build-timeslot)
-    → let k = queued (d .before .before .before) in
-    d .build-timeslot .result .left ≤ getD (station (asked k) .queued) (current (station (asked k))) 0
-no-more d =
-    let r = d .before .before .before in
-    let k = queued r in
-    let t = asked k in
-    let s = station t in
-    let st = start (t .before) .args .store .now in
-    let rs = r .records-read .result in
-    let count = d .build-timeslot .ensures .count
-    ∙ (λ i. length (builtFrom blockWidth (count-is k i) rs (drop (cellOctets * (perTimeslot * here k i)) st) .left)) in
-    let cells : timeslotOctets ≤ length (drop (cellOctets * (perTimeslot * current s)) st) = rw length-drop
-    (omega (arith, passed t .queue .cells, low k, here k)) in
-    omega (
-      arith,
-      count,
-      built-few (getD (s .queued) (current s) 0) rs (drop (cellOctets * (perTimeslot * current s)) st) (rw (sym (here k)) (few k)) cells
-          (sound r) blockWidth,
-    )
 
 -- back to the plan
 abbrev counting : tie.After-struct-known2 → tie.After-build-timeslot
@@ -278,7 +255,6 @@ returns-4 c =
     (passed t .station) (width t) (passed t .queue) (builds (d .before .before .before .before .before .before)) p _ _ _ _ (planned d)
     (v .put-queued .ensures ∙ (λ i. stationWords (withQueued (station t) (set (counts-are k i) (here k i) (p .left)))))
     (w .put-records .ensures ∙ (λ i. sets (a .queue .now) (recordWordCount * (perTimeslot * here k i)) (queueWords (take (count-is k i) (p .records)))))
-    (no-more d)
 
 pub bs-sched-build-spec : {M : Type 1} → statement M
 bs-sched-build-spec =

@@ -620,8 +620,8 @@ r·6 = Value.rVal record {
 }
 
 abbrev pub ps·7 : List.List (Kinds.PK 1)
-ps·7 = (MutSlice.pMutS in-Record.row 0 tt) ∷ (Num.pNum Syntax.w64) ∷ (Array.pArr (Array.eStruct Record.the-type Laws.the-laws Laws.the-copy)
-    (Array.eStruct-laws Record.the-type Laws.the-laws Laws.the-copy Laws.the-plain) 16) ∷ []
+ps·7 = (MutSlice.pMutS in-Record.row 0 tt) ∷ (Num.pNum Syntax.w64) ∷ (Num.pNum Syntax.w64) ∷ (Array.pArr (Array.eStruct Record.the-type Laws.the-laws
+    Laws.the-copy) (Array.eStruct-laws Record.the-type Laws.the-laws Laws.the-copy Laws.the-plain) 16) ∷ []
 
 abbrev pub r·7 : Kinds.RK 1
 r·7 = Unit'.rUnit
@@ -820,8 +820,8 @@ b37 = Syntax.assign (Syntax.place 29 []) (Syntax.aggregate ((Syntax.copy (Syntax
     []))) ∷ []))
 
 abbrev b38 : Syntax.Body
-b38 = Syntax.call "bs_sched::save_timeslot" ((Syntax.copy (Syntax.place 29 [])) ∷ (Syntax.copy (Syntax.place 7 [])) ∷ (Syntax.copy (Syntax.place 11
-    [])) ∷ []) (Syntax.place 27 [])
+b38 = Syntax.call "bs_sched::save_timeslot" ((Syntax.copy (Syntax.place 29 [])) ∷ (Syntax.copy (Syntax.place 7 [])) ∷ (Syntax.copy (Syntax.place 8
+    [])) ∷ (Syntax.copy (Syntax.place 11 [])) ∷ []) (Syntax.place 27 [])
 
 abbrev b39 : Syntax.Body
 b39 = Syntax.call "bs_sched::built" ((Syntax.copy (Syntax.place 10 [])) ∷ (Syntax.copy (Syntax.place 1 [])) ∷ []) (Syntax.place 0 [])
@@ -1540,7 +1540,7 @@ module _ (claims· : Claims) where
       ref = λ
           x. x;
     },
-    (Num.vAt 7 λ x. x, (record { pos = 11; st = []; d = 0; at = λ x. x }, tt)),
+    (Num.vAt 7 λ x. x, (Num.vAt 8 λ x. x, (record { pos = 11; st = []; d = 0; at = λ x. x }, tt))),
   ) 27 (8 ∷ []) Syntax.tyUnit
 
   abbrev s72 : (bs : List.List Nat.ℕ) → Typed.Mo T75 → Typed.Mo T76
@@ -2931,25 +2931,27 @@ module _ (claims· : Claims) where
                       in-Record.at;
                   ref = λ x. x;
                 },
-                (Num.vAt 7 λ x. x, (record { pos = 11; st = []; d = 0; at = λ x. x }, tt)),
-              ) 27 (8 ∷ []) (Call.sub-id 𝓤 H A
-              W (G74 .slots)) (
+                (Num.vAt 7 λ x. x, (Num.vAt 8 λ x. x, (record { pos = 11; st = []; d = 0; at = λ x. x }, tt))),
+              ) 27 (8 ∷
+              []) (Call.sub-id 𝓤 H A W (G74 .slots)) (
                 Reads.as-is 𝓤 H A (Mut.mslice in-Record.row τ4 8),
                 Mut.reads-mslice 𝓤 H A W in-Record.row τ4 8,
                 Path'.refl,
                 (
                   (Scalar.reads-sc 𝓤 H A W (Row.sInt Syntax.w64), Path'.refl),
                   (
+                    (Scalar.reads-sc 𝓤 H A W (Row.sInt Syntax.w64), Path'.refl),
                     (
-                      Array.arr-yields 𝓤 H A W (Array.eStruct Record.the-type Laws.the-laws
-                          Laws.the-copy) (Array.eStruct-laws Record.the-type Laws.the-laws Laws.the-copy Laws.the-plain) 16,
-                      Path'.refl,
+                      (
+                        Array.arr-yields 𝓤 H A W (Array.eStruct Record.the-type Laws.the-laws Laws.the-copy) (Array.eStruct-laws Record.the-type Laws.the-laws
+                            Laws.the-copy Laws.the-plain) 16,
+                        Path'.refl,
+                      ),
+                      tt,
                     ),
-                    tt,
                   ),
                 ),
-              ) (Reads.room-gone 𝓤
-              H A Syntax.tyUnit) (tt, tt) Path'.refl) d43
+              ) (Reads.room-gone 𝓤 H A Syntax.tyUnit) (tt, tt) Path'.refl) d43
 
           d45 : Typed.Typed 𝓤 H A 𝓣 E G73 b43 Δ0 (at45 bs)
           d45 = Typed.s-seq 𝓤 H A W 𝓣 E G73 G74 b37 b42 Δ0 (Typed.ask (s70 bs)) (at44 bs) (Relend.t-sl-aggregate 𝓤 H A W E in-Record.row 𝓣
@@ -4726,9 +4728,9 @@ module _ (claims· : Claims) where
                 in-Record.at;
             ref = λ x. x;
           },
-          (Num.vAt 7 λ x. x, (record { pos = 11; st = []; d = 0; at = λ x. x }, tt)),
-        ) (m55 (before· .before) (before·
-            .save-timeslot-arg .given))
+          (Num.vAt 7 λ x. x, (Num.vAt 8 λ x. x, (record { pos = 11; st = []; d = 0; at = λ x. x }, tt))),
+        ) (m55
+            (before· .before) (before· .save-timeslot-arg .given))
 
       pub record After-save-timeslot : Type 0 where
         pub before : After-save-timeslot-arg
@@ -4744,9 +4746,9 @@ module _ (claims· : Claims) where
               in-Record.at;
           ref = λ x. x;
         },
-        (Num.vAt 7 λ x. x, (record { pos = 11; st = []; d = 0; at = λ x. x }, tt)),
-      ) (m55 (c .before .before) (c
-          .before .save-timeslot-arg .given)) (c .save-timeslot)
+        (Num.vAt 7 λ x. x, (Num.vAt 8 λ x. x, (record { pos = 11; st = []; d = 0; at = λ x. x }, tt))),
+      ) (m55 (c
+          .before .before) (c .before .save-timeslot-arg .given)) (c .save-timeslot)
 
       abbrev pub m57 : (before : After-save-timeslot-arg) → (given : s71 (before .before .before .before .before .before .before .before .before
           .before .before .before .before .before .before .before .before .before .before .before .before .before .before .blocks) .gives (m55 (before
@@ -5031,23 +5033,27 @@ module _ (claims· : Claims) where
                     save-timeslot =
                         Called.called ps·7 r·7 (claims· .15) T74 (
                           record { pos = 29; ty = Syntax.tyRef Syntax.erased Syntax.mut in-Record.at; ref = λ x. x },
-                          (Num.vAt 7 λ x. x, (record { pos = 11; st = []; d = 0; at = λ x. x }, tt)),
+                          (Num.vAt 7 λ x. x, (Num.vAt 8 λ x. x, (record { pos = 11; st = []; d = 0; at = λ x. x }, tt))),
                         ) (m55 record {
                           before = record {
-                            before = record {
-                              before =
-                                  record {
-                                    before = record { before = record { before = c .before; build-sound = c .build-sound }; store = record { given = g } };
+                            before =
+                                record {
+                                  before = record {
+                                    before = record {
+                                      before = record { before = c .before; build-sound = c .build-sound };
+                                      store = record {
+                                        given
+                                            = g;
+                                      };
+                                    };
                                     slice-known3 = record { given = g' };
                                   };
-                              block = record { given = g'' };
-                            };
+                                  block = record { given = g'' };
+                                };
                             slice-known4 = record { given = g'3 };
                           };
-                          left = record {
-                            given =
-                                g'4;
-                          };
+                          left = record
+                              { given = g'4 };
                         } g'5) g'6;
                   },
                 ),

@@ -97,98 +97,104 @@ abbrev ρ5 : Row.Row
 ρ5 = Rows.arrF (Declared.row Record.the-type) 16 0
 
 abbrev ε0 : Row.Entry
-ε0 = (4, Rows'.any-gone τ1)
+ε0 = (5, Rows'.any-gone τ1)
 
 abbrev ε1 : Row.Entry
-ε1 = (5, Rows'.any-gone τ0)
+ε1 = (6, Rows'.any-gone τ0)
 
 abbrev ε2 : Row.Entry
-ε2 = (8, Rows'.any-gone τ2)
+ε2 = (9, Rows'.any-gone τ2)
 
 abbrev ε3 : Row.Entry
-ε3 = (9, Rows'.any-gone τ4)
+ε3 = (2, Rows'.any-gone τ0)
 
 abbrev ε4 : Row.Entry
-ε4 = (3, Rows'.any-gone τ1)
+ε4 = (4, Rows'.any-gone τ1)
 
 abbrev ε5 : Row.Entry
-ε5 = (10, Rows'.any-gone τ0)
+ε5 = (10, Rows'.any-gone τ4)
 
 abbrev ε6 : Row.Entry
 ε6 = (11, Rows'.any-gone τ0)
 
 abbrev ε7 : Row.Entry
-ε7 = (0, Rows'.sc-here Row.sUnit)
+ε7 = (12, Rows'.any-gone τ0)
 
 abbrev ε8 : Row.Entry
-ε8 = (6, Rows'.sc-here Row.sBool)
+ε8 = (0, Rows'.sc-here Row.sUnit)
 
 abbrev ε9 : Row.Entry
-ε9 = (12, Rows'.sc-here Row.sPtr)
+ε9 = (7, Rows'.sc-here Row.sBool)
 
 abbrev ε10 : Row.Entry
 ε10 = (13, Rows'.sc-here Row.sPtr)
 
 abbrev ε11 : Row.Entry
-ε11 = (7, Rows'.sc-here Row.sUnit)
+ε11 = (14, Rows'.sc-here Row.sPtr)
 
 abbrev ε12 : Row.Entry
-ε12 = (9, Mut.msleft in-Record.row τ2)
+ε12 = (8, Rows'.sc-here Row.sUnit)
 
 abbrev ε13 : Row.Entry
 ε13 = (0, Rows'.any-gone Syntax.tyUnit)
 
 abbrev ε14 : Row.Entry
-ε14 = (6, Rows'.any-gone Syntax.tyBool)
+ε14 = (7, Rows'.any-gone Syntax.tyBool)
 
 abbrev ε15 : Row.Entry
-ε15 = (7, Rows'.any-gone Syntax.tyUnit)
+ε15 = (8, Rows'.any-gone Syntax.tyUnit)
 
 abbrev ε16 : Row.Entry
-ε16 = (12, Rows'.any-gone Syntax.tyPtr)
+ε16 = (13, Rows'.any-gone Syntax.tyPtr)
 
 abbrev ε17 : Row.Entry
-ε17 = (13, Rows'.any-gone Syntax.tyPtr)
+ε17 = (14, Rows'.any-gone Syntax.tyPtr)
 
 abbrev ε18 : Row.Entry
-ε18 = (1, Mut.mslice in-Record.row τ3 0)
+ε18 = (10, Mut.msleft in-Record.row τ2)
 
 abbrev ε19 : Row.Entry
-ε19 = (9, Mut.mslice in-Record.row τ2 1)
+ε19 = (1, Mut.mslice in-Record.row τ3 0)
 
 abbrev ε20 : Row.Entry
-ε20 = (8, Relend.msptr in-Record.row τ2 1)
+ε20 = (10, Mut.mslice in-Record.row τ2 1)
 
 abbrev ε21 : Row.Entry
-ε21 = (2, Rows'.sc-here (Row.sInt Syntax.w64))
+ε21 = (9, Relend.msptr in-Record.row τ2 1)
 
 abbrev ε22 : Row.Entry
-ε22 = (5, Rows'.sc-here (Row.sInt Syntax.w64))
+ε22 = (2, Rows'.sc-here (Row.sInt Syntax.w64))
 
 abbrev ε23 : Row.Entry
-ε23 = (10, Rows'.sc-here (Row.sInt Syntax.w64))
+ε23 = (3, Rows'.sc-here (Row.sInt Syntax.w64))
 
 abbrev ε24 : Row.Entry
-ε24 = (11, Rows'.sc-here (Row.sInt Syntax.w64))
+ε24 = (6, Rows'.sc-here (Row.sInt Syntax.w64))
 
 abbrev ε25 : Row.Entry
-ε25 = (14, Rows'.any-gone mirs.dl_record-Record)
+ε25 = (11, Rows'.sc-here (Row.sInt Syntax.w64))
 
 abbrev ε26 : Row.Entry
-ε26 = (14, Rows'.whole (Declared.row Record.the-type))
+ε26 = (12, Rows'.sc-here (Row.sInt Syntax.w64))
 
 abbrev ε27 : Row.Entry
-ε27 = (3, Rows.arrF (Declared.row Record.the-type) 16 0)
+ε27 = (15, Rows'.any-gone mirs.dl_record-Record)
 
 abbrev ε28 : Row.Entry
-ε28 = (4, Rows.arrF (Declared.row Record.the-type) 16 0)
+ε28 = (15, Rows'.whole (Declared.row Record.the-type))
 
 abbrev ε29 : Row.Entry
-ε29 = (1, Relend.mslice-owed in-Record.row τ3 0 1 Row.off)
+ε29 = (4, Rows.arrF (Declared.row Record.the-type) 16 0)
+
+abbrev ε30 : Row.Entry
+ε30 = (5, Rows.arrF (Declared.row Record.the-type) 16 0)
+
+abbrev ε31 : Row.Entry
+ε31 = (1, Relend.mslice-owed in-Record.row τ3 0 1 Row.off)
 
 abbrev pub ps : List.List (Kinds.PK 1)
-ps = (MutSlice.pMutS in-Record.row 0 tt) ∷ (Num.pNum Syntax.w64) ∷ (Array.pArr (Array.eStruct Record.the-type Laws.the-laws Laws.the-copy)
-    (Array.eStruct-laws Record.the-type Laws.the-laws Laws.the-copy Laws.the-plain) 16) ∷ []
+ps = (MutSlice.pMutS in-Record.row 0 tt) ∷ (Num.pNum Syntax.w64) ∷ (Num.pNum Syntax.w64) ∷ (Array.pArr (Array.eStruct Record.the-type Laws.the-laws
+    Laws.the-copy) (Array.eStruct-laws Record.the-type Laws.the-laws Laws.the-copy Laws.the-plain) 16) ∷ []
 
 abbrev pub r : Kinds.RK 1
 r = Unit'.rUnit
@@ -224,18 +230,18 @@ abbrev pub r·0 : Kinds.RK 1
 r·0 = Unit'.rUnit
 
 abbrev pub hs : List.List Syntax.Home
-hs = Syntax.valueLocal ∷ Syntax.valueLocal ∷ Syntax.valueLocal ∷ Syntax.valueLocal ∷ Syntax.memorySlot ∷ Syntax.valueLocal ∷ Syntax.valueLocal ∷
+hs = Syntax.valueLocal ∷ Syntax.valueLocal ∷ Syntax.valueLocal ∷ Syntax.valueLocal ∷ Syntax.valueLocal ∷ Syntax.memorySlot ∷ Syntax.valueLocal ∷
     Syntax.valueLocal ∷ Syntax.valueLocal ∷ Syntax.valueLocal ∷ Syntax.valueLocal ∷ Syntax.valueLocal ∷ Syntax.valueLocal ∷ Syntax.valueLocal ∷
-    Syntax.valueLocal ∷ []
+    Syntax.valueLocal ∷ Syntax.valueLocal ∷ []
 
 abbrev b0 : Syntax.Body
-b0 = Syntax.assign (Syntax.place 4 []) (Syntax.rvOpd (Syntax.copy (Syntax.place 3 [])))
+b0 = Syntax.assign (Syntax.place 5 []) (Syntax.rvOpd (Syntax.copy (Syntax.place 4 [])))
 
 abbrev b1 : Syntax.Body
-b1 = Syntax.assign (Syntax.place 5 []) (Syntax.rvOpd (Syntax.int Syntax.w64 0))
+b1 = Syntax.assign (Syntax.place 6 []) (Syntax.rvOpd (Syntax.int Syntax.w64 0))
 
 abbrev b2 : Syntax.Body
-b2 = Syntax.assign (Syntax.place 6 []) (Syntax.op2 (Syntax.lt Syntax.unsigned) (Syntax.copy (Syntax.place 5 [])) (Syntax.int Syntax.w64 16))
+b2 = Syntax.assign (Syntax.place 7 []) (Syntax.op2 (Syntax.lt Syntax.unsigned) (Syntax.copy (Syntax.place 6 [])) (Syntax.copy (Syntax.place 3 [])))
 
 abbrev b3 : Syntax.Body
 b3 = Syntax.skip
@@ -244,36 +250,36 @@ abbrev b4 : Syntax.Body
 b4 = Syntax.exit 1
 
 abbrev b5 : Syntax.Body
-b5 = Syntax.cond (Syntax.copy (Syntax.place 6 [])) b3 b4
+b5 = Syntax.cond (Syntax.copy (Syntax.place 7 [])) b3 b4
 
 abbrev b6 : Syntax.Body
-b6 = Syntax.assign (Syntax.place 8 []) (Syntax.addrOf (Syntax.place 1 ((Syntax.field 0) ∷ (Syntax.deref mirs.dl_record-Record) ∷ [])))
+b6 = Syntax.assign (Syntax.place 9 []) (Syntax.addrOf (Syntax.place 1 ((Syntax.field 0) ∷ (Syntax.deref mirs.dl_record-Record) ∷ [])))
 
 abbrev b7 : Syntax.Body
-b7 = Syntax.assign (Syntax.place 9 []) (Syntax.aggregate ((Syntax.copy (Syntax.place 8 [])) ∷ (Syntax.copy (Syntax.place 1 ((Syntax.field 1) ∷ []))) ∷
-    []))
+b7 = Syntax.assign (Syntax.place 10 []) (Syntax.aggregate ((Syntax.copy (Syntax.place 9 [])) ∷ (Syntax.copy (Syntax.place 1 ((Syntax.field 1) ∷ [])))
+    ∷ []))
 
 abbrev b8 : Syntax.Body
-b8 = Syntax.assign (Syntax.place 10 []) (Syntax.op2 (Syntax.add Syntax.unsigned) (Syntax.copy (Syntax.place 2 [])) (Syntax.copy (Syntax.place 5 [])))
+b8 = Syntax.assign (Syntax.place 11 []) (Syntax.op2 (Syntax.add Syntax.unsigned) (Syntax.copy (Syntax.place 2 [])) (Syntax.copy (Syntax.place 6 [])))
 
 abbrev b9 : Syntax.Body
-b9 = Syntax.assign (Syntax.place 11 []) (Syntax.op2 (Syntax.mul Syntax.unsigned) (Syntax.copy (Syntax.place 5 [])) (Syntax.int Syntax.w64 44))
+b9 = Syntax.assign (Syntax.place 12 []) (Syntax.op2 (Syntax.mul Syntax.unsigned) (Syntax.copy (Syntax.place 6 [])) (Syntax.int Syntax.w64 44))
 
 abbrev b10 : Syntax.Body
-b10 = Syntax.assign (Syntax.place 12 []) (Syntax.addrOf (Syntax.place 4 []))
+b10 = Syntax.assign (Syntax.place 13 []) (Syntax.addrOf (Syntax.place 5 []))
 
 abbrev b11 : Syntax.Body
-b11 = Syntax.assign (Syntax.place 13 []) (Syntax.op2 Syntax.offset (Syntax.copy (Syntax.place 12 [])) (Syntax.copy (Syntax.place 11 [])))
+b11 = Syntax.assign (Syntax.place 14 []) (Syntax.op2 Syntax.offset (Syntax.copy (Syntax.place 13 [])) (Syntax.copy (Syntax.place 12 [])))
 
 abbrev b12 : Syntax.Body
-b12 = Syntax.assign (Syntax.place 14 []) (Syntax.rvOpd (Syntax.copy (Syntax.place 13 ((Syntax.deref mirs.dl_record-Record) ∷ []))))
+b12 = Syntax.assign (Syntax.place 15 []) (Syntax.rvOpd (Syntax.copy (Syntax.place 14 ((Syntax.deref mirs.dl_record-Record) ∷ []))))
 
 abbrev b13 : Syntax.Body
-b13 = Syntax.call "bs_sched::put_record" ((Syntax.copy (Syntax.place 9 [])) ∷ (Syntax.copy (Syntax.place 10 [])) ∷ (Syntax.copy (Syntax.place 14 []))
-    ∷ []) (Syntax.place 7 [])
+b13 = Syntax.call "bs_sched::put_record" ((Syntax.copy (Syntax.place 10 [])) ∷ (Syntax.copy (Syntax.place 11 [])) ∷ (Syntax.copy (Syntax.place 15 []))
+    ∷ []) (Syntax.place 8 [])
 
 abbrev b14 : Syntax.Body
-b14 = Syntax.assign (Syntax.place 5 []) (Syntax.op2 (Syntax.add Syntax.unsigned) (Syntax.copy (Syntax.place 5 [])) (Syntax.int Syntax.w64 1))
+b14 = Syntax.assign (Syntax.place 6 []) (Syntax.op2 (Syntax.add Syntax.unsigned) (Syntax.copy (Syntax.place 6 [])) (Syntax.int Syntax.w64 1))
 
 abbrev b15 : Syntax.Body
 b15 = Syntax.seq b13 b14
@@ -336,76 +342,79 @@ abbrev pub Claims : Type 1
 Claims = Kinds.In 1 ps·0 × Kinds.Out 1 ps·0 r·0
 
 abbrev pub t0 : List.List Row.Entry
-t0 = ε13 ∷ ε18 ∷ ε21 ∷ ε27 ∷ ε0 ∷ ε1 ∷ ε14 ∷ ε15 ∷ ε2 ∷ ε3 ∷ ε5 ∷ ε6 ∷ ε16 ∷ ε17 ∷ ε25 ∷ []
+t0 = ε13 ∷ ε19 ∷ ε22 ∷ ε23 ∷ ε29 ∷ ε0 ∷ ε1 ∷ ε14 ∷ ε15 ∷ ε2 ∷ ε5 ∷ ε6 ∷ ε7 ∷ ε16 ∷ ε17 ∷ ε27 ∷ []
 
 abbrev pub t1 : List.List Row.Entry
-t1 = ε7 ∷ ε18 ∷ (2, Rows'.any-gone τ0) ∷ ε4 ∷ ε0 ∷ ε1 ∷ ε14 ∷ ε15 ∷ ε2 ∷ ε3 ∷ ε5 ∷ ε6 ∷ ε16 ∷ ε17 ∷ ε25 ∷ []
+t1 = ε8 ∷ ε19 ∷ ε3 ∷ (3, Rows'.any-gone τ0) ∷ ε4 ∷ ε0 ∷ ε1 ∷ ε14 ∷ ε15 ∷ ε2 ∷ ε5 ∷ ε6 ∷ ε7 ∷ ε16 ∷ ε17 ∷ ε27 ∷ []
 
 abbrev pub t2 : List.List Row.Entry
-t2 = ε13 ∷ ε18 ∷ ε21 ∷ ε27 ∷ ε28 ∷ ε1 ∷ ε14 ∷ ε15 ∷ ε2 ∷ ε3 ∷ ε5 ∷ ε6 ∷ ε16 ∷ ε17 ∷ ε25 ∷ []
+t2 = ε13 ∷ ε19 ∷ ε22 ∷ ε23 ∷ ε29 ∷ ε30 ∷ ε1 ∷ ε14 ∷ ε15 ∷ ε2 ∷ ε5 ∷ ε6 ∷ ε7 ∷ ε16 ∷ ε17 ∷ ε27 ∷ []
 
 abbrev pub t3 : List.List Row.Entry
-t3 = ε13 ∷ ε18 ∷ ε21 ∷ ε4 ∷ ε28 ∷ ε1 ∷ ε14 ∷ ε15 ∷ ε2 ∷ ε3 ∷ ε5 ∷ ε6 ∷ ε16 ∷ ε17 ∷ ε25 ∷ []
+t3 = ε13 ∷ ε19 ∷ ε22 ∷ ε23 ∷ ε4 ∷ ε30 ∷ ε1 ∷ ε14 ∷ ε15 ∷ ε2 ∷ ε5 ∷ ε6 ∷ ε7 ∷ ε16 ∷ ε17 ∷ ε27 ∷ []
 
 abbrev pub t4 : List.List Row.Entry
-t4 = ε13 ∷ ε18 ∷ ε21 ∷ ε4 ∷ ε28 ∷ ε22 ∷ ε14 ∷ ε15 ∷ ε2 ∷ ε3 ∷ ε5 ∷ ε6 ∷ ε16 ∷ ε17 ∷ ε25 ∷ []
+t4 = ε13 ∷ ε19 ∷ ε22 ∷ ε23 ∷ ε4 ∷ ε30 ∷ ε24 ∷ ε14 ∷ ε15 ∷ ε2 ∷ ε5 ∷ ε6 ∷ ε7 ∷ ε16 ∷ ε17 ∷ ε27 ∷ []
 
 abbrev pub t5 : List.List Row.Entry
-t5 = ε13 ∷ ε18 ∷ ε21 ∷ ε4 ∷ ε0 ∷ ε22 ∷ ε14 ∷ ε15 ∷ ε2 ∷ ε3 ∷ ε5 ∷ ε6 ∷ ε16 ∷ ε17 ∷ ε25 ∷ []
+t5 = ε13 ∷ ε19 ∷ ε22 ∷ ε23 ∷ ε4 ∷ ε0 ∷ ε24 ∷ ε14 ∷ ε15 ∷ ε2 ∷ ε5 ∷ ε6 ∷ ε7 ∷ ε16 ∷ ε17 ∷ ε27 ∷ []
 
 abbrev pub t6 : List.List Row.Entry
-t6 = ε13 ∷ ε18 ∷ ε21 ∷ ε4 ∷ ε28 ∷ ε22 ∷ ε8 ∷ ε15 ∷ ε2 ∷ ε3 ∷ ε5 ∷ ε6 ∷ ε16 ∷ ε17 ∷ ε25 ∷ []
+t6 = ε13 ∷ ε19 ∷ ε22 ∷ ε23 ∷ ε4 ∷ ε30 ∷ ε24 ∷ ε9 ∷ ε15 ∷ ε2 ∷ ε5 ∷ ε6 ∷ ε7 ∷ ε16 ∷ ε17 ∷ ε27 ∷ []
 
 abbrev pub t7 : List.List Row.Entry
-t7 = ε13 ∷ ε18 ∷ ε21 ∷ ε4 ∷ ε0 ∷ ε22 ∷ ε8 ∷ ε15 ∷ ε2 ∷ ε3 ∷ ε5 ∷ ε6 ∷ ε16 ∷ ε17 ∷ ε25 ∷ []
+t7 = ε13 ∷ ε19 ∷ ε22 ∷ ε23 ∷ ε4 ∷ ε0 ∷ ε24 ∷ ε9 ∷ ε15 ∷ ε2 ∷ ε5 ∷ ε6 ∷ ε7 ∷ ε16 ∷ ε17 ∷ ε27 ∷ []
 
 abbrev pub t8 : List.List Row.Entry
-t8 = ε13 ∷ ε29 ∷ ε21 ∷ ε4 ∷ ε28 ∷ ε22 ∷ ε14 ∷ ε15 ∷ ε20 ∷ ε3 ∷ ε5 ∷ ε6 ∷ ε16 ∷ ε17 ∷ ε25 ∷ []
+t8 = ε13 ∷ ε31 ∷ ε22 ∷ ε23 ∷ ε4 ∷ ε30 ∷ ε24 ∷ ε14 ∷ ε15 ∷ ε21 ∷ ε5 ∷ ε6 ∷ ε7 ∷ ε16 ∷ ε17 ∷ ε27 ∷ []
 
 abbrev pub t9 : List.List Row.Entry
-t9 = ε13 ∷ ε29 ∷ ε21 ∷ ε4 ∷ ε28 ∷ ε22 ∷ ε14 ∷ ε15 ∷ ε2 ∷ ε19 ∷ ε5 ∷ ε6 ∷ ε16 ∷ ε17 ∷ ε25 ∷ []
+t9 = ε13 ∷ ε31 ∷ ε22 ∷ ε23 ∷ ε4 ∷ ε30 ∷ ε24 ∷ ε14 ∷ ε15 ∷ ε2 ∷ ε20 ∷ ε6 ∷ ε7 ∷ ε16 ∷ ε17 ∷ ε27 ∷ []
 
 abbrev pub t10 : List.List Row.Entry
-t10 = ε13 ∷ ε29 ∷ ε21 ∷ ε4 ∷ ε28 ∷ ε22 ∷ ε14 ∷ ε15 ∷ ε2 ∷ ε19 ∷ ε23 ∷ ε6 ∷ ε16 ∷ ε17 ∷ ε25 ∷ []
+t10 = ε13 ∷ ε31 ∷ ε22 ∷ ε23 ∷ ε4 ∷ ε30 ∷ ε24 ∷ ε14 ∷ ε15 ∷ ε2 ∷ ε20 ∷ ε25 ∷ ε7 ∷ ε16 ∷ ε17 ∷ ε27 ∷ []
 
 abbrev pub t11 : List.List Row.Entry
-t11 = ε13 ∷ ε29 ∷ ε21 ∷ ε4 ∷ ε28 ∷ ε22 ∷ ε14 ∷ ε15 ∷ ε2 ∷ ε19 ∷ ε23 ∷ ε24 ∷ ε16 ∷ ε17 ∷ ε25 ∷ []
+t11 = ε13 ∷ ε31 ∷ ε22 ∷ ε23 ∷ ε4 ∷ ε30 ∷ ε24 ∷ ε14 ∷ ε15 ∷ ε2 ∷ ε20 ∷ ε25 ∷ ε26 ∷ ε16 ∷ ε17 ∷ ε27 ∷ []
 
 abbrev pub t12 : List.List Row.Entry
-t12 = ε13 ∷ ε29 ∷ ε21 ∷ ε4 ∷ ε28 ∷ ε22 ∷ ε14 ∷ ε15 ∷ ε2 ∷ ε19 ∷ ε23 ∷ ε24 ∷ ε9 ∷ ε17 ∷ ε25 ∷ []
+t12 = ε13 ∷ ε31 ∷ ε22 ∷ ε23 ∷ ε4 ∷ ε30 ∷ ε24 ∷ ε14 ∷ ε15 ∷ ε2 ∷ ε20 ∷ ε25 ∷ ε26 ∷ ε10 ∷ ε17 ∷ ε27 ∷ []
 
 abbrev pub t13 : List.List Row.Entry
-t13 = ε13 ∷ ε29 ∷ ε21 ∷ ε4 ∷ ε28 ∷ ε22 ∷ ε14 ∷ ε15 ∷ ε2 ∷ ε19 ∷ ε23 ∷ ε24 ∷ ε9 ∷ ε10 ∷ ε25 ∷ []
+t13 = ε13 ∷ ε31 ∷ ε22 ∷ ε23 ∷ ε4 ∷ ε30 ∷ ε24 ∷ ε14 ∷ ε15 ∷ ε2 ∷ ε20 ∷ ε25 ∷ ε26 ∷ ε10 ∷ ε11 ∷ ε27 ∷ []
 
 abbrev pub t14 : List.List Row.Entry
-t14 = ε13 ∷ ε29 ∷ ε21 ∷ ε4 ∷ ε28 ∷ ε22 ∷ ε14 ∷ ε15 ∷ ε2 ∷ ε19 ∷ ε23 ∷ ε24 ∷ ε16 ∷ ε10 ∷ ε25 ∷ []
+t14 = ε13 ∷ ε31 ∷ ε22 ∷ ε23 ∷ ε4 ∷ ε30 ∷ ε24 ∷ ε14 ∷ ε15 ∷ ε2 ∷ ε20 ∷ ε25 ∷ ε26 ∷ ε16 ∷ ε11 ∷ ε27 ∷ []
 
 abbrev pub t15 : List.List Row.Entry
-t15 = ε13 ∷ ε29 ∷ ε21 ∷ ε4 ∷ ε28 ∷ ε22 ∷ ε14 ∷ ε15 ∷ ε2 ∷ ε19 ∷ ε23 ∷ ε24 ∷ ε16 ∷ ε10 ∷ ε26 ∷ []
+t15 = ε13 ∷ ε31 ∷ ε22 ∷ ε23 ∷ ε4 ∷ ε30 ∷ ε24 ∷ ε14 ∷ ε15 ∷ ε2 ∷ ε20 ∷ ε25 ∷ ε26 ∷ ε16 ∷ ε11 ∷ ε28 ∷ []
 
 abbrev pub t16 : List.List Row.Entry
-t16 = ε13 ∷ ε29 ∷ ε21 ∷ ε4 ∷ ε28 ∷ ε22 ∷ ε14 ∷ ε15 ∷ ε2 ∷ ε19 ∷ ε23 ∷ ε6 ∷ ε16 ∷ ε10 ∷ ε26 ∷ []
+t16 = ε13 ∷ ε31 ∷ ε22 ∷ ε23 ∷ ε4 ∷ ε30 ∷ ε24 ∷ ε14 ∷ ε15 ∷ ε2 ∷ ε20 ∷ ε25 ∷ ε7 ∷ ε16 ∷ ε11 ∷ ε28 ∷ []
 
 abbrev pub t17 : List.List Row.Entry
-t17 = ε13 ∷ ε29 ∷ ε21 ∷ ε4 ∷ ε28 ∷ ε22 ∷ ε14 ∷ ε15 ∷ ε2 ∷ ε19 ∷ ε23 ∷ ε6 ∷ ε16 ∷ ε17 ∷ ε26 ∷ []
+t17 = ε13 ∷ ε31 ∷ ε22 ∷ ε23 ∷ ε4 ∷ ε30 ∷ ε24 ∷ ε14 ∷ ε15 ∷ ε2 ∷ ε20 ∷ ε25 ∷ ε7 ∷ ε16 ∷ ε17 ∷ ε28 ∷ []
 
 abbrev pub t18 : List.List Row.Entry
-t18 = ε13 ∷ ε29 ∷ ε21 ∷ ε4 ∷ ε28 ∷ ε22 ∷ ε14 ∷ ε11 ∷ ε2 ∷ ε12 ∷ ε23 ∷ ε6 ∷ ε16 ∷ ε17 ∷ ε26 ∷ []
+t18 = ε13 ∷ ε31 ∷ ε22 ∷ ε23 ∷ ε4 ∷ ε30 ∷ ε24 ∷ ε14 ∷ ε12 ∷ ε2 ∷ ε18 ∷ ε25 ∷ ε7 ∷ ε16 ∷ ε17 ∷ ε28 ∷ []
 
 abbrev pub t19 : List.List Row.Entry
-t19 = ε13 ∷ ε29 ∷ ε21 ∷ ε4 ∷ ε28 ∷ ε22 ∷ ε14 ∷ ε15 ∷ ε2 ∷ ε12 ∷ ε23 ∷ ε6 ∷ ε16 ∷ ε17 ∷ ε26 ∷ []
+t19 = ε13 ∷ ε31 ∷ ε22 ∷ ε23 ∷ ε4 ∷ ε30 ∷ ε24 ∷ ε14 ∷ ε15 ∷ ε2 ∷ ε18 ∷ ε25 ∷ ε7 ∷ ε16 ∷ ε17 ∷ ε28 ∷ []
 
 abbrev pub t20 : List.List Row.Entry
-t20 = ε13 ∷ ε29 ∷ ε21 ∷ ε4 ∷ ε28 ∷ ε22 ∷ ε14 ∷ ε15 ∷ ε2 ∷ ε12 ∷ ε5 ∷ ε6 ∷ ε16 ∷ ε17 ∷ ε26 ∷ []
+t20 = ε13 ∷ ε31 ∷ ε22 ∷ ε23 ∷ ε4 ∷ ε30 ∷ ε24 ∷ ε14 ∷ ε15 ∷ ε2 ∷ ε18 ∷ ε6 ∷ ε7 ∷ ε16 ∷ ε17 ∷ ε28 ∷ []
 
 abbrev pub t21 : List.List Row.Entry
-t21 = ε13 ∷ ε29 ∷ ε21 ∷ ε4 ∷ ε28 ∷ ε22 ∷ ε14 ∷ ε15 ∷ ε2 ∷ ε12 ∷ ε5 ∷ ε6 ∷ ε16 ∷ ε17 ∷ ε25 ∷ []
+t21 = ε13 ∷ ε31 ∷ ε22 ∷ ε23 ∷ ε4 ∷ ε30 ∷ ε24 ∷ ε14 ∷ ε15 ∷ ε2 ∷ ε18 ∷ ε6 ∷ ε7 ∷ ε16 ∷ ε17 ∷ ε27 ∷ []
 
 abbrev pub t22 : List.List Row.Entry
-t22 = ε7 ∷ ε18 ∷ ε21 ∷ ε4 ∷ ε0 ∷ ε22 ∷ ε14 ∷ ε15 ∷ ε2 ∷ ε3 ∷ ε5 ∷ ε6 ∷ ε16 ∷ ε17 ∷ ε25 ∷ []
+t22 = ε8 ∷ ε19 ∷ ε22 ∷ ε23 ∷ ε4 ∷ ε0 ∷ ε24 ∷ ε14 ∷ ε15 ∷ ε2 ∷ ε5 ∷ ε6 ∷ ε7 ∷ ε16 ∷ ε17 ∷ ε27 ∷ []
 
 abbrev pub t23 : List.List Row.Entry
-t23 = ε7 ∷ ε18 ∷ ε21 ∷ ε4 ∷ ε0 ∷ ε1 ∷ ε14 ∷ ε15 ∷ ε2 ∷ ε3 ∷ ε5 ∷ ε6 ∷ ε16 ∷ ε17 ∷ ε25 ∷ []
+t23 = ε8 ∷ ε19 ∷ ε22 ∷ ε23 ∷ ε4 ∷ ε0 ∷ ε1 ∷ ε14 ∷ ε15 ∷ ε2 ∷ ε5 ∷ ε6 ∷ ε7 ∷ ε16 ∷ ε17 ∷ ε27 ∷ []
+
+abbrev pub t24 : List.List Row.Entry
+t24 = ε8 ∷ ε19 ∷ ε3 ∷ ε23 ∷ ε4 ∷ ε0 ∷ ε1 ∷ ε14 ∷ ε15 ∷ ε2 ∷ ε5 ∷ ε6 ∷ ε7 ∷ ε16 ∷ ε17 ∷ ε27 ∷ []
 
 abbrev pub T0 : Row.Cx
 T0 = record { locals = t0; slots = [] }
@@ -495,7 +504,10 @@ abbrev pub T31 : Row.Cx
 T31 = record { locals = t23; slots = [] }
 
 abbrev pub T32 : Row.Cx
-T32 = record { locals = t1; slots = [] }
+T32 = record { locals = t24; slots = [] }
+
+abbrev pub T33 : Row.Cx
+T33 = record { locals = t1; slots = [] }
 
 abbrev pub O0 : Typed.Outs
 O0 = record { next = Option.none; exits = []; returns = Option.some T1 }
@@ -513,64 +525,66 @@ abbrev pub O4 : Typed.Outs
 O4 = Typed.withNext (Option.some T7) O3
 
 abbrev pub InvT-loop : Type 1
-InvT-loop = List.List (in-Record.row .Denot) → Rows'.sc-here (Row.sInt Syntax.w64) .Mod → Rows.arrF (Declared.row Record.the-type) 16 0 .Mod →
-    Rows'.sc-here (Row.sInt Syntax.w64) .Mod → List.List (in-Record.row .Denot) → Rows'.sc-here (Row.sInt Syntax.w64) .Mod → Type 0
+InvT-loop = List.List (in-Record.row .Denot) → Rows'.sc-here (Row.sInt Syntax.w64) .Mod → Rows'.sc-here (Row.sInt Syntax.w64) .Mod → Rows.arrF
+    (Declared.row Record.the-type) 16 0 .Mod → Rows'.sc-here (Row.sInt Syntax.w64) .Mod → List.List (in-Record.row .Denot) → Rows'.sc-here (Row.sInt
+    Syntax.w64) .Mod → Type 0
 
 abbrev pub MeasureT-loop : Type 0
-MeasureT-loop = List.List (in-Record.row .Denot) → Rows'.sc-here (Row.sInt Syntax.w64) .Mod → Rows.arrF (Declared.row Record.the-type) 16 0 .Mod →
-    Rows'.sc-here (Row.sInt Syntax.w64) .Mod → List.List (in-Record.row .Denot) → Rows'.sc-here (Row.sInt Syntax.w64) .Mod → Nat.ℕ
+MeasureT-loop = List.List (in-Record.row .Denot) → Rows'.sc-here (Row.sInt Syntax.w64) .Mod → Rows'.sc-here (Row.sInt Syntax.w64) .Mod → Rows.arrF
+    (Declared.row Record.the-type) 16 0 .Mod → Rows'.sc-here (Row.sInt Syntax.w64) .Mod → List.List (in-Record.row .Denot) → Rows'.sc-here (Row.sInt
+    Syntax.w64) .Mod → Nat.ℕ
 
 module _ (claims· : Claims) where
   abbrev s0 : (bs : List.List Nat.ℕ) → Typed.Mo T0 → Typed.Mo T2
-  s0 = λ bs. LocalCopy.n-val-copy T0 3 4 (Array'.Array (Declared.row Record.the-type) 16) ρ5 ρ5 (λ x. x) (λ x. x) λ x. x
+  s0 = λ bs. LocalCopy.n-val-copy T0 4 5 (Array'.Array (Declared.row Record.the-type) 16) ρ5 ρ5 (λ x. x) (λ x. x) λ x. x
 
   abbrev s1 : (bs : List.List Nat.ℕ) → Typed.Mo T2 → Typed.Mo T3
-  s1 = λ bs. Scalar.n-room T2 3 τ1
+  s1 = λ bs. Scalar.n-room T2 4 τ1
 
   abbrev s2 : (bs : List.List Nat.ℕ) → Typed.Mo T3 → Typed.Mo T4
-  s2 = λ bs. Scalar.n-use T3 (Scalar.oInt Syntax.w64 0) 5 ρ3 (Row.sInt Syntax.w64 .of)
+  s2 = λ bs. Scalar.n-use T3 (Scalar.oInt Syntax.w64 0) 6 ρ3 (Row.sInt Syntax.w64 .of)
 
   abbrev s3 : (bs : List.List Nat.ℕ) → Typed.Asks T4 T6
-  s3 = λ bs. Scalar.k-op2 T4 (Syntax.lt Syntax.unsigned) (Scalar.oAt 5 τ0 (Row.valS (Row.sInt Syntax.w64))) (Scalar.oInt Syntax.w64 16) 6 ρ1
-      (Row.sBool .of)
+  s3 = λ bs. Scalar.k-op2 T4 (Syntax.lt Syntax.unsigned) (Scalar.oAt 6 τ0 (Row.valS (Row.sInt Syntax.w64))) (Scalar.oAt 3 τ0 (Row.valS (Row.sInt
+      Syntax.w64))) 7 ρ1 (Row.sBool .of)
 
   abbrev s4 : (bs : List.List Nat.ℕ) → Typed.Mo T6 → Typed.Mo T8
-  s4 = λ bs. Scalar.n-room T6 6 Syntax.tyBool
+  s4 = λ bs. Scalar.n-room T6 7 Syntax.tyBool
 
   abbrev s5 : (bs : List.List Nat.ℕ) → Typed.Mo T6 → Typed.Mo T9
-  s5 = λ bs. Scalar.n-room T6 4 τ1
+  s5 = λ bs. Scalar.n-room T6 5 τ1
 
   abbrev s6 : (bs : List.List Nat.ℕ) → Typed.Mo T9 → Typed.Mo T10
-  s6 = λ bs. Scalar.n-room T9 6 Syntax.tyBool
+  s6 = λ bs. Scalar.n-room T9 7 Syntax.tyBool
 
   abbrev s8 : (bs : List.List Nat.ℕ) → Typed.Gives T7 T12
-  s8 = λ bs. Relend.k-sl-relend in-Record.row T7 1 8 0 1 τ3 τ2 Row.off λ x. x
+  s8 = λ bs. Relend.k-sl-relend in-Record.row T7 1 9 0 1 τ3 τ2 Row.off λ x. x
 
   abbrev s9 : (bs : List.List Nat.ℕ) → Typed.Asks T12 T13
-  s9 = λ bs. Relend.k-sl-aggregate in-Record.row (Relend.asMut in-Record.row) T12 8 9 1 τ2 τ2 (λ x. x) (Scalar.oFld 1 ((Syntax.field 1) ∷ []) τ0 8 λ
+  s9 = λ bs. Relend.k-sl-aggregate in-Record.row (Relend.asMut in-Record.row) T12 9 10 1 τ2 τ2 (λ x. x) (Scalar.oFld 1 ((Syntax.field 1) ∷ []) τ0 8 λ
       v. Shared.lenV (v .0))
 
   abbrev s10 : (bs : List.List Nat.ℕ) → Typed.Asks T13 T14
-  s10 = λ bs. Scalar.k-op2 T13 (Syntax.add Syntax.unsigned) (Scalar.oAt 2 τ0 (Row.valS (Row.sInt Syntax.w64))) (Scalar.oAt 5 τ0 (Row.valS (Row.sInt
-      Syntax.w64))) 10 ρ3 (Row.sInt Syntax.w64 .of)
+  s10 = λ bs. Scalar.k-op2 T13 (Syntax.add Syntax.unsigned) (Scalar.oAt 2 τ0 (Row.valS (Row.sInt Syntax.w64))) (Scalar.oAt 6 τ0 (Row.valS (Row.sInt
+      Syntax.w64))) 11 ρ3 (Row.sInt Syntax.w64 .of)
 
   abbrev s11 : (bs : List.List Nat.ℕ) → Typed.Asks T14 T15
-  s11 = λ bs. Scalar.k-op2 T14 (Syntax.mul Syntax.unsigned) (Scalar.oAt 5 τ0 (Row.valS (Row.sInt Syntax.w64))) (Scalar.oInt Syntax.w64 44) 11 ρ3
+  s11 = λ bs. Scalar.k-op2 T14 (Syntax.mul Syntax.unsigned) (Scalar.oAt 6 τ0 (Row.valS (Row.sInt Syntax.w64))) (Scalar.oInt Syntax.w64 44) 12 ρ3
       (Row.sInt Syntax.w64 .of)
 
   abbrev s12 : (bs : List.List Nat.ℕ) → Typed.Mo T15 → Typed.Mo T16
-  s12 = λ bs. Init.n-addr T15 (Row.hd 0 (Row.tl (Row.tl (Row.tl (Row.tl bs))))) 12
+  s12 = λ bs. Init.n-addr T15 (Row.hd 0 (Row.tl (Row.tl (Row.tl (Row.tl (Row.tl bs)))))) 13
 
   abbrev s13 : (bs : List.List Nat.ℕ) → Typed.Asks T16 T17
-  s13 = λ bs. Scalar.k-op2 T16 Syntax.offset (Scalar.oAt 12 Syntax.tyPtr (Row.valS Row.sPtr)) (Scalar.oAt 11 τ0 (Row.valS (Row.sInt Syntax.w64))) 13
+  s13 = λ bs. Scalar.k-op2 T16 Syntax.offset (Scalar.oAt 13 Syntax.tyPtr (Row.valS Row.sPtr)) (Scalar.oAt 12 τ0 (Row.valS (Row.sInt Syntax.w64))) 14
       ρ0 (Row.sPtr .of)
 
   abbrev s14 : (bs : List.List Nat.ℕ) → Typed.Mo T17 → Typed.Mo T18
-  s14 = λ bs. Scalar.n-room T17 12 Syntax.tyPtr
+  s14 = λ bs. Scalar.n-room T17 13 Syntax.tyPtr
 
   abbrev s15 : (bs : List.List Nat.ℕ) → Typed.Both T18 T19
-  s15 = λ bs. Move.k-arr-copy-out (Declared.row Record.the-type) T18 (Row.hd 0 (Row.tl (Row.tl (Row.tl (Row.tl bs))))) 4 13 14 16 0 ρ4 (Init.scaled
-      (Declared.row Record.the-type) .off) (λ u. u .1 .1 .1 .1 .1 .0) (λ x. x) (Record.struct .make (
+  s15 = λ bs. Move.k-arr-copy-out (Declared.row Record.the-type) T18 (Row.hd 0 (Row.tl (Row.tl (Row.tl (Row.tl (Row.tl bs)))))) 5 14 15 16 0 ρ4
+      (Init.scaled (Declared.row Record.the-type) .off) (λ u. u .1 .1 .1 .1 .1 .1 .0) (λ x. x) (Record.struct .make (
         Kind.enum .make (Logic.inl tt),
         (
           0,
@@ -588,65 +602,71 @@ module _ (claims· : Claims) where
                       (
                         OptU16.enum .make (Logic.inl tt),
                         (
-                          OptU8.enum .make (Logic.inl tt),
+                          OptU8.enum .make
+                              (Logic.inl tt),
                           (OptU8.enum .make (Logic.inl tt), (OptU8.enum .make (Logic.inl tt), (OptChanAlloc.enum .make (Logic.inl tt), tt))),
                         ),
                       ),
                     ),
                   ),
                 ) tt,
-                (0, (0, tt)),
+                (
+                  0,
+                  (0, tt),
+                ),
               ),
             ),
           ),
         ),
-      )
-      tt) (λ x. Unit) (λ x. x) λ x. x
+      ) tt) (λ x. Unit) (λ x. x) λ x. x
 
   abbrev s16 : (bs : List.List Nat.ℕ) → Typed.Mo T19 → Typed.Mo T20
-  s16 = λ bs. Scalar.n-room T19 11 τ0
+  s16 = λ bs. Scalar.n-room T19 12 τ0
 
   abbrev s17 : (bs : List.List Nat.ℕ) → Typed.Mo T20 → Typed.Mo T21
-  s17 = λ bs. Scalar.n-room T20 13 Syntax.tyPtr
+  s17 = λ bs. Scalar.n-room T20 14 Syntax.tyPtr
 
   abbrev s18 : (bs : List.List Nat.ℕ) → Typed.Both T21 T22
   s18 = λ bs. Call.callB ps·0 r·0 (claims· .0) (claims· .1) T21 (
     record {
-      pos = 9;
+      pos = 10;
       ty = Syntax.tyRef Syntax.erased Syntax.mut in-Record.at;
-      ref = λ x.
-          x;
+      ref = λ
+          x. x;
     },
-    (Num.vAt 10 λ x. x, (record { pos = 14; st = []; d = 0; at = λ x. x }, tt)),
-  ) 7 (1 ∷ []) Syntax.tyUnit
+    (Num.vAt 11 λ x. x, (record { pos = 15; st = []; d = 0; at = λ x. x }, tt)),
+  ) 8 (1 ∷ []) Syntax.tyUnit
 
   abbrev s19 : (bs : List.List Nat.ℕ) → Typed.Mo T22 → Typed.Mo T23
-  s19 = λ bs. Scalar.n-room T22 7 Syntax.tyUnit
+  s19 = λ bs. Scalar.n-room T22 8 Syntax.tyUnit
 
   abbrev s20 : (bs : List.List Nat.ℕ) → Typed.Mo T23 → Typed.Mo T24
-  s20 = λ bs. Scalar.n-room T23 10 τ0
+  s20 = λ bs. Scalar.n-room T23 11 τ0
 
   abbrev s21 : (bs : List.List Nat.ℕ) → Typed.Mo T24 → Typed.Mo T25
-  s21 = λ bs. Scalar.n-room T24 14 mirs.dl_record-Record
+  s21 = λ bs. Scalar.n-room T24 15 mirs.dl_record-Record
 
   abbrev s23 : (bs : List.List Nat.ℕ) → Typed.Both T25 T27
-  s23 = λ bs. Relend.k-back-sl in-Record.row T25 9 1 0 1 τ3 τ2 Row.off (λ x. x) λ x. x
+  s23 = λ bs. Relend.k-back-sl in-Record.row T25 10 1 0 1 τ3 τ2 Row.off (λ x. x) λ x. x
 
   abbrev s25 : (bs : List.List Nat.ℕ) → Typed.Asks T27 T29
-  s25 = λ bs. Scalar.k-op2 T27 (Syntax.add Syntax.unsigned) (Scalar.oAt 5 τ0 (Row.valS (Row.sInt Syntax.w64))) (Scalar.oInt Syntax.w64 1) 5 ρ3
+  s25 = λ bs. Scalar.k-op2 T27 (Syntax.add Syntax.unsigned) (Scalar.oAt 6 τ0 (Row.valS (Row.sInt Syntax.w64))) (Scalar.oInt Syntax.w64 1) 6 ρ3
       (Row.sInt Syntax.w64 .of)
 
   abbrev s26 : (bs : List.List Nat.ℕ) → Typed.Mo T5 → Typed.Mo T30
   s26 = λ bs. Scalar.n-use T5 Scalar.oUnit 0 ρ2 (Row.sUnit .of)
 
   abbrev s27 : (bs : List.List Nat.ℕ) → Typed.Mo T30 → Typed.Mo T31
-  s27 = λ bs. Scalar.n-room T30 5 τ0
+  s27 = λ bs. Scalar.n-room T30 6 τ0
 
   abbrev s28 : (bs : List.List Nat.ℕ) → Typed.Mo T31 → Typed.Mo T32
   s28 = λ bs. Scalar.n-room T31 2 τ0
 
+  abbrev s29 : (bs : List.List Nat.ℕ) → Typed.Mo T32 → Typed.Mo T33
+  s29 = λ bs. Scalar.n-room T32 3 τ0
+
   abbrev put0 : List.List (in-Record.row .Denot) × Rows'.sc-here (Row.sInt Syntax.w64) .Mod → Typed.Mo T4 → Typed.Mo T4
-  put0 = λ vs u. Row.set 5 ε22 (vs .1) (T4 .locals) (Row.set 1 ε18 record {
+  put0 = λ vs u. Row.set 6 ε24 (vs .1) (T4 .locals) (Row.set 1 ε19 record {
     ptr = Row.get 1 (T4 .locals) u .ptr;
     name = Row.get 1 (T4 .locals) u
         .name;
@@ -678,7 +698,7 @@ module _ (claims· : Claims) where
       at4 = λ bs. λ Ψ. Typed.pass T6 T9 (s5 bs) (at3 bs Ψ)
 
       abbrev at5 : (bs : List.List Nat.ℕ) → Typed.TF T6 O4
-      at5 = λ bs. Scalar.Φcond T6 O4 6 (λ x. x) (at1 bs) (at4 bs)
+      at5 = λ bs. Scalar.Φcond T6 O4 7 (λ x. x) (at1 bs) (at4 bs)
 
       abbrev at6 : (bs : List.List Nat.ℕ) → Typed.TF T27 O3
       at6 = λ bs. λ Ψ. Typed.ask (s25 bs) (Typed.atNext O3 Ψ)
@@ -744,39 +764,42 @@ module _ (claims· : Claims) where
       at26 = λ bs. λ Ψ. Typed.ask (s3 bs) (at25 bs Ψ)
 
       abbrev at27 : (bs : List.List Nat.ℕ) → Typed.TF T4 O2
-      at27 = λ bs. Typed.LoopBy T4 O2 put0 (λ u vs. Inv·0 (Row.get 1 (T4 .locals) u .now) (Row.get 2 (T4 .locals) u) (Row.get 4 (T4 .locals) u)
-          (Row.get 5 (T4 .locals) u) (vs .0) (vs .1)) (λ u vs. μ·0 (Row.get 1 (T4 .locals) u .now) (Row.get 2 (T4 .locals) u) (Row.get 4 (T4 .locals)
-          u) (Row.get 5 (T4 .locals) u) (vs .0) (vs .1)) (at26 bs)
+      at27 = λ bs. Typed.LoopBy T4 O2 put0 (λ u vs. Inv·0 (Row.get 1 (T4 .locals) u .now) (Row.get 2 (T4 .locals) u) (Row.get 3 (T4 .locals) u)
+          (Row.get 5 (T4 .locals) u) (Row.get 6 (T4 .locals) u) (vs .0) (vs .1)) (λ u vs. μ·0 (Row.get 1 (T4 .locals) u .now) (Row.get 2 (T4 .locals)
+          u) (Row.get 3 (T4 .locals) u) (Row.get 5 (T4 .locals) u) (Row.get 6 (T4 .locals) u) (vs .0) (vs .1)) (at26 bs)
 
       abbrev at28 : (bs : List.List Nat.ℕ) → Typed.TF T4 O1
       at28 = λ bs. λ Ψ. at27 bs (Typed.inBlock O1 Ψ)
 
-      abbrev at29 : (bs : List.List Nat.ℕ) → Typed.TF T32 O0
+      abbrev at29 : (bs : List.List Nat.ℕ) → Typed.TF T33 O0
       at29 = λ bs. Typed.atRet O0
 
-      abbrev at30 : (bs : List.List Nat.ℕ) → Typed.TF T31 O0
-      at30 = λ bs. λ Ψ. Typed.pass T31 T32 (s28 bs) (at29 bs Ψ)
+      abbrev at30 : (bs : List.List Nat.ℕ) → Typed.TF T32 O0
+      at30 = λ bs. λ Ψ. Typed.pass T32 T33 (s29 bs) (at29 bs Ψ)
 
-      abbrev at31 : (bs : List.List Nat.ℕ) → Typed.TF T30 O0
-      at31 = λ bs. λ Ψ. Typed.pass T30 T31 (s27 bs) (at30 bs Ψ)
+      abbrev at31 : (bs : List.List Nat.ℕ) → Typed.TF T31 O0
+      at31 = λ bs. λ Ψ. Typed.pass T31 T32 (s28 bs) (at30 bs Ψ)
 
-      abbrev at32 : (bs : List.List Nat.ℕ) → Typed.TF T5 O0
-      at32 = λ bs. λ Ψ. Typed.pass T5 T30 (s26 bs) (at31 bs Ψ)
+      abbrev at32 : (bs : List.List Nat.ℕ) → Typed.TF T30 O0
+      at32 = λ bs. λ Ψ. Typed.pass T30 T31 (s27 bs) (at31 bs Ψ)
 
-      abbrev at33 : (bs : List.List Nat.ℕ) → Typed.TF T4 O0
-      at33 = λ bs. λ Ψ. at28 bs (Typed.wantNext T5 O0 (at32 bs Ψ) Ψ)
+      abbrev at33 : (bs : List.List Nat.ℕ) → Typed.TF T5 O0
+      at33 = λ bs. λ Ψ. Typed.pass T5 T30 (s26 bs) (at32 bs Ψ)
 
-      abbrev at34 : (bs : List.List Nat.ℕ) → Typed.TF T3 O0
-      at34 = λ bs. λ Ψ. Typed.pass T3 T4 (s2 bs) (at33 bs Ψ)
+      abbrev at34 : (bs : List.List Nat.ℕ) → Typed.TF T4 O0
+      at34 = λ bs. λ Ψ. at28 bs (Typed.wantNext T5 O0 (at33 bs Ψ) Ψ)
 
-      abbrev at35 : (bs : List.List Nat.ℕ) → Typed.TF T2 O0
-      at35 = λ bs. λ Ψ. Typed.pass T2 T3 (s1 bs) (at34 bs Ψ)
+      abbrev at35 : (bs : List.List Nat.ℕ) → Typed.TF T3 O0
+      at35 = λ bs. λ Ψ. Typed.pass T3 T4 (s2 bs) (at34 bs Ψ)
 
-      abbrev at36 : (bs : List.List Nat.ℕ) → Typed.TF T0 O0
-      at36 = λ bs. λ Ψ. Typed.pass T0 T2 (s0 bs) (at35 bs Ψ)
+      abbrev at36 : (bs : List.List Nat.ℕ) → Typed.TF T2 O0
+      at36 = λ bs. λ Ψ. Typed.pass T2 T3 (s1 bs) (at35 bs Ψ)
+
+      abbrev at37 : (bs : List.List Nat.ℕ) → Typed.TF T0 O0
+      at37 = λ bs. λ Ψ. Typed.pass T0 T2 (s0 bs) (at36 bs Ψ)
 
       abbrev pub Φ : (bs : List.List Nat.ℕ) → Typed.TF T0 O0
-      Φ = λ bs. at36 bs
+      Φ = λ bs. at37 bs
 
       module _ {M : Type 1} (𝓤 : URA.URA M) (H : Wp.Heap 𝓤) (A : Atoms.Atoms 𝓤) (W : Kit.Given 𝓤 H A) (𝓣 : Wp.Tables 𝓤 H) where
         abbrev Knowns : Type 1
@@ -784,60 +807,60 @@ module _ (claims· : Claims) where
 
       module _ (κs : Lifetimes.Lfts 1) (qs : Lifetimes.Shares 1) where
         abbrev g8 : List.List Row.Entry
-        g8 = ε13 ∷ (1, Relend.mslice-owed in-Record.row τ3 0 1 (Row.lease (κs .0) (qs .0))) ∷ ε21 ∷ ε4 ∷ ε28 ∷ ε22 ∷ ε14 ∷ ε15 ∷ ε20 ∷ ε3 ∷ ε5 ∷ ε6 ∷
-            ε16 ∷ ε17 ∷ ε25 ∷ []
+        g8 = ε13 ∷ (1, Relend.mslice-owed in-Record.row τ3 0 1 (Row.lease (κs .0) (qs .0))) ∷ ε22 ∷ ε23 ∷ ε4 ∷ ε30 ∷ ε24 ∷ ε14 ∷ ε15 ∷ ε21 ∷ ε5 ∷ ε6 ∷
+            ε7 ∷ ε16 ∷ ε17 ∷ ε27 ∷ []
 
         abbrev g9 : List.List Row.Entry
-        g9 = ε13 ∷ (1, Relend.mslice-owed in-Record.row τ3 0 1 (Row.lease (κs .0) (qs .0))) ∷ ε21 ∷ ε4 ∷ ε28 ∷ ε22 ∷ ε14 ∷ ε15 ∷ ε2 ∷ ε19 ∷ ε5 ∷ ε6 ∷
-            ε16 ∷ ε17 ∷ ε25 ∷ []
+        g9 = ε13 ∷ (1, Relend.mslice-owed in-Record.row τ3 0 1 (Row.lease (κs .0) (qs .0))) ∷ ε22 ∷ ε23 ∷ ε4 ∷ ε30 ∷ ε24 ∷ ε14 ∷ ε15 ∷ ε2 ∷ ε20 ∷ ε6 ∷
+            ε7 ∷ ε16 ∷ ε17 ∷ ε27 ∷ []
 
         abbrev g10 : List.List Row.Entry
-        g10 = ε13 ∷ (1, Relend.mslice-owed in-Record.row τ3 0 1 (Row.lease (κs .0) (qs .0))) ∷ ε21 ∷ ε4 ∷ ε28 ∷ ε22 ∷ ε14 ∷ ε15 ∷ ε2 ∷ ε19 ∷ ε23 ∷ ε6
-            ∷ ε16 ∷ ε17 ∷ ε25 ∷ []
+        g10 = ε13 ∷ (1, Relend.mslice-owed in-Record.row τ3 0 1 (Row.lease (κs .0) (qs .0))) ∷ ε22 ∷ ε23 ∷ ε4 ∷ ε30 ∷ ε24 ∷ ε14 ∷ ε15 ∷ ε2 ∷ ε20 ∷ ε25
+            ∷ ε7 ∷ ε16 ∷ ε17 ∷ ε27 ∷ []
 
         abbrev g11 : List.List Row.Entry
-        g11 = ε13 ∷ (1, Relend.mslice-owed in-Record.row τ3 0 1 (Row.lease (κs .0) (qs .0))) ∷ ε21 ∷ ε4 ∷ ε28 ∷ ε22 ∷ ε14 ∷ ε15 ∷ ε2 ∷ ε19 ∷ ε23 ∷ ε24
-            ∷ ε16 ∷ ε17 ∷ ε25 ∷ []
+        g11 = ε13 ∷ (1, Relend.mslice-owed in-Record.row τ3 0 1 (Row.lease (κs .0) (qs .0))) ∷ ε22 ∷ ε23 ∷ ε4 ∷ ε30 ∷ ε24 ∷ ε14 ∷ ε15 ∷ ε2 ∷ ε20 ∷ ε25
+            ∷ ε26 ∷ ε16 ∷ ε17 ∷ ε27 ∷ []
 
         abbrev g12 : List.List Row.Entry
-        g12 = ε13 ∷ (1, Relend.mslice-owed in-Record.row τ3 0 1 (Row.lease (κs .0) (qs .0))) ∷ ε21 ∷ ε4 ∷ ε28 ∷ ε22 ∷ ε14 ∷ ε15 ∷ ε2 ∷ ε19 ∷ ε23 ∷ ε24
-            ∷ ε9 ∷ ε17 ∷ ε25 ∷ []
+        g12 = ε13 ∷ (1, Relend.mslice-owed in-Record.row τ3 0 1 (Row.lease (κs .0) (qs .0))) ∷ ε22 ∷ ε23 ∷ ε4 ∷ ε30 ∷ ε24 ∷ ε14 ∷ ε15 ∷ ε2 ∷ ε20 ∷ ε25
+            ∷ ε26 ∷ ε10 ∷ ε17 ∷ ε27 ∷ []
 
         abbrev g13 : List.List Row.Entry
-        g13 = ε13 ∷ (1, Relend.mslice-owed in-Record.row τ3 0 1 (Row.lease (κs .0) (qs .0))) ∷ ε21 ∷ ε4 ∷ ε28 ∷ ε22 ∷ ε14 ∷ ε15 ∷ ε2 ∷ ε19 ∷ ε23 ∷ ε24
-            ∷ ε9 ∷ ε10 ∷ ε25 ∷ []
+        g13 = ε13 ∷ (1, Relend.mslice-owed in-Record.row τ3 0 1 (Row.lease (κs .0) (qs .0))) ∷ ε22 ∷ ε23 ∷ ε4 ∷ ε30 ∷ ε24 ∷ ε14 ∷ ε15 ∷ ε2 ∷ ε20 ∷ ε25
+            ∷ ε26 ∷ ε10 ∷ ε11 ∷ ε27 ∷ []
 
         abbrev g14 : List.List Row.Entry
-        g14 = ε13 ∷ (1, Relend.mslice-owed in-Record.row τ3 0 1 (Row.lease (κs .0) (qs .0))) ∷ ε21 ∷ ε4 ∷ ε28 ∷ ε22 ∷ ε14 ∷ ε15 ∷ ε2 ∷ ε19 ∷ ε23 ∷ ε24
-            ∷ ε16 ∷ ε10 ∷ ε25 ∷ []
+        g14 = ε13 ∷ (1, Relend.mslice-owed in-Record.row τ3 0 1 (Row.lease (κs .0) (qs .0))) ∷ ε22 ∷ ε23 ∷ ε4 ∷ ε30 ∷ ε24 ∷ ε14 ∷ ε15 ∷ ε2 ∷ ε20 ∷ ε25
+            ∷ ε26 ∷ ε16 ∷ ε11 ∷ ε27 ∷ []
 
         abbrev g15 : List.List Row.Entry
-        g15 = ε13 ∷ (1, Relend.mslice-owed in-Record.row τ3 0 1 (Row.lease (κs .0) (qs .0))) ∷ ε21 ∷ ε4 ∷ ε28 ∷ ε22 ∷ ε14 ∷ ε15 ∷ ε2 ∷ ε19 ∷ ε23 ∷ ε24
-            ∷ ε16 ∷ ε10 ∷ ε26 ∷ []
+        g15 = ε13 ∷ (1, Relend.mslice-owed in-Record.row τ3 0 1 (Row.lease (κs .0) (qs .0))) ∷ ε22 ∷ ε23 ∷ ε4 ∷ ε30 ∷ ε24 ∷ ε14 ∷ ε15 ∷ ε2 ∷ ε20 ∷ ε25
+            ∷ ε26 ∷ ε16 ∷ ε11 ∷ ε28 ∷ []
 
         abbrev g16 : List.List Row.Entry
-        g16 = ε13 ∷ (1, Relend.mslice-owed in-Record.row τ3 0 1 (Row.lease (κs .0) (qs .0))) ∷ ε21 ∷ ε4 ∷ ε28 ∷ ε22 ∷ ε14 ∷ ε15 ∷ ε2 ∷ ε19 ∷ ε23 ∷ ε6
-            ∷ ε16 ∷ ε10 ∷ ε26 ∷ []
+        g16 = ε13 ∷ (1, Relend.mslice-owed in-Record.row τ3 0 1 (Row.lease (κs .0) (qs .0))) ∷ ε22 ∷ ε23 ∷ ε4 ∷ ε30 ∷ ε24 ∷ ε14 ∷ ε15 ∷ ε2 ∷ ε20 ∷ ε25
+            ∷ ε7 ∷ ε16 ∷ ε11 ∷ ε28 ∷ []
 
         abbrev g17 : List.List Row.Entry
-        g17 = ε13 ∷ (1, Relend.mslice-owed in-Record.row τ3 0 1 (Row.lease (κs .0) (qs .0))) ∷ ε21 ∷ ε4 ∷ ε28 ∷ ε22 ∷ ε14 ∷ ε15 ∷ ε2 ∷ ε19 ∷ ε23 ∷ ε6
-            ∷ ε16 ∷ ε17 ∷ ε26 ∷ []
+        g17 = ε13 ∷ (1, Relend.mslice-owed in-Record.row τ3 0 1 (Row.lease (κs .0) (qs .0))) ∷ ε22 ∷ ε23 ∷ ε4 ∷ ε30 ∷ ε24 ∷ ε14 ∷ ε15 ∷ ε2 ∷ ε20 ∷ ε25
+            ∷ ε7 ∷ ε16 ∷ ε17 ∷ ε28 ∷ []
 
         abbrev g18 : List.List Row.Entry
-        g18 = ε13 ∷ (1, Relend.mslice-owed in-Record.row τ3 0 1 (Row.lease (κs .0) (qs .0))) ∷ ε21 ∷ ε4 ∷ ε28 ∷ ε22 ∷ ε14 ∷ ε11 ∷ ε2 ∷ ε12 ∷ ε23 ∷ ε6
-            ∷ ε16 ∷ ε17 ∷ ε26 ∷ []
+        g18 = ε13 ∷ (1, Relend.mslice-owed in-Record.row τ3 0 1 (Row.lease (κs .0) (qs .0))) ∷ ε22 ∷ ε23 ∷ ε4 ∷ ε30 ∷ ε24 ∷ ε14 ∷ ε12 ∷ ε2 ∷ ε18 ∷ ε25
+            ∷ ε7 ∷ ε16 ∷ ε17 ∷ ε28 ∷ []
 
         abbrev g19 : List.List Row.Entry
-        g19 = ε13 ∷ (1, Relend.mslice-owed in-Record.row τ3 0 1 (Row.lease (κs .0) (qs .0))) ∷ ε21 ∷ ε4 ∷ ε28 ∷ ε22 ∷ ε14 ∷ ε15 ∷ ε2 ∷ ε12 ∷ ε23 ∷ ε6
-            ∷ ε16 ∷ ε17 ∷ ε26 ∷ []
+        g19 = ε13 ∷ (1, Relend.mslice-owed in-Record.row τ3 0 1 (Row.lease (κs .0) (qs .0))) ∷ ε22 ∷ ε23 ∷ ε4 ∷ ε30 ∷ ε24 ∷ ε14 ∷ ε15 ∷ ε2 ∷ ε18 ∷ ε25
+            ∷ ε7 ∷ ε16 ∷ ε17 ∷ ε28 ∷ []
 
         abbrev g20 : List.List Row.Entry
-        g20 = ε13 ∷ (1, Relend.mslice-owed in-Record.row τ3 0 1 (Row.lease (κs .0) (qs .0))) ∷ ε21 ∷ ε4 ∷ ε28 ∷ ε22 ∷ ε14 ∷ ε15 ∷ ε2 ∷ ε12 ∷ ε5 ∷ ε6 ∷
-            ε16 ∷ ε17 ∷ ε26 ∷ []
+        g20 = ε13 ∷ (1, Relend.mslice-owed in-Record.row τ3 0 1 (Row.lease (κs .0) (qs .0))) ∷ ε22 ∷ ε23 ∷ ε4 ∷ ε30 ∷ ε24 ∷ ε14 ∷ ε15 ∷ ε2 ∷ ε18 ∷ ε6
+            ∷ ε7 ∷ ε16 ∷ ε17 ∷ ε28 ∷ []
 
         abbrev g21 : List.List Row.Entry
-        g21 = ε13 ∷ (1, Relend.mslice-owed in-Record.row τ3 0 1 (Row.lease (κs .0) (qs .0))) ∷ ε21 ∷ ε4 ∷ ε28 ∷ ε22 ∷ ε14 ∷ ε15 ∷ ε2 ∷ ε12 ∷ ε5 ∷ ε6 ∷
-            ε16 ∷ ε17 ∷ ε25 ∷ []
+        g21 = ε13 ∷ (1, Relend.mslice-owed in-Record.row τ3 0 1 (Row.lease (κs .0) (qs .0))) ∷ ε22 ∷ ε23 ∷ ε4 ∷ ε30 ∷ ε24 ∷ ε14 ∷ ε15 ∷ ε2 ∷ ε18 ∷ ε6
+            ∷ ε7 ∷ ε16 ∷ ε17 ∷ ε27 ∷ []
 
         abbrev G0 : Row.Cx
         G0 = record { locals = t0; slots = (Row.lease (κs .0) (qs .0)) ∷ Row.off ∷ [] }
@@ -936,7 +959,10 @@ module _ (claims· : Claims) where
         G31 = record { locals = t23; slots = (Row.lease (κs .0) (qs .0)) ∷ Row.off ∷ [] }
 
         abbrev G32 : Row.Cx
-        G32 = record { locals = t1; slots = (Row.lease (κs .0) (qs .0)) ∷ Row.off ∷ [] }
+        G32 = record { locals = t24; slots = (Row.lease (κs .0) (qs .0)) ∷ Row.off ∷ [] }
+
+        abbrev G33 : Row.Cx
+        G33 = record { locals = t1; slots = (Row.lease (κs .0) (qs .0)) ∷ Row.off ∷ [] }
 
         abbrev Δ0 : Typed.Outs
         Δ0 = record { next = Option.none; exits = []; returns = Option.some G1 }
@@ -962,26 +988,26 @@ module _ (claims· : Claims) where
           d0 = Typed.t-skip 𝓤 H A W 𝓣 E Δ4 tt
 
           d1 : Typed.Typed 𝓤 H A 𝓣 E G6 b3 Δ4 (at1 bs)
-          d1 = Typed.g-pre 𝓤 H A W 𝓣 E G6 G8 b3 Δ4 (Typed.pass T6 T8 (s4 bs)) (at0 bs) (Scalar.g-room 𝓤 H A W E G6 6 Syntax.tyBool (Scalar.room-sc 𝓤 H
+          d1 = Typed.g-pre 𝓤 H A W 𝓣 E G6 G8 b3 Δ4 (Typed.pass T6 T8 (s4 bs)) (at0 bs) (Scalar.g-room 𝓤 H A W E G6 7 Syntax.tyBool (Scalar.room-sc 𝓤 H
               A W Row.sBool)) d0
 
           d2 : Typed.Typed 𝓤 H A 𝓣 E G10 b4 Δ4 (at2 bs)
           d2 = Typed.t-exit 𝓤 H A W 𝓣 E 1 Δ4 tt
 
           d3 : Typed.Typed 𝓤 H A 𝓣 E G9 b4 Δ4 (at3 bs)
-          d3 = Typed.g-pre 𝓤 H A W 𝓣 E G9 G10 b4 Δ4 (Typed.pass T9 T10 (s6 bs)) (at2 bs) (Scalar.g-room 𝓤 H A W E G9 6 Syntax.tyBool (Scalar.room-sc 𝓤
+          d3 = Typed.g-pre 𝓤 H A W 𝓣 E G9 G10 b4 Δ4 (Typed.pass T9 T10 (s6 bs)) (at2 bs) (Scalar.g-room 𝓤 H A W E G9 7 Syntax.tyBool (Scalar.room-sc 𝓤
               H A W Row.sBool)) d2
 
           d4 : Typed.Typed 𝓤 H A 𝓣 E G6 b4 Δ4 (at4 bs)
-          d4 = Typed.g-pre 𝓤 H A W 𝓣 E G6 G9 b4 Δ4 (Typed.pass T6 T9 (s5 bs)) (at3 bs) (Scalar.g-room 𝓤 H A W E G6 4 τ1 (Init.room-arr 𝓤 H A W
+          d4 = Typed.g-pre 𝓤 H A W 𝓣 E G6 G9 b4 Δ4 (Typed.pass T6 T9 (s5 bs)) (at3 bs) (Scalar.g-room 𝓤 H A W E G6 5 τ1 (Init.room-arr 𝓤 H A W
               (Declared.row Record.the-type) 16 0 16 Path'.refl)) d3
 
           d5 : Typed.Typed 𝓤 H A 𝓣 E G6 b5 Δ4 (at5 bs)
-          d5 = Scalar.t-cond 𝓤 H A W E 𝓣 G6 6 (λ x. x) b3 b4 Δ4 (at1 bs) (at4 bs) (Scalar.reads-sc 𝓤 H A W Row.sBool) Path'.refl d1 d4
+          d5 = Scalar.t-cond 𝓤 H A W E 𝓣 G6 7 (λ x. x) b3 b4 Δ4 (at1 bs) (at4 bs) (Scalar.reads-sc 𝓤 H A W Row.sBool) Path'.refl d1 d4
 
           d6 : Typed.Typed 𝓤 H A 𝓣 E G28 b14 Δ3 (at6 bs)
-          d6 = Typed.s-typed 𝓤 H A W 𝓣 E G28 b14 Δ3 (Typed.ask (s25 bs)) tt (Scalar.t-op2 𝓤 H A W E 𝓣 G28 (Syntax.add Syntax.unsigned) (Scalar.oAt 5
-              τ0 (Row.valS (Row.sInt Syntax.w64))) (Scalar.oInt Syntax.w64 1) 5 ρ3 τ0 (Row.valS (Row.sInt Syntax.w64)) (Row.sInt Syntax.w64 .of)
+          d6 = Typed.s-typed 𝓤 H A W 𝓣 E G28 b14 Δ3 (Typed.ask (s25 bs)) tt (Scalar.t-op2 𝓤 H A W E 𝓣 G28 (Syntax.add Syntax.unsigned) (Scalar.oAt 6
+              τ0 (Row.valS (Row.sInt Syntax.w64))) (Scalar.oInt Syntax.w64 1) 6 ρ3 τ0 (Row.valS (Row.sInt Syntax.w64)) (Row.sInt Syntax.w64 .of)
               (Scalar.reads-sc 𝓤 H A W (Row.sInt Syntax.w64), Path'.refl) tt (Scalar.room-sc 𝓤 H A W (Row.sInt Syntax.w64)) (Scalar.holds-sc 𝓤 H A W
               (Row.sInt Syntax.w64)) Path'.refl (λ u. Path'.refl) λ u. tt)
 
@@ -989,7 +1015,7 @@ module _ (claims· : Claims) where
           d7 = Typed.g-pre 𝓤 H A W 𝓣 E G27 G28 b14 Δ3 (λ Ψ. Ψ) (at6 bs) (Lifetime.g-forget 𝓤 H A W E G27 1 Row.dead Path'.refl) d6
 
           d8 : Typed.Typed 𝓤 H A 𝓣 E G26 b14 Δ3 (at8 bs)
-          d8 = Typed.g-pre 𝓤 H A W 𝓣 E G26 G27 b14 Δ3 (Typed.both (s23 bs)) (at7 bs) (Relend.g-back-sl 𝓤 H A W E in-Record.row G26 9 1 0 1 τ3 τ2
+          d8 = Typed.g-pre 𝓤 H A W 𝓣 E G26 G27 b14 Δ3 (Typed.both (s23 bs)) (at7 bs) (Relend.g-back-sl 𝓤 H A W E in-Record.row G26 10 1 0 1 τ3 τ2
               (Row.lease (κs .0) (qs .0)) (λ x. x) (λ x. x) (Reads.as-is 𝓤 H A (Mut.msleft in-Record.row τ2)) (Reads.as-is 𝓤 H A (Relend.mslice-owed
               in-Record.row τ3 0 1 (Row.lease (κs .0) (qs .0)))) Path'.refl Path'.refl) d7
 
@@ -997,42 +1023,39 @@ module _ (claims· : Claims) where
           d9 = Typed.g-pre 𝓤 H A W 𝓣 E G25 G26 b14 Δ3 (λ Ψ. Ψ) (at8 bs) (Lifetime.g-end 𝓤 H A W E G25 1 Path'.refl) d8
 
           d10 : Typed.Typed 𝓤 H A 𝓣 E G24 b14 Δ3 (at10 bs)
-          d10 = Typed.g-pre 𝓤 H A W 𝓣 E G24 G25 b14 Δ3 (Typed.pass T24 T25 (s21 bs)) (at9 bs) (Scalar.g-room 𝓤 H A W E G24 14 mirs.dl_record-Record
+          d10 = Typed.g-pre 𝓤 H A W 𝓣 E G24 G25 b14 Δ3 (Typed.pass T24 T25 (s21 bs)) (at9 bs) (Scalar.g-room 𝓤 H A W E G24 15 mirs.dl_record-Record
               (Local.room-whole 𝓤 H A W (Declared.row Record.the-type) mirs.dl_record-Record Path'.refl)) d9
 
           d11 : Typed.Typed 𝓤 H A 𝓣 E G23 b14 Δ3 (at11 bs)
-          d11 = Typed.g-pre 𝓤 H A W 𝓣 E G23 G24 b14 Δ3 (Typed.pass T23 T24 (s20 bs)) (at10 bs) (Scalar.g-room 𝓤 H A W E G23 10 τ0 (Scalar.room-sc 𝓤 H
+          d11 = Typed.g-pre 𝓤 H A W 𝓣 E G23 G24 b14 Δ3 (Typed.pass T23 T24 (s20 bs)) (at10 bs) (Scalar.g-room 𝓤 H A W E G23 11 τ0 (Scalar.room-sc 𝓤 H
               A W (Row.sInt Syntax.w64))) d10
 
           d12 : Typed.Typed 𝓤 H A 𝓣 E G22 b14 Δ3 (at12 bs)
-          d12 = Typed.g-pre 𝓤 H A W 𝓣 E G22 G23 b14 Δ3 (Typed.pass T22 T23 (s19 bs)) (at11 bs) (Scalar.g-room 𝓤 H A W E G22 7 Syntax.tyUnit
+          d12 = Typed.g-pre 𝓤 H A W 𝓣 E G22 G23 b14 Δ3 (Typed.pass T22 T23 (s19 bs)) (at11 bs) (Scalar.g-room 𝓤 H A W E G22 8 Syntax.tyUnit
               (Scalar.room-sc 𝓤 H A W Row.sUnit)) d11
 
           d13 : Typed.Typed 𝓤 H A 𝓣 E G21 b15 Δ3 (at13 bs)
           d13 = Typed.s-seq 𝓤 H A W 𝓣 E G21 G22 b13 b14 Δ3 (Typed.both (s18 bs)) (at12 bs) (Plain.t-call-plain 𝓤 H A W 𝓣 1 ps·0 r·0 (claims· .0)
               (claims· .1) "bs_sched::put_record" known E (λ pos β. β) G21 (
                 record {
-                  pos = 9;
-                  ty = Syntax.tyRef Syntax.erased Syntax.mut in-Record.at;
+                  pos = 10;
+                  ty = Syntax.tyRef Syntax.erased Syntax.mut
+                      in-Record.at;
                   ref = λ x. x;
                 },
-                (Num.vAt 10 λ x. x, (record { pos = 14; st = []; d = 0; at = λ x. x }, tt)),
-              ) 7 (1 ∷ []) (Call.sub-id 𝓤 H A W (G21
-              .slots)) (
+                (Num.vAt 11 λ x. x, (record { pos = 15; st = []; d = 0; at = λ x. x }, tt)),
+              ) 8 (1 ∷ []) (Call.sub-id 𝓤 H A
+              W (G21 .slots)) (
                 Reads.as-is 𝓤 H A (Mut.mslice in-Record.row τ2 1),
                 Mut.reads-mslice 𝓤 H A W in-Record.row τ2 1,
                 Path'.refl,
                 (
-                  (
-                    Scalar.reads-sc
-                        𝓤 H A W (Row.sInt Syntax.w64),
-                    Path'.refl,
-                  ),
+                  (Scalar.reads-sc 𝓤 H A W (Row.sInt Syntax.w64), Path'.refl),
                   (
                     (
-                      Yields.yields-copy 𝓤 H A W (λ ρ. Unit) (Declared.row Record.the-type) Path'.refl
-                          (Copies.cStruct Record.the-type Laws.the-laws Laws.the-copy .copy 𝓤 H A W) ρ4 (λ x. x) (λ x. x) (λ ρ told. Local.mem-whole 𝓤 H A W
-                          (Declared.row Record.the-type) ρ) λ ρ told. Local.whole-mem 𝓤 H A W (Declared.row Record.the-type) ρ,
+                      Yields.yields-copy 𝓤 H A W (λ ρ. Unit) (Declared.row Record.the-type)
+                          Path'.refl (Copies.cStruct Record.the-type Laws.the-laws Laws.the-copy .copy 𝓤 H A W) ρ4 (λ x. x) (λ x. x) (λ ρ told. Local.mem-whole 𝓤
+                          H A W (Declared.row Record.the-type) ρ) λ ρ told. Local.whole-mem 𝓤 H A W (Declared.row Record.the-type) ρ,
                       Path'.refl,
                     ),
                     tt,
@@ -1042,17 +1065,17 @@ module _ (claims· : Claims) where
               (Reads.room-gone 𝓤 H A Syntax.tyUnit) (tt, tt) Path'.refl) d12
 
           d14 : Typed.Typed 𝓤 H A 𝓣 E G20 b15 Δ3 (at14 bs)
-          d14 = Typed.g-pre 𝓤 H A W 𝓣 E G20 G21 b15 Δ3 (Typed.pass T20 T21 (s17 bs)) (at13 bs) (Scalar.g-room 𝓤 H A W E G20 13 Syntax.tyPtr
+          d14 = Typed.g-pre 𝓤 H A W 𝓣 E G20 G21 b15 Δ3 (Typed.pass T20 T21 (s17 bs)) (at13 bs) (Scalar.g-room 𝓤 H A W E G20 14 Syntax.tyPtr
               (Scalar.room-sc 𝓤 H A W Row.sPtr)) d13
 
           d15 : Typed.Typed 𝓤 H A 𝓣 E G19 b15 Δ3 (at15 bs)
-          d15 = Typed.g-pre 𝓤 H A W 𝓣 E G19 G20 b15 Δ3 (Typed.pass T19 T20 (s16 bs)) (at14 bs) (Scalar.g-room 𝓤 H A W E G19 11 τ0 (Scalar.room-sc 𝓤 H
+          d15 = Typed.g-pre 𝓤 H A W 𝓣 E G19 G20 b15 Δ3 (Typed.pass T19 T20 (s16 bs)) (at14 bs) (Scalar.g-room 𝓤 H A W E G19 12 τ0 (Scalar.room-sc 𝓤 H
               A W (Row.sInt Syntax.w64))) d14
 
           d16 : Typed.Typed 𝓤 H A 𝓣 E G18 b16 Δ3 (at16 bs)
           d16 = Typed.s-seq 𝓤 H A W 𝓣 E G18 G19 b12 b15 Δ3 (Typed.both (s15 bs)) (at15 bs) (Move.t-arr-copy-out 𝓤 H A W E 𝓣 (Declared.row
               Record.the-type) Path'.refl (Copies.cStruct Record.the-type Laws.the-laws Laws.the-copy .copy 𝓤 H A W) (Init.scaled (Declared.row
-              Record.the-type)) (λ ρ. Unit) G18 4 13 14 16 0 mirs.dl_record-Record mirs.dl_record-Record ρ4 (λ x. x) (Record.struct .make (
+              Record.the-type)) (λ ρ. Unit) G18 5 14 15 16 0 mirs.dl_record-Record mirs.dl_record-Record ρ4 (λ x. x) (Record.struct .make (
                 Kind.enum
                     .make (Logic.inl tt),
                 (
@@ -1094,34 +1117,34 @@ module _ (claims· : Claims) where
                     ),
                   ),
                 ),
-              ) tt) (λ x. Unit) (λ x. x) (λ x. x) (λ u. u .1 .1 .1 .1 .1 .0) Path'.refl Path'.refl
+              ) tt) (λ x. Unit) (λ x. x) (λ x. x) (λ u. u .1 .1 .1 .1 .1 .1 .0) Path'.refl Path'.refl
               (Own.told-none 𝓤 H A (G18 .slots)) (DerefMove.learns-nothing 𝓤 H A (Declared.row Record.the-type)) (Reads.as-is 𝓤 H A ρ5) (Reads.as-is 𝓤
               H A ρ0) (Reads.room-gone 𝓤 H A mirs.dl_record-Record) (Yields.makes-mem 𝓤 H A W (λ ρ. Unit) (Declared.row Record.the-type) Path'.refl ρ4
               (λ x. x) λ ρ told. Local.whole-mem 𝓤 H A W (Declared.row Record.the-type) ρ) Path'.refl Path'.refl) d15
 
           d17 : Typed.Typed 𝓤 H A 𝓣 E G17 b16 Δ3 (at17 bs)
-          d17 = Typed.g-pre 𝓤 H A W 𝓣 E G17 G18 b16 Δ3 (Typed.pass T17 T18 (s14 bs)) (at16 bs) (Scalar.g-room 𝓤 H A W E G17 12 Syntax.tyPtr
+          d17 = Typed.g-pre 𝓤 H A W 𝓣 E G17 G18 b16 Δ3 (Typed.pass T17 T18 (s14 bs)) (at16 bs) (Scalar.g-room 𝓤 H A W E G17 13 Syntax.tyPtr
               (Scalar.room-sc 𝓤 H A W Row.sPtr)) d16
 
           d18 : Typed.Typed 𝓤 H A 𝓣 E G16 b17 Δ3 (at18 bs)
-          d18 = Typed.s-seq 𝓤 H A W 𝓣 E G16 G17 b11 b16 Δ3 (Typed.ask (s13 bs)) (at17 bs) (Scalar.t-op2 𝓤 H A W E 𝓣 G16 Syntax.offset (Scalar.oAt 12
-              Syntax.tyPtr (Row.valS Row.sPtr)) (Scalar.oAt 11 τ0 (Row.valS (Row.sInt Syntax.w64))) 13 ρ0 Syntax.tyPtr (Row.valS Row.sPtr) (Row.sPtr
+          d18 = Typed.s-seq 𝓤 H A W 𝓣 E G16 G17 b11 b16 Δ3 (Typed.ask (s13 bs)) (at17 bs) (Scalar.t-op2 𝓤 H A W E 𝓣 G16 Syntax.offset (Scalar.oAt 13
+              Syntax.tyPtr (Row.valS Row.sPtr)) (Scalar.oAt 12 τ0 (Row.valS (Row.sInt Syntax.w64))) 14 ρ0 Syntax.tyPtr (Row.valS Row.sPtr) (Row.sPtr
               .of) (Scalar.reads-sc 𝓤 H A W Row.sPtr, Path'.refl) (Scalar.reads-sc 𝓤 H A W (Row.sInt Syntax.w64), Path'.refl) (Reads.room-gone 𝓤 H A
               Syntax.tyPtr) (Scalar.holds-sc 𝓤 H A W Row.sPtr) Path'.refl (λ u. Path'.refl) λ u. tt) d17
 
           d19 : Typed.Typed 𝓤 H A 𝓣 E G15 b18 Δ3 (at19 bs)
-          d19 = Typed.s-seq 𝓤 H A W 𝓣 E G15 G16 b10 b17 Δ3 (Typed.pass T15 T16 (s12 bs)) (at18 bs) (Init.t-addr 𝓤 H A W E 𝓣 G15 12 4 (Reads.room-gone
+          d19 = Typed.s-seq 𝓤 H A W 𝓣 E G15 G16 b10 b17 Δ3 (Typed.pass T15 T16 (s12 bs)) (at18 bs) (Init.t-addr 𝓤 H A W E 𝓣 G15 13 5 (Reads.room-gone
               𝓤 H A Syntax.tyPtr) Path'.refl) d18
 
           d20 : Typed.Typed 𝓤 H A 𝓣 E G14 b19 Δ3 (at20 bs)
           d20 = Typed.s-seq 𝓤 H A W 𝓣 E G14 G15 b9 b18 Δ3 (Typed.ask (s11 bs)) (at19 bs) (Scalar.t-op2 𝓤 H A W E 𝓣 G14 (Syntax.mul Syntax.unsigned)
-              (Scalar.oAt 5 τ0 (Row.valS (Row.sInt Syntax.w64))) (Scalar.oInt Syntax.w64 44) 11 ρ3 τ0 (Row.valS (Row.sInt Syntax.w64)) (Row.sInt
+              (Scalar.oAt 6 τ0 (Row.valS (Row.sInt Syntax.w64))) (Scalar.oInt Syntax.w64 44) 12 ρ3 τ0 (Row.valS (Row.sInt Syntax.w64)) (Row.sInt
               Syntax.w64 .of) (Scalar.reads-sc 𝓤 H A W (Row.sInt Syntax.w64), Path'.refl) tt (Reads.room-gone 𝓤 H A τ0) (Scalar.holds-sc 𝓤 H A W
               (Row.sInt Syntax.w64)) Path'.refl (λ u. Path'.refl) λ u. tt) d19
 
           d21 : Typed.Typed 𝓤 H A 𝓣 E G13 b20 Δ3 (at21 bs)
           d21 = Typed.s-seq 𝓤 H A W 𝓣 E G13 G14 b8 b19 Δ3 (Typed.ask (s10 bs)) (at20 bs) (Scalar.t-op2 𝓤 H A W E 𝓣 G13 (Syntax.add Syntax.unsigned)
-              (Scalar.oAt 2 τ0 (Row.valS (Row.sInt Syntax.w64))) (Scalar.oAt 5 τ0 (Row.valS (Row.sInt Syntax.w64))) 10 ρ3 τ0 (Row.valS (Row.sInt
+              (Scalar.oAt 2 τ0 (Row.valS (Row.sInt Syntax.w64))) (Scalar.oAt 6 τ0 (Row.valS (Row.sInt Syntax.w64))) 11 ρ3 τ0 (Row.valS (Row.sInt
               Syntax.w64)) (Row.sInt Syntax.w64 .of) (Scalar.reads-sc 𝓤 H A W (Row.sInt Syntax.w64), Path'.refl) (
                 Scalar.reads-sc 𝓤 H A W (Row.sInt
                     Syntax.w64),
@@ -1131,7 +1154,7 @@ module _ (claims· : Claims) where
 
           d22 : Typed.Typed 𝓤 H A 𝓣 E G12 b21 Δ3 (at22 bs)
           d22 = Typed.s-seq 𝓤 H A W 𝓣 E G12 G13 b7 b20 Δ3 (Typed.ask (s9 bs)) (at21 bs) (Relend.t-sl-aggregate 𝓤 H A W E in-Record.row 𝓣 (Relend.asMut
-              in-Record.row) G12 8 9 1 τ2 τ2 (λ x. x) (Scalar.oFld 1 ((Syntax.field 1) ∷ []) τ0 8 λ v. Shared.lenV (v .0)) (Reads.as-is 𝓤 H A
+              in-Record.row) G12 9 10 1 τ2 τ2 (λ x. x) (Scalar.oFld 1 ((Syntax.field 1) ∷ []) τ0 8 λ v. Shared.lenV (v .0)) (Reads.as-is 𝓤 H A
               (Relend.msptr in-Record.row τ2 1)) (Reads.room-gone 𝓤 H A τ4) (
                 Relend.reads-owed-len 𝓤 H A W in-Record.row τ3 0 1 (Row.lease (κs .0) (qs
                     .0)) 8 Path'.refl,
@@ -1139,7 +1162,7 @@ module _ (claims· : Claims) where
               ) Path'.refl Path'.refl λ b o k. tt) d21
 
           d23 : Typed.Typed 𝓤 H A 𝓣 E G11 b22 Δ3 (at23 bs)
-          d23 = Typed.s-seq 𝓤 H A W 𝓣 E G11 G12 b6 b21 Δ3 (Typed.give (s8 bs)) (at22 bs) (Relend.t-sl-relend 𝓤 H A W E in-Record.row 𝓣 G11 1 8 0 1 τ3
+          d23 = Typed.s-seq 𝓤 H A W 𝓣 E G11 G12 b6 b21 Δ3 (Typed.give (s8 bs)) (at22 bs) (Relend.t-sl-relend 𝓤 H A W E in-Record.row 𝓣 G11 1 9 0 1 τ3
               τ2 (Row.lease (κs .0) (qs .0)) 0 (λ x. x) (Reads.as-is 𝓤 H A (Mut.mslice in-Record.row τ3 0)) (Reads.room-gone 𝓤 H A τ2) Path'.refl tt
               Path'.refl Path'.refl Path'.refl λ b o. tt) d22
 
@@ -1162,7 +1185,7 @@ module _ (claims· : Claims) where
                           tt,
                           (
                             tt,
-                            (tt, (tt, (tt, (tt, (tt, (tt, tt)))))),
+                            (tt, (tt, (tt, (tt, (tt, (tt, (tt, tt))))))),
                           ),
                         ),
                       ),
@@ -1178,71 +1201,79 @@ module _ (claims· : Claims) where
 
           d26 : Typed.Typed 𝓤 H A 𝓣 E G4 b24 Δ3 (at26 bs)
           d26 = Typed.s-seq 𝓤 H A W 𝓣 E G4 G6 b2 b23 Δ3 (Typed.ask (s3 bs)) (at25 bs) (Scalar.t-op2 𝓤 H A W E 𝓣 G4 (Syntax.lt Syntax.unsigned)
-              (Scalar.oAt 5 τ0 (Row.valS (Row.sInt Syntax.w64))) (Scalar.oInt Syntax.w64 16) 6 ρ1 Syntax.tyBool (Row.valS Row.sBool) (Row.sBool .of)
-              (Scalar.reads-sc 𝓤 H A W (Row.sInt Syntax.w64), Path'.refl) tt (Reads.room-gone 𝓤 H A Syntax.tyBool) (Scalar.holds-sc 𝓤 H A W Row.sBool)
-              Path'.refl (λ u. Path'.refl) λ u. tt) d25
+              (Scalar.oAt 6 τ0 (Row.valS (Row.sInt Syntax.w64))) (Scalar.oAt 3 τ0 (Row.valS (Row.sInt Syntax.w64))) 7 ρ1 Syntax.tyBool (Row.valS
+              Row.sBool) (Row.sBool .of) (Scalar.reads-sc 𝓤 H A W (Row.sInt Syntax.w64), Path'.refl) (
+                Scalar.reads-sc 𝓤 H A W (Row.sInt Syntax.w64),
+                Path'.refl,
+              ) (Reads.room-gone 𝓤 H A Syntax.tyBool) (Scalar.holds-sc 𝓤 H A W Row.sBool) Path'.refl (λ u. Path'.refl) λ u. tt) d25
 
           d27 : Typed.Typed 𝓤 H A 𝓣 E G4 b25 Δ2 (at27 bs)
-          d27 = Typed.t-loop-by 𝓤 H A W 𝓣 E G4 b24 Δ2 put0 (λ u vs. Inv·0 (Row.get 1 (T4 .locals) u .now) (Row.get 2 (T4 .locals) u) (Row.get 4 (T4
-              .locals) u) (Row.get 5 (T4 .locals) u) (vs .0) (vs .1)) (λ u vs. μ·0 (Row.get 1 (T4 .locals) u .now) (Row.get 2 (T4 .locals) u) (Row.get
-              4 (T4 .locals) u) (Row.get 5 (T4 .locals) u) (vs .0) (vs .1)) (at26 bs) d26
+          d27 = Typed.t-loop-by 𝓤 H A W 𝓣 E G4 b24 Δ2 put0 (λ u vs. Inv·0 (Row.get 1 (T4 .locals) u .now) (Row.get 2 (T4 .locals) u) (Row.get 3 (T4
+              .locals) u) (Row.get 5 (T4 .locals) u) (Row.get 6 (T4 .locals) u) (vs .0) (vs .1)) (λ u vs. μ·0 (Row.get 1 (T4 .locals) u .now) (Row.get
+              2 (T4 .locals) u) (Row.get 3 (T4 .locals) u) (Row.get 5 (T4 .locals) u) (Row.get 6 (T4 .locals) u) (vs .0) (vs .1)) (at26 bs) d26
 
           d28 : Typed.Typed 𝓤 H A 𝓣 E G4 b26 Δ1 (at28 bs)
           d28 = Typed.t-block 𝓤 H A W 𝓣 E G4 b25 Δ1 (at27 bs) d27
 
-          d29 : Typed.Typed 𝓤 H A 𝓣 E G32 b28 Δ0 (at29 bs)
+          d29 : Typed.Typed 𝓤 H A 𝓣 E G33 b28 Δ0 (at29 bs)
           d29 = Typed.t-return 𝓤 H A W 𝓣 E Δ0 tt
 
-          d30 : Typed.Typed 𝓤 H A 𝓣 E G31 b28 Δ0 (at30 bs)
-          d30 = Typed.g-pre 𝓤 H A W 𝓣 E G31 G32 b28 Δ0 (Typed.pass T31 T32 (s28 bs)) (at29 bs) (Scalar.g-room 𝓤 H A W E G31 2 τ0 (Scalar.room-sc 𝓤 H A
+          d30 : Typed.Typed 𝓤 H A 𝓣 E G32 b28 Δ0 (at30 bs)
+          d30 = Typed.g-pre 𝓤 H A W 𝓣 E G32 G33 b28 Δ0 (Typed.pass T32 T33 (s29 bs)) (at29 bs) (Scalar.g-room 𝓤 H A W E G32 3 τ0 (Scalar.room-sc 𝓤 H A
               W (Row.sInt Syntax.w64))) d29
 
-          d31 : Typed.Typed 𝓤 H A 𝓣 E G30 b28 Δ0 (at31 bs)
-          d31 = Typed.g-pre 𝓤 H A W 𝓣 E G30 G31 b28 Δ0 (Typed.pass T30 T31 (s27 bs)) (at30 bs) (Scalar.g-room 𝓤 H A W E G30 5 τ0 (Scalar.room-sc 𝓤 H A
+          d31 : Typed.Typed 𝓤 H A 𝓣 E G31 b28 Δ0 (at31 bs)
+          d31 = Typed.g-pre 𝓤 H A W 𝓣 E G31 G32 b28 Δ0 (Typed.pass T31 T32 (s28 bs)) (at30 bs) (Scalar.g-room 𝓤 H A W E G31 2 τ0 (Scalar.room-sc 𝓤 H A
               W (Row.sInt Syntax.w64))) d30
 
-          d32 : Typed.Typed 𝓤 H A 𝓣 E G5 b29 Δ0 (at32 bs)
-          d32 = Typed.s-seq 𝓤 H A W 𝓣 E G5 G30 b27 b28 Δ0 (Typed.pass T5 T30 (s26 bs)) (at31 bs) (Scalar.t-use 𝓤 H A W E 𝓣 G5 Scalar.oUnit 0 ρ2
+          d32 : Typed.Typed 𝓤 H A 𝓣 E G30 b28 Δ0 (at32 bs)
+          d32 = Typed.g-pre 𝓤 H A W 𝓣 E G30 G31 b28 Δ0 (Typed.pass T30 T31 (s27 bs)) (at31 bs) (Scalar.g-room 𝓤 H A W E G30 6 τ0 (Scalar.room-sc 𝓤 H A
+              W (Row.sInt Syntax.w64))) d31
+
+          d33 : Typed.Typed 𝓤 H A 𝓣 E G5 b29 Δ0 (at33 bs)
+          d33 = Typed.s-seq 𝓤 H A W 𝓣 E G5 G30 b27 b28 Δ0 (Typed.pass T5 T30 (s26 bs)) (at32 bs) (Scalar.t-use 𝓤 H A W E 𝓣 G5 Scalar.oUnit 0 ρ2
               Syntax.tyUnit (Row.valS Row.sUnit) (Row.sUnit .of) tt (Reads.room-gone 𝓤 H A Syntax.tyUnit) (Scalar.holds-sc 𝓤 H A W Row.sUnit)
-              Path'.refl (λ u. Path'.refl) λ u. tt) d31
+              Path'.refl (λ u. Path'.refl) λ u. tt) d32
 
-          d33 : Typed.Typed 𝓤 H A 𝓣 E G4 b30 Δ0 (at33 bs)
-          d33 = Typed.t-seq 𝓤 H A W 𝓣 E G4 G5 b26 b29 Δ0 (at28 bs) (at32 bs) d28 d32
+          d34 : Typed.Typed 𝓤 H A 𝓣 E G4 b30 Δ0 (at34 bs)
+          d34 = Typed.t-seq 𝓤 H A W 𝓣 E G4 G5 b26 b29 Δ0 (at28 bs) (at33 bs) d28 d33
 
-          d34 : Typed.Typed 𝓤 H A 𝓣 E G3 b31 Δ0 (at34 bs)
-          d34 = Typed.s-seq 𝓤 H A W 𝓣 E G3 G4 b1 b30 Δ0 (Typed.pass T3 T4 (s2 bs)) (at33 bs) (Scalar.t-use 𝓤 H A W E 𝓣 G3 (Scalar.oInt Syntax.w64 0) 5
+          d35 : Typed.Typed 𝓤 H A 𝓣 E G3 b31 Δ0 (at35 bs)
+          d35 = Typed.s-seq 𝓤 H A W 𝓣 E G3 G4 b1 b30 Δ0 (Typed.pass T3 T4 (s2 bs)) (at34 bs) (Scalar.t-use 𝓤 H A W E 𝓣 G3 (Scalar.oInt Syntax.w64 0) 6
               ρ3 τ0 (Row.valS (Row.sInt Syntax.w64)) (Row.sInt Syntax.w64 .of) tt (Reads.room-gone 𝓤 H A τ0) (Scalar.holds-sc 𝓤 H A W (Row.sInt
-              Syntax.w64)) Path'.refl (λ u. Path'.refl) λ u. tt) d33
+              Syntax.w64)) Path'.refl (λ u. Path'.refl) λ u. tt) d34
 
-          d35 : Typed.Typed 𝓤 H A 𝓣 E G2 b31 Δ0 (at35 bs)
-          d35 = Typed.g-pre 𝓤 H A W 𝓣 E G2 G3 b31 Δ0 (Typed.pass T2 T3 (s1 bs)) (at34 bs) (Scalar.g-room 𝓤 H A W E G2 3 τ1 (Init.room-arr 𝓤 H A W
-              (Declared.row Record.the-type) 16 0 16 Path'.refl)) d34
+          d36 : Typed.Typed 𝓤 H A 𝓣 E G2 b31 Δ0 (at36 bs)
+          d36 = Typed.g-pre 𝓤 H A W 𝓣 E G2 G3 b31 Δ0 (Typed.pass T2 T3 (s1 bs)) (at35 bs) (Scalar.g-room 𝓤 H A W E G2 4 τ1 (Init.room-arr 𝓤 H A W
+              (Declared.row Record.the-type) 16 0 16 Path'.refl)) d35
 
-          d36 : Typed.Typed 𝓤 H A 𝓣 E G0 b32 Δ0 (at36 bs)
-          d36 = Typed.s-seq 𝓤 H A W 𝓣 E G0 G2 b0 b31 Δ0 (Typed.pass T0 T2 (s0 bs)) (at35 bs) (LocalCopy.t-val-copy 𝓤 H A W E 𝓣 (λ ρ. Unit) G0 3 4
+          d37 : Typed.Typed 𝓤 H A 𝓣 E G0 b32 Δ0 (at37 bs)
+          d37 = Typed.s-seq 𝓤 H A W 𝓣 E G0 G2 b0 b31 Δ0 (Typed.pass T0 T2 (s0 bs)) (at36 bs) (LocalCopy.t-val-copy 𝓤 H A W E 𝓣 (λ ρ. Unit) G0 4 5
               (Array'.Array (Declared.row Record.the-type) 16) τ1 τ1 ρ5 ρ5 (λ x. x) (λ x. x) (λ x. x) Path'.refl (Own.told-none 𝓤 H A (G0 .slots))
               (Yields.yields-copy 𝓤 H A W (λ ρ. Unit) (Array'.Array (Declared.row Record.the-type) 16) Path'.refl (Copies.cArr (Declared.row
               Record.the-type) (Copies.cStruct Record.the-type Laws.the-laws Laws.the-copy) 16 .copy 𝓤 H A W) ρ5 (λ x. x) (λ x. x) (λ ρ told.
               Whole.mem-arr 𝓤 H A W (Declared.row Record.the-type) 16 ρ) λ ρ told. Whole.arr-mem 𝓤 H A W (Declared.row Record.the-type) 16 tt ρ)
               (Reads.room-gone 𝓤 H A τ1) (Yields.makes-mem 𝓤 H A W (λ ρ. Unit) (Array'.Array (Declared.row Record.the-type) 16) Path'.refl ρ5 (λ x. x)
-              λ ρ told. Whole.arr-mem 𝓤 H A W (Declared.row Record.the-type) 16 tt ρ) Path'.refl Path'.refl) d35
+              λ ρ told. Whole.arr-mem 𝓤 H A W (Declared.row Record.the-type) 16 tt ρ) Path'.refl Path'.refl) d36
 
           pub typed : Typed.Typed 𝓤 H A 𝓣 E (Function.Γin 1 ps r xs m κs qs) b32 (Function.Δret 1 ps r xs m κs qs) (Φ bs)
-          typed = d36
+          typed = d37
 
       module _ (κs : Lifetimes.Lfts 1) where
         pub record Args : Type 0 where
           pub queue : Kinds.Den {n = 1} κs (MutSlice.pMutS in-Record.row 0 tt)
           pub first : Kinds.Den {n = 1} κs (Num.pNum Syntax.w64)
-          pub t3 : Kinds.Den {n = 1} κs (Array.pArr (Array.eStruct Record.the-type Laws.the-laws Laws.the-copy) (Array.eStruct-laws Record.the-type
+          pub n : Kinds.Den {n = 1} κs (Num.pNum Syntax.w64)
+          pub t4 : Kinds.Den {n = 1} κs (Array.pArr (Array.eStruct Record.the-type Laws.the-laws Laws.the-copy) (Array.eStruct-laws Record.the-type
               Laws.the-laws Laws.the-copy Laws.the-plain) 16)
 
         abbrev pub dens : (a : Args) → Kinds.Dens κs ps
-        dens = λ a. (a .queue, (a .first, (a .t3, tt)))
+        dens = λ a. (a .queue, (a .first, (a .n, (a .t4, tt))))
 
         module _ (args· : Args) where
           pub record Ranges : Type 0 where
             pub first : Val.Fits Syntax.w64 (args· .first)
+            pub n : Val.Fits Syntax.w64 (args· .n)
 
       abbrev pub m0 : (κs : Lifetimes.Lfts 1) → (args : Args κs) → (blocks : List.List Nat.ℕ) → Typed.Mo T0
       m0 = λ κs args blocks. (tt, Enter.partsP κs 1 ps xs (dens κs args))
@@ -1273,18 +1304,19 @@ module _ (claims· : Claims) where
       m3 = λ κs args blocks. s2 blocks (m2 κs args blocks)
 
       abbrev W1 : (κs : Lifetimes.Lfts 1) → (args : Args κs) → (blocks : List.List Nat.ℕ) → Typed.Want O1
-      W1 = λ κs args blocks. Typed.wantNext T5 O0 (at32 blocks (W0 κs args blocks)) (W0 κs args blocks)
+      W1 = λ κs args blocks. Typed.wantNext T5 O0 (at33 blocks (W0 κs args blocks)) (W0 κs args blocks)
 
       abbrev W2 : (κs : Lifetimes.Lfts 1) → (args : Args κs) → (blocks : List.List Nat.ℕ) → Typed.Want O2
       W2 = λ κs args blocks. Typed.inBlock O1 (W1 κs args blocks)
 
       abbrev pub Need-loop-holds : Type 0
       Need-loop-holds = (c : Start) → Inv·0 (Row.get 1 (T4 .locals) (m3 (c .κs) (c .args) (c .blocks)) .now) (Row.get 2 (T4 .locals) (m3 (c .κs) (c
-          .args) (c .blocks))) (Row.get 4 (T4 .locals) (m3 (c .κs) (c .args) (c .blocks))) (Row.get 5 (T4 .locals) (m3 (c .κs) (c .args) (c .blocks)))
-          (Row.get 1 (T4 .locals) (m3 (c .κs) (c .args) (c .blocks)) .now) (Row.get 5 (T4 .locals) (m3 (c .κs) (c .args) (c .blocks)))
+          .args) (c .blocks))) (Row.get 3 (T4 .locals) (m3 (c .κs) (c .args) (c .blocks))) (Row.get 5 (T4 .locals) (m3 (c .κs) (c .args) (c .blocks)))
+          (Row.get 6 (T4 .locals) (m3 (c .κs) (c .args) (c .blocks))) (Row.get 1 (T4 .locals) (m3 (c .κs) (c .args) (c .blocks)) .now) (Row.get 6 (T4
+          .locals) (m3 (c .κs) (c .args) (c .blocks)))
 
       abbrev pub m4 : (before : Start) → (queue : List.List (in-Record.row .Denot)) → (i : Rows'.sc-here (Row.sInt Syntax.w64) .Mod) → Typed.Mo T4
-      m4 = λ before queue i. Row.set 5 ε22 i (Row.setRow 1 ε18 (T4 .locals)) (Row.set 1 ε18 record {
+      m4 = λ before queue i. Row.set 6 ε24 i (Row.setRow 1 ε19 (T4 .locals)) (Row.set 1 ε19 record {
         ptr = Row.get 1 (T4 .locals) (m3 (before .κs)
             (before .args) (before .blocks)) .ptr;
         name = Row.get 1 (T4 .locals) (m3 (before .κs) (before .args) (before .blocks)) .name;
@@ -1294,9 +1326,9 @@ module _ (claims· : Claims) where
 
       abbrev W3 : (before : Start) → (queue : List.List (in-Record.row .Denot)) → (i : Rows'.sc-here (Row.sInt Syntax.w64) .Mod) → Typed.Want O3
       W3 = λ before queue i. Typed.inLoop T4 O2 (Typed.Round T4 O2 put0 (λ u vs. Inv·0 (Row.get 1 (T4 .locals) u .now) (Row.get 2 (T4 .locals) u)
-          (Row.get 4 (T4 .locals) u) (Row.get 5 (T4 .locals) u) (vs .0) (vs .1)) (λ u vs. μ·0 (Row.get 1 (T4 .locals) u .now) (Row.get 2 (T4 .locals)
-          u) (Row.get 4 (T4 .locals) u) (Row.get 5 (T4 .locals) u) (vs .0) (vs .1)) (at26 (before .blocks)) (m3 (before .κs) (before .args) (before
-          .blocks)) (queue, i)) (W2 (before .κs) (before .args) (before .blocks))
+          (Row.get 3 (T4 .locals) u) (Row.get 5 (T4 .locals) u) (Row.get 6 (T4 .locals) u) (vs .0) (vs .1)) (λ u vs. μ·0 (Row.get 1 (T4 .locals) u
+          .now) (Row.get 2 (T4 .locals) u) (Row.get 3 (T4 .locals) u) (Row.get 5 (T4 .locals) u) (Row.get 6 (T4 .locals) u) (vs .0) (vs .1)) (at26
+          (before .blocks)) (m3 (before .κs) (before .args) (before .blocks)) (queue, i)) (W2 (before .κs) (before .args) (before .blocks))
 
       abbrev pub m5 : (before : Start) → (queue : List.List (in-Record.row .Denot)) → (i : Rows'.sc-here (Row.sInt Syntax.w64) .Mod) → Typed.Mo T6
       m5 = λ before queue i. s3 (before .blocks) .next (m4 before queue i)
@@ -1309,8 +1341,9 @@ module _ (claims· : Claims) where
           pub queue : List.List (in-Record.row .Denot)
           pub i : Rows'.sc-here (Row.sInt Syntax.w64) .Mod
           pub inv : Inv·0 (Row.get 1 (T4 .locals) (m3 (before· .κs) (before· .args) (before· .blocks)) .now) (Row.get 2 (T4 .locals) (m3 (before· .κs)
-              (before· .args) (before· .blocks))) (Row.get 4 (T4 .locals) (m3 (before· .κs) (before· .args) (before· .blocks))) (Row.get 5 (T4
-              .locals) (m3 (before· .κs) (before· .args) (before· .blocks))) queue i
+              (before· .args) (before· .blocks))) (Row.get 3 (T4 .locals) (m3 (before· .κs) (before· .args) (before· .blocks))) (Row.get 5 (T4
+              .locals) (m3 (before· .κs) (before· .args) (before· .blocks))) (Row.get 6 (T4 .locals) (m3 (before· .κs) (before· .args) (before·
+              .blocks))) queue i
 
       pub record At-loop : Type 0 where
         pub before : Start
@@ -1318,7 +1351,8 @@ module _ (claims· : Claims) where
 
       module _ (before· : At-loop) where
         pub record In-loop·own : Type 0 where
-          pub taken : Nat._<_ (Row.get 5 (T4 .locals) (m4 (before· .before) (before· .loop .queue) (before· .loop .i))) 16
+          pub taken : Nat._<_ (Row.get 6 (T4 .locals) (m4 (before· .before) (before· .loop .queue) (before· .loop .i))) (Row.get 3 (T4 .locals) (m4
+              (before· .before) (before· .loop .queue) (before· .loop .i)))
 
       pub record In-loop : Type 0 where
         pub before : At-loop
@@ -1329,7 +1363,8 @@ module _ (claims· : Claims) where
 
       module _ (before· : At-loop) where
         pub record After-loop·own : Type 0 where
-          pub left : Nat._≤_ 16 (Row.get 5 (T4 .locals) (m4 (before· .before) (before· .loop .queue) (before· .loop .i)))
+          pub left : Nat._≤_ (Row.get 3 (T4 .locals) (m4 (before· .before) (before· .loop .queue) (before· .loop .i))) (Row.get 6 (T4 .locals) (m4
+              (before· .before) (before· .loop .queue) (before· .loop .i)))
 
       pub record After-loop : Type 0 where
         pub before : At-loop
@@ -1377,7 +1412,7 @@ module _ (claims· : Claims) where
       m15 = λ before given. s14 (before .before .before .blocks) (m14 before given)
 
       abbrev pub Need-array-copy-out-put-record : Type 0
-      Need-array-copy-out-put-record = (c : After-put-record-arg) → Asked.InArray T18 (λ u. u .1 .1 .1 .1 .1 .0) 16 (m15 (c .before) (c
+      Need-array-copy-out-put-record = (c : After-put-record-arg) → Asked.InArray T18 (λ u. u .1 .1 .1 .1 .1 .1 .0) 16 (m15 (c .before) (c
           .put-record-arg .given))
 
       abbrev pub m16 : (before : After-put-record-arg) → (given : s15 (before .before .before .before .blocks) .gives (m15 (before .before) (before
@@ -1412,14 +1447,13 @@ module _ (claims· : Claims) where
         abbrev pub After-put-record·own : Type 0
         After-put-record·own = Called.Called ps·0 r·0 (claims· .1) T21 (
           record {
-            pos = 9;
+            pos = 10;
             ty = Syntax.tyRef Syntax.erased Syntax.mut in-Record.at;
-            ref
-                = λ x. x;
+            ref = λ x. x;
           },
-          (Num.vAt 10 λ x. x, (record { pos = 14; st = []; d = 0; at = λ x. x }, tt)),
-        ) (m18 (before· .before) (before· .put-record-arg2
-            .given))
+          (Num.vAt 11 λ x. x, (record { pos = 15; st = []; d = 0; at = λ x. x }, tt)),
+        ) (m18 (before· .before) (before·
+            .put-record-arg2 .given))
 
       pub record After-put-record : Type 0 where
         pub before : After-put-record-arg2
@@ -1429,11 +1463,11 @@ module _ (claims· : Claims) where
           .before) (c .before .put-record-arg2 .given))
       After-put-record·gave = λ c. Called.given ps·0 r·0 (claims· .1) T21 (
         record {
-          pos = 9;
+          pos = 10;
           ty = Syntax.tyRef Syntax.erased Syntax.mut in-Record.at;
           ref = λ x. x;
         },
-        (Num.vAt 10 λ x. x, (record { pos = 14; st = []; d = 0; at = λ x. x }, tt)),
+        (Num.vAt 11 λ x. x, (record { pos = 15; st = []; d = 0; at = λ x. x }, tt)),
       ) (m18 (c .before .before) (c .before
           .put-record-arg2 .given)) (c .put-record)
 
@@ -1473,27 +1507,31 @@ module _ (claims· : Claims) where
       Need-loop-less = (c : After-queue) → Nat._<_ (μ·0 (Row.get 1 (T4 .locals) (m3 (c .before .before .before .before .before .before .κs) (c .before
           .before .before .before .before .before .args) (c .before .before .before .before .before .before .blocks)) .now) (Row.get 2 (T4 .locals)
           (m3 (c .before .before .before .before .before .before .κs) (c .before .before .before .before .before .before .args) (c .before .before
-          .before .before .before .before .blocks))) (Row.get 4 (T4 .locals) (m3 (c .before .before .before .before .before .before .κs) (c .before
+          .before .before .before .before .blocks))) (Row.get 3 (T4 .locals) (m3 (c .before .before .before .before .before .before .κs) (c .before
           .before .before .before .before .before .args) (c .before .before .before .before .before .before .blocks))) (Row.get 5 (T4 .locals) (m3 (c
           .before .before .before .before .before .before .κs) (c .before .before .before .before .before .before .args) (c .before .before .before
-          .before .before .before .blocks))) (Row.get 1 (T4 .locals) (m24 (c .before) (c .queue .given)) .now) (Row.get 5 (T4 .locals) (m24 (c
-          .before) (c .queue .given)))) (μ·0 (Row.get 1 (T4 .locals) (m3 (c .before .before .before .before .before .before .κs) (c .before .before
-          .before .before .before .before .args) (c .before .before .before .before .before .before .blocks)) .now) (Row.get 2 (T4 .locals) (m3 (c
-          .before .before .before .before .before .before .κs) (c .before .before .before .before .before .before .args) (c .before .before .before
-          .before .before .before .blocks))) (Row.get 4 (T4 .locals) (m3 (c .before .before .before .before .before .before .κs) (c .before .before
-          .before .before .before .before .args) (c .before .before .before .before .before .before .blocks))) (Row.get 5 (T4 .locals) (m3 (c .before
+          .before .before .before .blocks))) (Row.get 6 (T4 .locals) (m3 (c .before .before .before .before .before .before .κs) (c .before .before
+          .before .before .before .before .args) (c .before .before .before .before .before .before .blocks))) (Row.get 1 (T4 .locals) (m24 (c
+          .before) (c .queue .given)) .now) (Row.get 6 (T4 .locals) (m24 (c .before) (c .queue .given)))) (μ·0 (Row.get 1 (T4 .locals) (m3 (c .before
           .before .before .before .before .before .κs) (c .before .before .before .before .before .before .args) (c .before .before .before .before
-          .before .before .blocks))) (c .before .before .before .before .before .loop .queue) (c .before .before .before .before .before .loop .i))
+          .before .before .blocks)) .now) (Row.get 2 (T4 .locals) (m3 (c .before .before .before .before .before .before .κs) (c .before .before
+          .before .before .before .before .args) (c .before .before .before .before .before .before .blocks))) (Row.get 3 (T4 .locals) (m3 (c .before
+          .before .before .before .before .before .κs) (c .before .before .before .before .before .before .args) (c .before .before .before .before
+          .before .before .blocks))) (Row.get 5 (T4 .locals) (m3 (c .before .before .before .before .before .before .κs) (c .before .before .before
+          .before .before .before .args) (c .before .before .before .before .before .before .blocks))) (Row.get 6 (T4 .locals) (m3 (c .before .before
+          .before .before .before .before .κs) (c .before .before .before .before .before .before .args) (c .before .before .before .before .before
+          .before .blocks))) (c .before .before .before .before .before .loop .queue) (c .before .before .before .before .before .loop .i))
 
       abbrev pub Need-loop-again : Type 0
       Need-loop-again = (c : After-queue) → Inv·0 (Row.get 1 (T4 .locals) (m3 (c .before .before .before .before .before .before .κs) (c .before
           .before .before .before .before .before .args) (c .before .before .before .before .before .before .blocks)) .now) (Row.get 2 (T4 .locals)
           (m3 (c .before .before .before .before .before .before .κs) (c .before .before .before .before .before .before .args) (c .before .before
-          .before .before .before .before .blocks))) (Row.get 4 (T4 .locals) (m3 (c .before .before .before .before .before .before .κs) (c .before
+          .before .before .before .before .blocks))) (Row.get 3 (T4 .locals) (m3 (c .before .before .before .before .before .before .κs) (c .before
           .before .before .before .before .before .args) (c .before .before .before .before .before .before .blocks))) (Row.get 5 (T4 .locals) (m3 (c
           .before .before .before .before .before .before .κs) (c .before .before .before .before .before .before .args) (c .before .before .before
-          .before .before .before .blocks))) (Row.get 1 (T4 .locals) (m24 (c .before) (c .queue .given)) .now) (Row.get 5 (T4 .locals) (m24 (c
-          .before) (c .queue .given)))
+          .before .before .before .blocks))) (Row.get 6 (T4 .locals) (m3 (c .before .before .before .before .before .before .κs) (c .before .before
+          .before .before .before .before .args) (c .before .before .before .before .before .before .blocks))) (Row.get 1 (T4 .locals) (m24 (c
+          .before) (c .queue .given)) .now) (Row.get 6 (T4 .locals) (m24 (c .before) (c .queue .given)))
 
       abbrev pub m25 : (before : At-loop) → Typed.Mo T30
       m25 = λ before. s26 (before .before .blocks) (m8 before)
@@ -1504,30 +1542,33 @@ module _ (claims· : Claims) where
       abbrev pub m27 : (before : At-loop) → Typed.Mo T32
       m27 = λ before. s28 (before .before .blocks) (m26 before)
 
+      abbrev pub m28 : (before : At-loop) → Typed.Mo T33
+      m28 = λ before. s29 (before .before .blocks) (m27 before)
+
       abbrev pub Need-same-length : Type 0
-      Need-same-length = (c : After-loop) → MutSlice.SameLen (Row.get 1 (T32 .locals) (m27 (c .before))) (dens (c .before .before .κs) (c .before
+      Need-same-length = (c : After-loop) → MutSlice.SameLen (Row.get 1 (T33 .locals) (m28 (c .before))) (dens (c .before .before .κs) (c .before
           .before .args) .0)
 
       abbrev pub Need-returns : Type 0
       Need-returns = (c : After-loop) → Post· (c .before .before .κs) (dens (c .before .before .κs) (c .before .before .args)) (Function.resV r (c
-          .before .before .κs) (m27 (c .before) .0)) (Clauses.atExit (Kinds.endedOf 1 ps r) (c .before .before .κs) (dens (c .before .before .κs) (c
-          .before .before .args)) (Enter.lastsP (c .before .before .κs) 1 ps xs (dens (c .before .before .κs) (c .before .before .args)) (m27 (c
+          .before .before .κs) (m28 (c .before) .0)) (Clauses.atExit (Kinds.endedOf 1 ps r) (c .before .before .κs) (dens (c .before .before .κs) (c
+          .before .before .args)) (Enter.lastsP (c .before .before .κs) 1 ps xs (dens (c .before .before .κs) (c .before .before .args)) (m28 (c
           .before) .1)))
 
       module _ (loop-holds : Need-loop-holds) (add-put-record : Need-add-put-record) (mul-put-record : Need-mul-put-record) (array-copy-out-put-record
           : Need-array-copy-out-put-record) (put-record-requires : Need-put-record-requires) (add-i : Need-add-i) (loop-less : Need-loop-less)
           (loop-again : Need-loop-again) (same-length : Need-same-length) (returns : Need-returns) where
-        lay5 : (c : After-loop) → at32 (c .before .before .blocks) (W0 (c .before .before .κs) (c .before .before .args) (c .before .before .blocks))
+        lay5 : (c : After-loop) → at33 (c .before .before .blocks) (W0 (c .before .before .κs) (c .before .before .args) (c .before .before .blocks))
             (m8 (c .before))
         lay5 = λ c. (
           (
-            MutSlice.fix-len (Row.get 1 (T32 .locals) (m27 (c .before)) .ptr) (Row.get 1 (T32 .locals) (m27 (c .before)) .name) (Row.get 1
-                (T32 .locals) (m27 (c .before)) .now) (dens (c .before .before .κs) (c .before .before .args) .0 .now) (same-length record {
+            MutSlice.fix-len (Row.get 1 (T33 .locals) (m28 (c .before)) .ptr) (Row.get 1 (T33 .locals) (m28 (c .before)) .name) (Row.get 1
+                (T33 .locals) (m28 (c .before)) .now) (dens (c .before .before .κs) (c .before .before .args) .0 .now) (same-length record {
                   before = c
                       .before;
                   loop-test = c .loop-test;
                 }),
-            (tt, (tt, tt)),
+            (tt, (tt, (tt, tt))),
           ),
           returns record { before = c .before; loop-test = c .loop-test },
         )
@@ -1544,45 +1585,43 @@ module _ (claims· : Claims) where
             (
               μ·0 (Row.get 1 (T4 .locals) (m3 (c .before .before .before .before .before .κs) (c .before .before .before .before .before .args) (c
                   .before .before .before .before .before .blocks)) .now) (Row.get 2 (T4 .locals) (m3 (c .before .before .before .before .before .κs) (c
-                  .before .before .before .before .before .args) (c .before .before .before .before .before .blocks))) (Row.get 4 (T4 .locals) (m3 (c
+                  .before .before .before .before .before .args) (c .before .before .before .before .before .blocks))) (Row.get 3 (T4 .locals) (m3 (c
                   .before .before .before .before .before .κs) (c .before .before .before .before .before .args) (c .before .before .before .before .before
                   .blocks))) (Row.get 5 (T4 .locals) (m3 (c .before .before .before .before .before .κs) (c .before .before .before .before .before .args)
-                  (c .before .before .before .before .before .blocks))) (Row.get 1 (T4 .locals) (m24 record {
+                  (c .before .before .before .before .before .blocks))) (Row.get 6 (T4 .locals) (m3 (c .before .before .before .before .before .κs) (c
+                  .before .before .before .before .before .args) (c .before .before .before .before .before .blocks))) (Row.get 1 (T4 .locals) (m24 record {
                     before = c .before;
                     put-record = c .put-record;
-                  } g) .now) (Row.get 5 (T4 .locals) (m24 record { before = c .before; put-record = c .put-record } g)),
-              loop-less record {
-                before = record
-                    { before = c .before; put-record = c .put-record };
-                queue = record { given = g };
-              },
+                  } g) .now) (Row.get 6 (T4 .locals) (m24 record {
+                    before = c .before;
+                    put-record = c
+                        .put-record;
+                  } g)),
+              loop-less record { before = record { before = c .before; put-record = c .put-record }; queue = record { given = g } },
               (
                 (
-                  Row.get 1 (T4 .locals) (m24 record {
-                    before = c
-                        .before;
+                  Row.get 1 (T4 .locals) (m24 record { before = c .before; put-record = c .put-record } g) .now,
+                  Row.get 6 (T4 .locals) (m24 record {
+                    before = c .before;
                     put-record = c .put-record;
-                  } g) .now,
-                  Row.get 5 (T4 .locals) (m24 record { before = c .before; put-record = c .put-record } g),
+                  } g),
                 ),
                 Path'.refl {a = m24 record { before = c .before; put-record = c .put-record } g},
-                loop-again record {
-                  before = record {
-                    before = c
-                        .before;
-                    put-record = c .put-record;
-                  };
-                  queue = record { given = g };
-                },
-                Path'.refl {a = μ·0 (Row.get 1 (T4 .locals) (m3 (c .before .before
-                    .before .before .before .κs) (c .before .before .before .before .before .args) (c .before .before .before .before .before .blocks)) .now)
-                    (Row.get 2 (T4 .locals) (m3 (c .before .before .before .before .before .κs) (c .before .before .before .before .before .args) (c .before
-                    .before .before .before .before .blocks))) (Row.get 4 (T4 .locals) (m3 (c .before .before .before .before .before .κs) (c .before .before
-                    .before .before .before .args) (c .before .before .before .before .before .blocks))) (Row.get 5 (T4 .locals) (m3 (c .before .before
-                    .before .before .before .κs) (c .before .before .before .before .before .args) (c .before .before .before .before .before .blocks)))
-                    (Row.get 1 (T4 .locals) (m24 record { before = c .before; put-record = c .put-record } g) .now) (Row.get 5 (T4 .locals) (m24 record {
+                loop-again record { before = record { before = c .before; put-record = c .put-record }; queue = record { given = g } },
+                Path'.refl {a =
+                    μ·0 (Row.get 1 (T4 .locals) (m3 (c .before .before .before .before .before .κs) (c .before .before .before .before .before .args) (c
+                    .before .before .before .before .before .blocks)) .now) (Row.get 2 (T4 .locals) (m3 (c .before .before .before .before .before .κs) (c
+                    .before .before .before .before .before .args) (c .before .before .before .before .before .blocks))) (Row.get 3 (T4 .locals) (m3 (c
+                    .before .before .before .before .before .κs) (c .before .before .before .before .before .args) (c .before .before .before .before .before
+                    .blocks))) (Row.get 5 (T4 .locals) (m3 (c .before .before .before .before .before .κs) (c .before .before .before .before .before .args)
+                    (c .before .before .before .before .before .blocks))) (Row.get 6 (T4 .locals) (m3 (c .before .before .before .before .before .κs) (c
+                    .before .before .before .before .before .args) (c .before .before .before .before .before .blocks))) (Row.get 1 (T4 .locals) (m24 record {
                       before = c .before;
                       put-record = c .put-record;
+                    } g) .now) (Row.get 6 (T4 .locals) (m24 record {
+                      before = c .before;
+                      put-record = c
+                          .put-record;
                     } g))},
               ),
             ),
@@ -1644,15 +1683,15 @@ module _ (claims· : Claims) where
                           };
                           put-record = Called.called ps·0 r·0 (claims· .1) T21 (
                             record {
-                              pos = 9;
+                              pos = 10;
                               ty =
                                   Syntax.tyRef Syntax.erased Syntax.mut in-Record.at;
                               ref = λ x. x;
                             },
                             (
-                              Num.vAt 10 λ x. x,
+                              Num.vAt 11 λ x. x,
                               (
-                                record { pos = 14; st = []; d = 0; at = λ x. x },
+                                record { pos = 15; st = []; d = 0; at = λ x. x },
                                 tt,
                               ),
                             ),
@@ -1673,10 +1712,10 @@ module _ (claims· : Claims) where
             .before) (c .before .loop .queue) (c .before .loop .i))
         lay1 = λ c. lay3 record { before = c .before; loop-test = c .loop-test }
 
-        pub laid : (c : Start) → at36 (c .blocks) (W0 (c .κs) (c .args) (c .blocks)) (m0 (c .κs) (c .args) (c .blocks))
+        pub laid : (c : Start) → at37 (c .blocks) (W0 (c .κs) (c .args) (c .blocks)) (m0 (c .κs) (c .args) (c .blocks))
         laid = λ c. (
           (
-            (Row.get 1 (T4 .locals) (m3 (c .κs) (c .args) (c .blocks)) .now, Row.get 5 (T4 .locals) (m3 (c .κs) (c .args) (c .blocks))),
+            (Row.get 1 (T4 .locals) (m3 (c .κs) (c .args) (c .blocks)) .now, Row.get 6 (T4 .locals) (m3 (c .κs) (c .args) (c .blocks))),
             Path'.refl {a = m3 (c .κs) (c .args) (c .blocks)},
             loop-holds c,
           ),
@@ -1689,13 +1728,23 @@ module _ (claims· : Claims) where
                   loop = record { queue = vs .0; i = vs .1; inv = inv };
                 };
                 loop-test = record {
-                  taken = Tests.ltb-true (Row.get 5 (T4 .locals) (m4 c (vs .0)
-                      (vs .1))) 16 taken;
+                  taken = Tests.ltb-true (Row.get 6 (T4 .locals) (m4 c (vs .0)
+                      (vs .1))) (Row.get 3 (T4 .locals) (m4 c (vs .0) (vs .1))) taken;
                 };
               },
               λ left. lay2 record {
-                before = record { before = c; loop = record { queue = vs .0; i = vs .1; inv = inv } };
-                loop-test = record { left = Tests.ltb-false (Row.get 5 (T4 .locals) (m4 c (vs .0) (vs .1))) 16 left };
+                before = record {
+                  before = c;
+                  loop = record {
+                    queue = vs .0;
+                    i = vs .1;
+                    inv = inv;
+                  };
+                };
+                loop-test = record {
+                  left = Tests.ltb-false (Row.get 6 (T4 .locals) (m4 c (vs .0) (vs .1)))
+                      (Row.get 3 (T4 .locals) (m4 c (vs .0) (vs .1))) left;
+                };
               },
             ),
           ),
@@ -1706,10 +1755,11 @@ module _ (claims· : Claims) where
               m κs qs a (Post· κs a)) (Function.init 1 ps r xs m κs qs a)
           asked = λ a good pre bs. laid record {
             κs = κs;
-            args = record { queue = a .0; first = a .1 .0; t3 = a .1 .1 .0 };
-            blocks = bs;
+            args = record { queue = a .0; first = a .1 .0; n = a .1 .1 .0; t4 = a .1 .1 .1 .0 };
+            blocks
+                = bs;
             good = good;
-            fits = record { first = record { fits = good .1 .0 .1 } };
+            fits = record { first = record { fits = good .1 .0 .1 }; n = record { fits = good .1 .1 .0 .1 } };
             pre = pre;
           }
 
