@@ -2,6 +2,7 @@
 use optional::OptU8;
 use reservation_requirement::ReservationRequirement;
 use sizes::LATEST_DELAY;
+use tdma_time::TdmaTime;
 use uplink::CapAnswer;
 use uplink::CapReply;
 use uplink::Entry;
@@ -9,41 +10,56 @@ use uplink::Opportunity;
 use uplink::PhyBlockNum;
 use uplink::Uplink;
 ghost use mathlib.Core.Path.{_≡_};
-ghost use mathlib.Core.Bool.{true};
+ghost use mathlib.Core.Bool.{true, cond};
 ghost use Prim.Native.Nat.{_+_, _-_, _*_, _<_, _≤_};
+ghost use lib.Dec.{leb};
 ghost use lib.ListN.{getD};
+ghost use Rattle.optional.specs.declared.OptU8.{OptU8};
 ghost use Rattle.sizes.specs.Sizes.{timeslots, framesSearched, latestDelay};
 ghost use Rattle.tdma_time.specs.Time.{Valid, slotOf, usable, firstOf};
 ghost use Rattle.reservation_requirement.specs.Requirement.{requirementCode};
-ghost use Rattle.uplink.specs.Uplink.{withTable};
-ghost use Rattle.uplink.specs.Request.{Request, drawn, answer};
+ghost use Rattle.uplink.specs.Uplink.{uplinkOf};
+ghost use Rattle.uplink.specs.Request.{Request, nextMarker, drawn, answer};
 ghost use Rattle.uplink.specs.Functions.{blockTaken, grantedAt};
 
-// A marker drawn, and the counters after it.
+// The usage marker of a grant, and the counters after it.
 struct MarkerDrawn {
-    pub usage_marker: u8,
+    pub usage_marker: OptU8,
     pub next_usage_marker: [u8; sizes::TIMESLOTS],
 }
 
-// A fresh usage marker for a timeslot, from its counter.
-fn alloc_usage_marker(next_usage_marker: [u8; sizes::TIMESLOTS], timeslot: u8) -> MarkerDrawn
-    requires { ⌜ (1 ≤ timeslot) × (timeslot ≤ timeslots) ⌝ }
-    ensures { λ r. ⌜ r .«usage_marker» ≡ getD «next_usage_marker» (timeslot - 1) 0 ⌝ }
-    ensures { λ r. ⌜ r .«next_usage_marker» ≡ drawn «next_usage_marker» timeslot ⌝ }
+// The counter after a marker: 4 to 62 and round again.
+fn next_marker(marker: u8) -> u8
+    ensures { λ r. ⌜ r ≡ nextMarker marker ⌝ }
 {
+    if 62 <= marker {
+        return 4;
+    }
+    marker + 1
+}
+
+// Two or more slots draw a fresh usage marker from their timeslot's counter, one slot or half a slot none.
+fn alloc_usage_marker(
+    next_usage_marker: [u8; sizes::TIMESLOTS],
+    timeslot: u8,
+    num_slots: usize,
+) -> MarkerDrawn
+    requires { ⌜ (1 ≤ timeslot) × (timeslot ≤ timeslots) ⌝ }
+    ensures { λ r. ⌜ r .«usage_marker» ≡ cond (leb 2 «num_slots») (OptU8.Of (getD «next_usage_marker» (timeslot - 1) 0)) OptU8.Absent ⌝ }
+    ensures { λ r. ⌜ r .«next_usage_marker» ≡ cond (leb 2 «num_slots») (drawn «next_usage_marker» timeslot) «next_usage_marker» ⌝ }
+{
+    if num_slots < 2 {
+        return MarkerDrawn {
+            usage_marker: OptU8::Absent,
+            next_usage_marker: next_usage_marker,
+        };
+    }
     let idx = (timeslot - 1) as usize;
     let marker = next_usage_marker[idx];
     let mut next = next_usage_marker;
-    if 62 <= marker {
-        next[idx] = 4;
-        return MarkerDrawn {
-            usage_marker: marker,
-            next_usage_marker: next,
-        };
-    }
-    next[idx] = marker + 1;
+    next[idx] = next_marker(marker);
     MarkerDrawn {
-        usage_marker: marker,
+        usage_marker: OptU8::Of(marker),
         next_usage_marker: next,
     }
 }
@@ -64,21 +80,21 @@ fn free_block(e: Entry, is_halfslot: bool) -> PhyBlockNum
 
 // The run that begins `start` frames after the first opportunity is granted.
 fn grant(
-    u: Uplink,
+    now: TdmaTime,
+    table: [[Entry; 18]; sizes::TIMESLOTS],
+    next_usage_marker: [u8; sizes::TIMESLOTS],
     timeslot: u8,
     requirement: ReservationRequirement,
     number: u32,
     start: usize,
     skips: usize,
 ) -> CapAnswer
-    requires { ⌜ Valid (u .time) ⌝ }
+    requires { ⌜ Valid now ⌝ }
     requires { ⌜ (1 ≤ timeslot) × (timeslot ≤ timeslots) × (start < framesSearched) × (skips ≤ latestDelay) ⌝ }
-    requires { ⌜ usable (firstOf timeslot (slotOf (u .time)) + start * timeslots) ≡ true ⌝ }
-    ensures { λ r. ⌜ r ≡ grantedAt u (record { timeslot = timeslot; code = requirementCode requirement; number = number }) start skips ⌝ }
+    requires { ⌜ usable (firstOf timeslot (slotOf now) + start * timeslots) ≡ true ⌝ }
+    ensures { λ r. ⌜ r ≡ grantedAt (uplinkOf now table «next_usage_marker»)
+        (record { timeslot = timeslot; code = requirementCode requirement; number = number }) start skips ⌝ }
 {
-    let now = u.time;
-    let next_usage_marker = u.next_usage_marker;
-    let table = uplink::table_of(u);
     let code = requirement.into_raw();
     let num_slots = requirement.to_req_slotcount();
     let first_opportunity = now.forward_to_timeslot(timeslot);
@@ -89,30 +105,9 @@ fn grant(
     let block = free_block(e, code == 0);
     let capacity = slot_codes::capacity_for(code, !uplink::is_vacant(ul1));
     let delay = skips as u8;
-    if 2 <= num_slots {
-        let drawn = alloc_usage_marker(next_usage_marker, timeslot);
-        let marker = drawn.usage_marker;
-        let counters = drawn.next_usage_marker;
-        let out = ul_reserve::ul_reserve_grant(
-            table,
-            now,
-            timeslot,
-            start,
-            num_slots,
-            number,
-            block,
-            OptU8::Of(marker),
-        );
-        let after = uplink::with_table(u, out, counters);
-        return CapAnswer {
-            reply: CapReply::Granted {
-                capacity: capacity,
-                delay: delay,
-                usage_marker: OptU8::Of(marker),
-            },
-            uplink: after,
-        };
-    }
+    let drawn = alloc_usage_marker(next_usage_marker, timeslot, num_slots);
+    let usage_marker = drawn.usage_marker;
+    let counters = drawn.next_usage_marker;
     let out = ul_reserve::ul_reserve_grant(
         table,
         now,
@@ -121,14 +116,14 @@ fn grant(
         num_slots,
         number,
         block,
-        OptU8::Absent,
+        usage_marker,
     );
-    let after = uplink::with_table(u, out, next_usage_marker);
+    let after = uplink::uplink_of(now, out, counters);
     CapAnswer {
         reply: CapReply::Granted {
             capacity: capacity,
             delay: delay,
-            usage_marker: OptU8::Absent,
+            usage_marker: usage_marker,
         },
         uplink: after,
     }
@@ -168,7 +163,17 @@ pub fn ul_process_cap_req(
                     uplink: u,
                 };
             }
-            grant(u, timeslot, requirement, number, start, skips)
+            let counters = u.next_usage_marker;
+            grant(
+                now,
+                table,
+                counters,
+                timeslot,
+                requirement,
+                number,
+                start,
+                skips,
+            )
         }
     }
 }

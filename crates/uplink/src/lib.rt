@@ -8,7 +8,7 @@ ghost use Rattle.tdma_time.specs.Time.{Valid, slotOf};
 ghost use Rattle.uplink.specs.HalfSlot.{vacant};
 ghost use Rattle.uplink.specs.UplinkEntry.{emptyTable, entryAt, ownerOf, sameOwner, usageOf, markerOrZero, cleared};
 ghost use Rattle.uplink.specs.UplinkEntry.{soundOwner, soundCounter, soundMarker, unmarked, soundEntry, soundTable, soundCounters};
-ghost use Rattle.uplink.specs.Uplink.{uplinkOf, newUplink, advancedUplink, withTable, soundUplink};
+ghost use Rattle.uplink.specs.Uplink.{uplinkOf, newUplink, advancedUplink, soundUplink};
 
 // An entry of the uplink table: who holds each half of the slot, and the usage marker of the reservation.
 pub struct Entry {
@@ -26,10 +26,11 @@ impl Entry {
     };
 }
 
-// The time, the table by timeslot and frame, and the next usage marker of each timeslot.
+// The table by timeslot and frame, the time, and the next usage marker of each timeslot. The table stands first, here and in what holds
+// an uplink: with a gap before it the compiler copies it more often.
 pub struct Uplink {
-    pub time: TdmaTime,
     pub rows: [[Entry; 18]; 4],
+    pub time: TdmaTime,
     pub next_usage_marker: [u8; 4],
 }
 
@@ -38,8 +39,8 @@ pub fn uplink_of(time: TdmaTime, rows: [[Entry; 18]; 4], next_usage_marker: [u8;
     ensures { λ r. ⌜ r ≡ uplinkOf time rows «next_usage_marker» ⌝ }
 {
     Uplink {
-        time: time,
         rows: rows,
+        time: time,
         next_usage_marker: next_usage_marker,
     }
 }
@@ -68,14 +69,6 @@ pub fn new_uplink(time: TdmaTime) -> Uplink
 {
     let table = empty_table(time);
     uplink_of(time, table, [4; 4])
-}
-
-// The uplink with another table and other counters.
-pub fn with_table(u: Uplink, table: [[Entry; 18]; 4], next_usage_marker: [u8; 4]) -> Uplink
-    ensures { λ r. ⌜ r ≡ withTable u table «next_usage_marker» ⌝ }
-{
-    let time = u.time;
-    uplink_of(time, table, next_usage_marker)
 }
 
 // A slot's first half, its second, or both.
@@ -110,10 +103,10 @@ pub enum CapReply {
     TooLate,
 }
 
-// The reply, and the uplink after it.
+// The uplink after a request, and the reply.
 pub struct CapAnswer {
-    pub reply: CapReply,
     pub uplink: Uplink,
+    pub reply: CapReply,
 }
 
 // Is a half free?

@@ -43,18 +43,19 @@ returns c = let g = c .before .before in answer-late _ (asked (g .before .before
 
 grant-requires : tie.Need-grant-requires
 grant-requires c κs =
-    let g = c .before .before in
+    let g = c .before .before .before in
     let pre = begun (g .before .before) .pre in
     let f = found-at (begun (g .before .before) .args .u) (asked (g .before .before)) _ _ (ran g) in
-    (pre .0, ((pre .1 .0, pre .1 .1, f .low, c .if1 .left), f .can))
+    (pre .0, ((pre .1 .0, pre .1 .1, f .low, c .before .if1 .left), f .can))
 
 returns-2 : tie.Need-returns-2
 returns-2 c = answer-nothing _ (asked (c .before .before)) (sym (searched (c .before .before)) ∙ c .enum-told .given .1)
 
 returns-3 : tie.Need-returns-3
 returns-3 c =
-    let g = c .before .before .before in
-    c .grant .ensures ∙ answer-granted _ (asked (g .before .before)) _ _ (ran g) (c .before .if1 .left)
+    let g = c .before .before .before .before in
+    let tb = g .before .before .before .before .before .table-of .ensures in
+    rw tb at (c .grant .ensures) ∙ answer-granted _ (asked (g .before .before)) _ _ (ran g) (c .before .before .if1 .left)
 
 pub ul-process-cap-req-spec : {M : Type 1} → statement M
 ul-process-cap-req-spec =
