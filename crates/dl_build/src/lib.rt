@@ -2,7 +2,7 @@
 ghost use mathlib.Core.Path.{_≡_};
 ghost use mathlib.Core.Bool.{true};
 ghost use Prim.Native.Nat.{ℕ, _+_, _*_, _<_, _≤_};
-ghost use lib.ListN.{length, getD, drop, take};
+ghost use lib.ListN.{length, getD, drop};
 ghost use lib.Seq.{paste};
 ghost use Rattle.sizes.specs.Sizes.{perTimeslot, cellOctets, timeslotOctets};
 ghost use Rattle.dl_record.specs.Kind.{isUnderway};

@@ -8,7 +8,7 @@ use native.Mathlib.Omega.{arith}
 use lib.ListN.{length, drop, length-drop}
 use lib.Seq.{length-take-le}
 use Rattle.lists.proofs.Every.{All}
-use Rattle.sizes.specs.Sizes.{perTimeslot, cellOctets, sduBits}
+use Rattle.sizes.specs.Sizes.{cellOctets, sduBits}
 use Rattle.optional.specs.declared.OptU8.{OptU8}
 use Rattle.optional.proofs.Tests.{and-left, and-right, and-intro}
 use Rattle.mac_pdus.specs.Legal.{absentU8, fits, optFits, legalQueued}

@@ -7,7 +7,7 @@ use optional::OptU16;
 use sizes::SDU_BITS;
 ghost use mathlib.Core.Path.{_≡_};
 ghost use Rattle.mac_pdus.specs.Legal.{legalQueued, legalOffered};
-ghost use Rattle.dl_record.specs.Record.{emptyRecord, grantRecord, ackRecord, offeredRecord, addressKindOf, resourceOf};
+ghost use Rattle.dl_record.specs.Record.{grantRecord, ackRecord, offeredRecord, addressKindOf, resourceOf};
 ghost use Rattle.dl_record.specs.Questions.{legalAddress, presentSdu};
 
 pub enum Kind {

@@ -5,8 +5,8 @@ use mathlib.Core.List.{List, [], _∷_, _++_, append-assoc}
 use Prim.Native.Nat.{ℕ, zero, suc, _+_, _≤_, _<_}
 use native.Mathlib.Omega.{arith}
 use lib.Dec.{leb}
-use lib.ListN.{length, take, drop, length-append, length-drop, List·getD-append}
-use lib.Seq.{take-append-le, drop-append-le}
+use lib.ListN.{length, drop, length-append, List·getD-append}
+use lib.Seq.{drop-append-le}
 use borrow.Author.Tests.{leb-true, le-leb}
 use Rattle.optional.proofs.Tests.{and-left, and-right, and-intro}
 use Rattle.bitbuffer.proofs.Chunks.{part-left}

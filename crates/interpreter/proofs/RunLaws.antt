@@ -7,7 +7,7 @@ use native.Mathlib.Numerals.{add-one}
 use native.Mathlib.Omega.{arith}
 use lib.Dec.{leb}
 use lib.ListN.{length, getD, take, drop, set, length-drop, take-append-drop}
-use lib.Seq.{drop-cons, drop-drop, drop-length, length-take-le, take-all}
+use lib.Seq.{drop-cons, drop-drop, drop-length, length-take-le}
 use borrow.Author.Tests.{leb-true}
 use Rattle.lists.proofs.Lists.{rest, set-append-add}
 use Rattle.optional.proofs.Tests.{and-right}

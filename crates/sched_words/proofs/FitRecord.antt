@@ -1,15 +1,15 @@
 -- The words of a record fit, word by word. Assumes nothing.
 use mathlib.Core.Path.{_≡_, refl, sym, ap, ap₂, _∙_}
-use mathlib.Core.Bool.{Bool, true, false, _&&_, and-assoc, and-true}
+use mathlib.Core.Bool.{Bool, true, _&&_, and-assoc, and-true}
 use mathlib.Core.List.{List, [], _∷_, _++_}
-use Prim.Native.Nat.{ℕ, zero, suc, _+_, _-_, _*_, _%_, _≤_, _<_}
+use Prim.Native.Nat.{ℕ, zero, suc, _+_, _-_, _%_, _≤_}
 use native.Mathlib.Omega.{arith}
 use lib.Dec.{eqb, leb, ltb}
 use lib.ListN.{length, getD, take, drop, replicate, length-drop}
 use lib.Seq.{drop-drop, drop-cons}
 use borrow.Author.Tests.{eq-eqb, eqb-true}
 use Rattle.dl_record.proofs.Tests.{same-test}
-use Rattle.optional.proofs.Tests.{and-left, and-right, and-intro}
+use Rattle.optional.proofs.Tests.{and-left, and-right}
 use Rattle.dl_record.proofs.RecordLaws.{empty-is}
 use Rattle.dl_record.specs.declared.Record.{Record}
 use Rattle.dl_record.specs.Record.{emptyRecord}

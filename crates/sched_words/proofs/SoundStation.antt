@@ -5,7 +5,7 @@ use mathlib.Core.List.{List, [], _∷_, _++_}
 use Prim.Native.Nat.{ℕ, zero, suc, _+_, _-_, _*_, _%_, _^_, _≤_, _<_}
 use native.Mathlib.Nat.{mod-eq-of-lt}
 use native.Mathlib.Omega.{arith}
-use lib.Dec.{eqb, leb, ltb}
+use lib.Dec.{eqb, leb}
 use lib.ListN.{length, getD, drop, length-drop}
 use lib.Seq.{drop-drop, getD-drop}
 use borrow.Author.Tests.{eq-eqb, ne-eqb, eqb-true, leb-true, le-leb}
@@ -13,10 +13,8 @@ use Rattle.optional.proofs.Tests.{and-left, and-right, and-intro}
 use Rattle.dl_record.proofs.Tests.{same-test}
 use Rattle.sizes.specs.Sizes.{perTimeslot}
 use Rattle.tdma_time.specs.Time.{valid}
-use Rattle.uplink.specs.declared.Entry.{Entry}
 use Rattle.uplink.specs.UplinkEntry.{all, soundOwner, soundCounter, soundMarker, soundEntry, soundRow, soundTable, soundCounters}
 use Rattle.uplink.specs.Uplink.{soundUplink}
-use Rattle.sched_core.specs.declared.Station.{Station}
 use Rattle.sched_core.specs.Questions.{soundCount, soundStation}
 use Rattle.sched_words.specs.Words.{optU8, optU32, entryOf, wordsOfAll, readAll, sameWords, timeWords, timeFrom, entryWords, entryFrom, rowFrom}
 use Rattle.sched_words.specs.Words.{fourFrom, tableFrom, stationWords, stationRead, stationFrom, noStation}

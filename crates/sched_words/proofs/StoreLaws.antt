@@ -1,7 +1,7 @@
 -- Words stored in a part of others, and those of one element in the words of a list. Assumes nothing.
 use mathlib.Core.Path.{_≡_, refl, sym, ap, ap₂, _∙_}
 use mathlib.Core.List.{List, [], _∷_, _++_, append-assoc}
-use Prim.Native.Nat.{ℕ, zero, suc, _+_, _*_, _≤_, _<_}
+use Prim.Native.Nat.{ℕ, suc, _+_, _*_, _≤_, _<_}
 use native.Mathlib.Omega.{arith}
 use lib.ListN.{length, getD, set, take, drop, length-append, length-set, take-append-drop}
 use lib.Seq.{sets, sets-eq, set-append-left, set-split, drop-cons, drop-drop, take-at, drop-at, length-take-le}
@@ -21,7 +21,8 @@ pub sets-right : (a b : List ℕ) (n i : ℕ) (w : List ℕ) → length a ≡ n 
 sets-right a b n i [] e = refl
 sets-right a b n i (x ∷ w) e =
     let k : suc (n + i) ≡ n + suc i = omega arith in
-    ap₂ (λ (l : List ℕ) (j : ℕ). sets l j w) (ap (λ (m : ℕ). set (a ++ b) (m + i) x) (sym e) ∙ set-append-add a b i x) k ∙ sets-right a (set b i x) n (suc i) w e
+    ap₂ (λ (l : List ℕ) (j : ℕ). sets l j w) (ap (λ (m : ℕ). set (a ++ b) (m + i) x) (sym e) ∙ set-append-add a b i x) k
+    ∙ sets-right a (set b i x) n (suc i) w e
 
 -- words over as many in the middle
 pub sets-middle : (a v r w : List ℕ) (n : ℕ) → length a ≡ n → length v ≡ length w → sets (a ++ (v ++ r)) n w ≡ a ++ (w ++ r)

@@ -6,7 +6,7 @@ use Prim.Native.Nat.{ℕ, zero, suc, _+_, _-_, _*_, _%_, _≤_, _<_}
 use native.Mathlib.Nat.{not-suc-le-zero, le-of-suc-le-suc, add-zero, zero-add}
 use native.Mathlib.Numerals.{add-one, sub-one}
 use native.Mathlib.Omega.{arith}
-use lib.ListN.{length, getD, set, take, drop, length-append, length-drop, drop-of-length-le}
+use lib.ListN.{length, getD, set, take, drop, length-append, drop-of-length-le}
 use lib.Seq.{sets, sets-eq, drop-cons, drop-drop, take-all, paste-suc}
 use borrow.Author.Tests.{not-true, not-false}
 use Rattle.optional.specs.declared.OptU8.{OptU8}

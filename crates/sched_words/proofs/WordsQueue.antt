@@ -2,13 +2,12 @@
 -- its words is one set in the queue. Assumes nothing.
 use mathlib.Core.Path.{_≡_, refl, sym, ap, ap₂, _∙_}
 use mathlib.Core.Bool.{Bool, true, false, _&&_, cond, and-assoc}
-use mathlib.Core.List.{List, [], _∷_, _++_, append-assoc}
+use mathlib.Core.List.{List, [], _∷_}
 use Prim.Native.Nat.{ℕ, zero, suc, _+_, _-_, _*_, _/_, _%_, _≤_, _<_}
 use native.Mathlib.Omega.{arith}
 use lib.Dec.{ltb}
-use lib.ListN.{length, getD, set, take, drop, replicate, length-append, length-drop, take-append-drop}
-use lib.Seq.{sets, sets-eq, set-split, drop-cons, drop-drop, take-at, take-all, drop-at, take-take, length-take-le, getD-take, getD-drop, paste, length-paste}
-use lib.Seq.{take-paste, drop-paste}
+use lib.ListN.{length, getD, set, take, drop, replicate, length-drop}
+use lib.Seq.{sets, drop-drop}
 use Rattle.sizes.specs.Sizes.{cellOctets, timeslots, perTimeslot, queuePlaces}
 use Rattle.optional.proofs.Tests.{and-left, and-right, and-intro}
 use Rattle.uplink.proofs.Basics.{not-both}
@@ -16,18 +15,18 @@ use Rattle.dl_record.specs.declared.Record.{Record}
 use Rattle.dl_record.specs.Record.{emptyRecord}
 use Rattle.dl_record.specs.Questions.{soundRecord, isEmpty}
 use Rattle.dl_sdu_store.specs.Cells.{allZero, cleanPast}
-use Rattle.dl_queue.specs.Questions.{soundPlace, soundPlaces, soundQueue}
+use Rattle.dl_queue.specs.Questions.{soundPlace, soundQueue}
 use Rattle.dl_queue.proofs.PlaceLaws.{empty-bits}
 use Rattle.dl_queue.proofs.PushLaws.{recAt, cellAt, rec-shift, cell-shift}
 use Rattle.dl_queue.proofs.SoundLaws.{places-at, places-all, queue-at, queue-all}
 use Rattle.sched_words.specs.Words.{recordWordCount, queueWordCount, wordsOfAll, readAll, sameWords, recordWords, recordRead, queueWords, recordsRead}
 use Rattle.sched_words.specs.Words.{queueFrom, noRecord}
-use Rattle.sched_words.proofs.WordLaws.{record-size, length-joined, joined-next, joined-done, length-parts, part-at}
-use Rattle.sched_words.proofs.StoreLaws.{sets-middle, set-joined}
+use Rattle.sched_words.proofs.WordLaws.{record-size, length-joined, length-parts, part-at}
+use Rattle.sched_words.proofs.StoreLaws.{set-joined}
 use Rattle.sched_words.proofs.RoundTrip.{same-equal}
 use Rattle.sched_words.proofs.QueueRoundTrip.{no-queue}
 use Rattle.sched_words.specs.Front.{begins}
-use Rattle.sched_words.proofs.FitLaws.{begins-whole, begins-take, parts-turn, joined-append}
+use Rattle.sched_words.proofs.FitLaws.{begins-whole, begins-take, parts-turn}
 use Rattle.sched_words.proofs.FitRecord.{empty-words, read-front}
 
 -- ---- the words of a place

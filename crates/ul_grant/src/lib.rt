@@ -19,7 +19,7 @@ ghost use Rattle.sizes.specs.Sizes.{timeslots, framesSearched, latestDelay};
 ghost use Rattle.tdma_time.specs.Time.{Valid, slotOf, usable, firstOf};
 ghost use Rattle.reservation_requirement.specs.Requirement.{requirementCode};
 ghost use Rattle.uplink.specs.Uplink.{uplinkOf};
-ghost use Rattle.uplink.specs.Request.{Request, nextMarker, drawn, answer};
+ghost use Rattle.uplink.specs.Request.{nextMarker, drawn, answer};
 ghost use Rattle.uplink.specs.Functions.{blockTaken, grantedAt};
 
 // The usage marker of a grant, and the counters after it.

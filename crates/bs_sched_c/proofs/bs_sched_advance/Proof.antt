@@ -42,4 +42,5 @@ returns-3 c =
 pub bs-sched-advance-spec : {M : Type 1} → statement M
 bs-sched-advance-spec =
     tie.close
-    (tie.spec (λ c κs. search needs) returns (λ c κs. search needs) (λ c κs. search needs) (λ c. search needs) returns-2 advance-requires (λ c. search needs) returns-3)
+    (tie.spec (λ c κs. search needs) returns (λ c κs. search needs) (λ c κs. search needs) (λ c. search needs) returns-2 advance-requires
+    (λ c. search needs) returns-3)

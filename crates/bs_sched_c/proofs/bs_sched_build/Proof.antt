@@ -259,7 +259,8 @@ returns-4 c =
 pub bs-sched-build-spec : {M : Type 1} → statement M
 bs-sched-build-spec =
     tie.close
-    (tie.spec (λ c κs. search needs) (λ c κs. search needs) returns (λ c κs. search needs) (λ c κs. search needs) (λ c. search needs) (λ c. search needs) (λ c. search needs) returns-2
+    (tie.spec (λ c κs. search needs) (λ c κs. search needs) returns (λ c κs. search needs) (λ c κs. search needs) (λ c. search needs) (λ c. search needs)
+    (λ c. search needs) returns-2
     time-of-requires queued-of-requires builds-at-requires (λ c κs. search needs) (λ c. search needs) (λ c. search needs) (λ c. search needs) returns-3
     sub-t (λ c. search needs) array-read-n (λ c. search needs) mul-first records-read-requires build-timeslot-requires cast-counts array-write-counts cast-count
     put-queued-requires put-records-requires (λ c. search needs) (λ c. search needs) (λ c. search needs) (λ c. search needs) returns-4)

@@ -1,7 +1,7 @@
 -- Exit by exit. Assumes nothing.
 use borrow.Author.Needs.{needs}
 use borrow.Author.Tests.{eq-eqb, ne-eqb}
-use mathlib.Core.Path.{_≡_, refl, sym, subst, _∙_}
+use mathlib.Core.Path.{refl, sym, subst, _∙_}
 use mathlib.Core.Bool.{true}
 use mathlib.Core.List.{List}
 use Prim.Native.Nat.{ℕ}
@@ -122,6 +122,7 @@ returns-5 c =
 pub bs-sched-enqueue-spec : {M : Type 1} → statement M
 bs-sched-enqueue-spec =
     tie.close
-    (tie.spec (λ c κs. search needs) returns (λ c κs. search needs) returns-2 (λ c κs. search needs) (λ c. search needs) (λ c. search needs) (λ c. search needs) returns-3
+    (tie.spec (λ c κs. search needs) returns (λ c κs. search needs) returns-2 (λ c κs. search needs) (λ c. search needs) (λ c. search needs)
+    (λ c. search needs) returns-3
     queued-of-requires (λ c κs. search needs) tma-joins-requires (λ c κs. search needs) (λ c. search needs) (λ c. search needs) (λ c. search needs) returns-4
     put-queued-requires put-record-requires (λ c. search needs) (λ c. search needs) (λ c. search needs) returns-5)

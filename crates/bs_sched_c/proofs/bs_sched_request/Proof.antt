@@ -123,6 +123,7 @@ returns-4 c =
 pub bs-sched-request-spec : {M : Type 1} → statement M
 bs-sched-request-spec =
     tie.close
-    (tie.spec (λ c κs. search needs) (λ c κs. search needs) returns (λ c κs. search needs) (λ c κs. search needs) (λ c. search needs) (λ c. search needs) returns-2
+    (tie.spec (λ c κs. search needs) (λ c κs. search needs) returns (λ c κs. search needs) (λ c κs. search needs) (λ c. search needs) (λ c. search needs)
+    returns-2
     (λ c κs. search needs) station-of-row-requires request-plan-requires (λ c κs. search needs) (λ c. search needs) (λ c. search needs) returns-3
     put-row-of-requires put-record-requires (λ c. search needs) (λ c. search needs) returns-4)

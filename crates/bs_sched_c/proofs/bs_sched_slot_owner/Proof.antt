@@ -3,7 +3,6 @@ use borrow.Author.Needs.{needs}
 use borrow.Author.Tests.{ne-eqb}
 use mathlib.Core.Path.{_≡_, _∙_, ap}
 use mathlib.Core.Bool.{true}
-use Prim.Native.Nat.{ℕ}
 use Rattle.questions.proofs.AskLaws.{said-no, said-yes}
 use Rattle.tdma_time.specs.declared.TdmaTime.{TdmaTime}
 use Rattle.tdma_time.specs.Time.{valid, slotOf}
@@ -78,5 +77,6 @@ returns-4 c =
 pub bs-sched-slot-owner-spec : {M : Type 1} → statement M
 bs-sched-slot-owner-spec =
     tie.close
-    (tie.spec (λ c κs. search needs) (λ c κs. search needs) returns (λ c κs. search needs) (λ c κs. search needs) (λ c κs. search needs) (λ c κs. search needs) returns-2
+    (tie.spec (λ c κs. search needs) (λ c κs. search needs) returns (λ c κs. search needs) (λ c κs. search needs) (λ c κs. search needs)
+    (λ c κs. search needs) returns-2
     (λ c κs. search needs) (λ c κs. search needs) (λ c κs. search needs) returns-3 entry-at-requires (λ c κs. search needs) returns-4)

@@ -9,7 +9,7 @@ use Rattle.tdma_time.specs.declared.TdmaTime.{TdmaTime}
 use Rattle.tdma_time.specs.Time.{valid, slotOf}
 use Rattle.tdma_time.proofs.TimeLaws.{true-valid}
 use Rattle.uplink.specs.declared.AccessAssignUlUsage.{AccessAssignUlUsage}
-use Rattle.uplink.specs.UplinkEntry.{entryAt, usageOf, usageNumber, usageMarker, markerOrZero}
+use Rattle.uplink.specs.UplinkEntry.{entryAt, usageNumber, usageMarker, markerOrZero}
 use Rattle.sched_core.specs.Questions.{soundStation}
 use Rattle.sched_words.specs.Words.{stationFrom}
 use Rattle.bs_sched_c.specs.Exports.{otherLength, timeAt, usageStruct, usageAnswer}
@@ -80,5 +80,6 @@ returns-4 c =
 pub bs-sched-usage-spec : {M : Type 1} → statement M
 bs-sched-usage-spec =
     tie.close
-    (tie.spec (λ c κs. search needs) (λ c κs. search needs) returns (λ c κs. search needs) (λ c κs. search needs) (λ c κs. search needs) (λ c κs. search needs) returns-2
+    (tie.spec (λ c κs. search needs) (λ c κs. search needs) returns (λ c κs. search needs) (λ c κs. search needs) (λ c κs. search needs)
+    (λ c κs. search needs) returns-2
     (λ c κs. search needs) (λ c κs. search needs) (λ c κs. search needs) returns-3 entry-at-requires (λ c κs. search needs) (λ c κs. search needs) returns-4)

@@ -1,6 +1,5 @@
 -- What the calls say, put together by the laws of building.
 use native.Mathlib.Omega.{arith}
-use mathlib.Core.Path.{_∙_}
 use Rattle.dl_sdu_store.proofs.OctetLaws.{Octets}
 use Rattle.dl_build.proofs.BuildLaws.{can-send, behind-kept, build-says}
 use borrow.Author.Needs.{needs}

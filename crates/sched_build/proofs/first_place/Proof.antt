@@ -1,5 +1,5 @@
 -- The timeslot as the time shows it. Assumes nothing.
-use mathlib.Core.Path.{_≡_, ap}
+use mathlib.Core.Path.{ap}
 use Prim.Native.Nat.{ℕ, _*_}
 use native.Mathlib.Omega.{arith}
 use Rattle.sizes.specs.Sizes.{perTimeslot}

@@ -1,5 +1,5 @@
 -- No run, a run too late, or a grant that is queued. Assumes nothing.
-use mathlib.Core.Path.{refl, sym, ap, _∙_, subst}
+use mathlib.Core.Path.{refl, sym, _∙_, subst}
 use Rattle.questions.specs.declared.Refusal.{Refusal}
 use Rattle.reservation_requirement.specs.Requirement.{requirementCode}
 use Rattle.uplink.specs.Request.{Request}

@@ -10,7 +10,6 @@ use types.Kit.{Given}
 use mir.Syntax as syntax
 use contract.Lifetimes as lifetimes
 use contract.Running as running
-use denote.Array.{Array}
 use denote.Struct.At.{getAt}
 use denote.Struct.Declared as declared
 use denote.Triple.Clauses as clauses

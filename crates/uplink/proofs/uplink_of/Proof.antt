@@ -218,11 +218,17 @@ module _ {M : Type 1} (𝓤 : URA M) (H : wp.Heap 𝓤) (A : Atoms 𝓤) (W : Gi
       (make.tells-row 𝓤 H A W E ρ (table-row.out 0 (start .locals)) m 3 (Four m) (arr-len 𝓤 H A W E (rtF (fInt syntax.w8)) ρ 3 4 zero (m .1 .1 .1 .0)))))
       (λ m q. made-val (apartT uplink.the-type) uplink-laws.the-laws (vals m) (parts m) (
         table-made (m .1 .1 .0) (q .1 .0),
-        (made-struct time.the-type time-laws.the-laws time-laws.lowers (m .1 .0) (q .0), (array-made u8-field laws.u8-laws make.u8-wt 4 (m .1 .1 .1 .0) (q .1 .1), tt)),
+        (
+          made-struct time.the-type time-laws.the-laws time-laws.lowers (m .1 .0) (q .0),
+          (array-made u8-field laws.u8-laws make.u8-wt 4 (m .1 .1 .1 .0) (q .1 .1), tt),
+        ),
       ))
       (λ m q. made-is (apartT uplink.the-type) uplink-laws.the-laws (vals m) (parts m) (
         table-made (m .1 .1 .0) (q .1 .0),
-        (made-struct time.the-type time-laws.the-laws time-laws.lowers (m .1 .0) (q .0), (array-made u8-field laws.u8-laws make.u8-wt 4 (m .1 .1 .1 .0) (q .1 .1), tt)),
+        (
+          made-struct time.the-type time-laws.the-laws time-laws.lowers (m .1 .0) (q .0),
+          (array-made u8-field laws.u8-laws make.u8-wt 4 (m .1 .1 .1 .0) (q .1 .1), tt),
+        ),
       )))
       d4
 

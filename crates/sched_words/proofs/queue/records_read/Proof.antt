@@ -1,9 +1,9 @@
 -- The first i records are read. Assumes nothing.
 use mathlib.Core.Path.{_≡_, refl, sym, _∙_, ap}
 use mathlib.Core.List.{_++_}
-use Prim.Native.Nat.{ℕ, _+_, _*_, _<_, _≤_, _-_}
+use Prim.Native.Nat.{ℕ, _+_, _*_, _≤_, _-_}
 use native.Mathlib.Omega.{arith}
-use lib.ListN.{length, getD, drop, take, replicate, length-drop}
+use lib.ListN.{length, drop, take, replicate, length-drop}
 use lib.Seq.{getD-take, getD-drop, length-take-le}
 use borrow.Author.Needs.{needs}
 use Rattle.sizes.specs.Sizes.{perTimeslot, queuePlaces}

@@ -1,12 +1,10 @@
 -- The words of the time, and of the entry that is emptied. Assumes nothing.
-use mathlib.Core.Path.{_≡_, sym, _∙_, ap, subst}
+use mathlib.Core.Path.{_∙_, ap}
 use mathlib.Core.List.{List, [], _∷_}
 use Prim.Native.Nat.{ℕ, _+_, _-_, _*_}
-use native.Mathlib.Omega.{arith}
 use lib.Seq.{sets}
 use borrow.Author.Needs.{needs}
-use Rattle.tdma_time.specs.declared.TdmaTime.{TdmaTime}
-use Rattle.tdma_time.specs.Time.{Valid, nextTime}
+use Rattle.tdma_time.specs.Time.{nextTime}
 use Rattle.sched_words.proofs.StationWords.{time-valid, advanced-words}
 use Rattle.sched_words.proofs.station.advance.Statement.{statement}
 use Rattle.sched_words.proofs.station.advance.Tie as tie
