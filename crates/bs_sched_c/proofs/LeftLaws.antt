@@ -110,11 +110,6 @@ grantReplies = record {
       r. refl;
 }
 
--- the number in a grant's answer
-pub grant-number : (r : RequestReply) → grantStruct r .refusal ≡ requestNumber r
-grant-number (RequestReply.Granted c d m) = refl
-grant-number (RequestReply.Refused r) = refl
-
 positive : (n : ℕ) → (n ≡ 0 → ⊥) → 1 ≤ n
 positive zero h = absurd (h refl)
 positive (suc n) h = omega arith

@@ -7,6 +7,7 @@ use crate::reply::BsSchedGrant;
 use crate::reply::BsSchedOwners;
 use crate::reply::BsSchedUsage;
 use questions::Refusal;
+use sched_core::RequestReply;
 use sched_words::QUEUE_WORDS;
 use sched_words::RECORD_WORDS;
 use sched_words::STATION_WORDS;
@@ -180,9 +181,9 @@ pub extern "C" fn bs_sched_request(
     let plan = sched_request::request_plan(s, timeslot, code, kind, number);
     let reply = plan.reply;
     let grant = reply::grant_of(reply);
-    if grant.refusal != 0 {
+    let RequestReply::Granted { .. } = reply else {
         return grant;
-    }
+    };
     let next = plan.station;
     let r = plan.record;
     sched_words::station::put_row_of(station, row, next);

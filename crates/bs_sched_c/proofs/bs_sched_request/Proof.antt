@@ -1,10 +1,12 @@
 -- Exit by exit. Assumes nothing.
 use borrow.Author.Needs.{needs}
 use borrow.Author.Tests.{ne-eqb}
-use mathlib.Core.Path.{_≡_, sym, _∙_, ap, subst}
+use mathlib.Core.Path.{_≡_, refl, ap, subst}
 use mathlib.Core.Bool.{true}
 use mathlib.Core.List.{List}
 use Prim.Native.Nat.{ℕ}
+use native.Mathlib.Omega.{arith}
+use Rattle.questions.proofs.NumberLaws.{number-positive}
 use Rattle.uplink.specs.Functions.{withRowOf}
 use Rattle.sched_core.specs.declared.Station.{Station}
 use Rattle.sched_core.specs.Station.{stationOf}
@@ -16,10 +18,9 @@ use Rattle.sched_enqueue.proofs.PlanLaws.{Told}
 use Rattle.sched_request.specs.RequestPlan.{RequestPlanned}
 use Rattle.sched_request.proofs.RowPlan.{row-station-sound, row-planned}
 use Rattle.sched_words.specs.Words.{stationFrom, recordsFrom}
-use Rattle.bs_sched_c.specs.declared.reply.BsSchedGrant.{BsSchedGrant}
 use Rattle.bs_sched_c.specs.Exports.{requestLeft}
 use Rattle.bs_sched_c.proofs.AskedLaws.{all-words, asked-yes}
-use Rattle.bs_sched_c.proofs.LeftLaws.{grantReplies, grant-number, exit-no, exit-refused, exit-done}
+use Rattle.bs_sched_c.proofs.LeftLaws.{grantReplies, exit-no, exit-refused, exit-done}
 use Rattle.bs_sched_c.proofs.bs_sched_request.Statement.{statement}
 use Rattle.bs_sched_c.proofs.bs_sched_request.Tie as tie
 
@@ -34,16 +35,16 @@ start q = sized q .before .before .before .before
 passed : (c : tie.Else2) → let a = start (c .before) .args in Told (stationFrom (a .station .now)) (recordsFrom (a .queue .now)) (a .store .now) true
 passed c = asked-yes _ _ _ true _ (c .before .memory-number .ensures) (c .if2 .left)
 
--- the number that the code looks at
-numbered : (c : tie.After-grant-of) → c .grant-of .result .refusal ≡ requestNumber (c .before .request-plan .result .reply)
-numbered c = ap (λ (x : BsSchedGrant). x .refusal) (c .grant-of .ensures) ∙ grant-number (c .before .request-plan .result .reply)
-
 -- back to the questions
 abbrev asked : tie.After-request-plan → tie.Else2
 asked p = p .before .before .before .before
 
 abbrev called : tie.After-request-plan → Memory → Outcome RequestReply
 called p m = let a = start (asked p .before) .args in requestCall m (a .timeslot) (a .code) (a .kind) (a .number)
+
+-- the number of the plan's reply
+abbrev number : tie.After-request-plan → ℕ
+number p = requestNumber (p .request-plan .result .reply)
 
 -- the station that the words stand for, and the row that is read of it
 abbrev whole : tie.After-request-plan → Station
@@ -90,8 +91,9 @@ returns-3 c =
     let p = g .before in
     let t = asked p in
     let a = start (t .before) .args in
+    let n = ap requestNumber (c .enum-told2 .given .1) in
     exit-refused grantReplies (a .station .now) (a .queue .now) (a .store .now) (sized (t .before) .if1 .left) (passed t .queue) (called p) _ _ _ _ _
-    (planned p (a .store .now)) _ (numbered g) _ (g .grant-of .ensures) (c .if3 .taken)
+    (planned p (a .store .now)) (number p) refl _ (g .grant-of .ensures) (λ z. omega (arith, z, n, number-positive (c .enum-told2 .given .0 .0)))
 
 put-row-of-requires : tie.Need-put-row-of-requires
 put-row-of-requires c κs =
@@ -101,11 +103,10 @@ put-row-of-requires c κs =
 put-record-requires : tie.Need-put-record-requires
 put-record-requires c κs =
     let n = c .before .before .before .before .before .before .before in
-    let g = n .before .before in
-    let p = g .before in
+    let p = n .before .before .before in
     let t = asked p in
     let a = start (t .before) .args in
-    (planned p (a .store .now) .joins (sym (numbered g) ∙ n .if3 .left), all-words (a .queue .now) (passed t .queue .places))
+    (planned p (a .store .now) .joins (ap requestNumber (n .enum-told .given .1)), all-words (a .queue .now) (passed t .queue .places))
 
 returns-4 : tie.Need-returns-4
 unfolding requestLeft
@@ -118,12 +119,13 @@ returns-4 c =
     let t = asked p in
     let a = start (t .before) .args in
     exit-done grantReplies (a .station .now) (a .queue .now) (a .store .now) (sized (t .before) .if1 .left) (passed t .queue) (called p) _ _ _ _ _
-    (planned p (a .store .now)) _ (numbered g) _ (g .grant-of .ensures) (n .if3 .left) _ _ (v .put-row-of .ensures) (w .put-record .ensures)
+    (planned p (a .store .now)) (number p) refl _ (g .grant-of .ensures) (ap requestNumber (n .enum-told .given .1)) _ _
+    (v .put-row-of .ensures) (w .put-record .ensures)
 
 pub bs-sched-request-spec : {M : Type 1} → statement M
 bs-sched-request-spec =
     tie.close
     (tie.spec (λ c κs. search needs) (λ c κs. search needs) returns (λ c κs. search needs) (λ c κs. search needs) (λ c. search needs) (λ c. search needs)
     returns-2
-    (λ c κs. search needs) station-of-row-requires request-plan-requires (λ c κs. search needs) (λ c. search needs) (λ c. search needs) returns-3
-    put-row-of-requires put-record-requires (λ c. search needs) (λ c. search needs) returns-4)
+    (λ c κs. search needs) station-of-row-requires request-plan-requires (λ c κs. search needs) (λ c. search needs) (λ c. search needs) (λ c. search needs)
+    (λ c. search needs) returns-3 put-row-of-requires put-record-requires (λ c. search needs) (λ c. search needs) returns-4)
