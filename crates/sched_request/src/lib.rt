@@ -24,11 +24,11 @@ ghost use Rattle.sched_core.specs.Questions.{soundStation};
 ghost use Rattle.sched_core.specs.Calls.{grantQueued, requestAnswered, requestCall};
 ghost use Rattle.sched_request.specs.RequestPlan.{refusedRequest, Grants, RequestPlanned};
 
-// The station after the request, the reply, and the grant that joins the queue with its place; where none joins, the place is past the
+// The reply, the station after the request, and the grant that joins the queue with its place; where none joins, the place is past the
 // queue, and the record the empty one.
 pub struct RequestPlan {
-    pub station: Station,
     pub reply: RequestReply,
+    pub station: Station,
     pub place: usize,
     pub record: Record,
 }

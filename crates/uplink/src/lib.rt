@@ -26,11 +26,10 @@ impl Entry {
     };
 }
 
-// The table by timeslot and frame, the time, and the next usage marker of each timeslot. The table stands first, here and in what holds
-// an uplink: with a gap before it the compiler copies it more often.
+// The time, the table by timeslot and frame, and the next usage marker of each timeslot.
 pub struct Uplink {
-    pub rows: [[Entry; 18]; 4],
     pub time: TdmaTime,
+    pub rows: [[Entry; 18]; 4],
     pub next_usage_marker: [u8; 4],
 }
 
@@ -39,8 +38,8 @@ pub fn uplink_of(time: TdmaTime, rows: [[Entry; 18]; 4], next_usage_marker: [u8;
     ensures { λ r. ⌜ r ≡ uplinkOf time rows «next_usage_marker» ⌝ }
 {
     Uplink {
-        rows: rows,
         time: time,
+        rows: rows,
         next_usage_marker: next_usage_marker,
     }
 }
@@ -103,10 +102,10 @@ pub enum CapReply {
     TooLate,
 }
 
-// The uplink after a request, and the reply.
+// The reply, and the uplink after it.
 pub struct CapAnswer {
-    pub uplink: Uplink,
     pub reply: CapReply,
+    pub uplink: Uplink,
 }
 
 // Is a half free?

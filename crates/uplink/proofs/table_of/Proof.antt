@@ -46,13 +46,13 @@ use Rattle.uplink.proofs.table_of.Kinds.{ps, r}
 use Rattle.uplink.proofs.table_of.Reads as reads
 use Rattle.uplink.proofs.table_of.Statement.{statement}
 
--- ---- the code: the result is field 0 of the parameter
+-- ---- the code: the result is field 1 of the parameter
 
 abbrev hs : List syntax.Home
 hs = syntax.valueLocal ∷ syntax.valueLocal ∷ []
 
 abbrev copies : syntax.Body
-copies = syntax.assign (syntax.place 0 []) (syntax.rvOpd (syntax.copy (syntax.place 1 (syntax.field 0 ∷ []))))
+copies = syntax.assign (syntax.place 0 []) (syntax.rvOpd (syntax.copy (syntax.place 1 (syntax.field 1 ∷ []))))
 
 abbrev body : syntax.Body
 body = syntax.seq copies syntax.return
@@ -79,10 +79,10 @@ outs = record { next = none; exits = []; returns = some end }
 
 -- the field's value, and the octets before it
 abbrev field : typed.Mo start → table .Denot
-field u = getAt (uplink.the-type .parts) 0 (uplink.struct .as-values (u .1 .0))
+field u = getAt (uplink.the-type .parts) 1 (uplink.struct .as-values (u .1 .0))
 
 abbrev before : ℕ
-before = 0
+before = 8
 
 abbrev copied : (bs : List ℕ) → typed.Both start read
 copied bs =
@@ -116,20 +116,20 @@ module _ {M : Type 1} (𝓤 : URA M) (H : wp.Heap 𝓤) (A : Atoms 𝓤) (W : Gi
   walked =
       typed.s-seq 𝓤 H A W 𝓣 E start read copies syntax.return outs (typed.both (copied bs)) (λ Ψ. typed.pass read end dropped (typed.atRet outs Ψ))
       (t-way-copy-out 𝓤 H A W E 𝓣 table refl (cArr row (elem .cp) 4 .copy 𝓤 H A W) (λ ρ. Unit {0}) start (table-row.out 1 (start .locals))
-      (λ u. table-row.drop 1 (start .locals) u) [] 1 (λ t. syntax.field 0 ∷ t) tableTy tableTy 0
+      (λ u. table-row.drop 1 (start .locals) u) [] 1 (λ t. syntax.field 1 ∷ t) tableTy tableTy 0
       result (λ x. x) field (λ u. (base, 0 + before))
       (λ T. record { locals = table-row.setRow 1 (1, held) T; slots = [] })
       (λ u T m. table-row.set 1 (1, held) (u .1 .0) T m)
       (λ u. Unit {0}) (λ x. Unit {0}) (told-none 𝓤 H A []) (learns-nothing 𝓤 H A table)
       (λ ρ told u asked.
-      w-partˢ 𝓤 H A W E (declared.row uplink.the-type) table uplink-laws.mir tableTy 0 before (u .1 .0) (field u) (base, 0)
+      w-partˢ 𝓤 H A W E (declared.row uplink.the-type) table uplink-laws.mir tableTy 1 before (u .1 .0) (field u) (base, 0)
       (w-look 𝓤 H A W E
       (w-local 𝓤 H A W E start ρ u [] 1 (declared.row uplink.the-type) held (λ x. x) (λ x. x) (u .1 .0)
       (mem-whole 𝓤 H A W (declared.row uplink.the-type) ρ (u .1 .0) base)
       (whole-mem 𝓤 H A W (declared.row uplink.the-type) ρ (u .1 .0) base)))
       refl
       (λ q. cut-table 𝓤 H A q (declared.row uplink.the-type) before (u .1 .0) (field u) (base, 0)
-      (look-at 𝓤 H A W q uplink.the-type uplink-laws.the-laws 0 before refl refl (base, 0) (u .1 .0) (uplink.struct .as-values (u .1 .0)) refl)))
+      (look-at 𝓤 H A W q uplink.the-type uplink-laws.the-laws 1 before refl refl (base, 0) (u .1 .0) (uplink.struct .as-values (u .1 .0)) refl)))
       (room-gone 𝓤 H A tableTy)
       (makes-mem 𝓤 H A W (λ ρ. Unit {0}) table refl result (λ x. x) (λ ρ told. arr-mem 𝓤 H A W row 4 tt ρ))
       refl refl refl)

@@ -59,7 +59,7 @@ abbrev hs : List syntax.Home
 hs = syntax.valueLocal ∷ syntax.valueLocal ∷ syntax.valueLocal ∷ syntax.valueLocal ∷ []
 
 abbrev makes : syntax.Body
-makes = syntax.assign (syntax.place 0 []) (syntax.aggregate (syntax.copy (syntax.place 2 []) ∷ syntax.copy (syntax.place 1 []) ∷ syntax.copy
+makes = syntax.assign (syntax.place 0 []) (syntax.aggregate (syntax.copy (syntax.place 1 []) ∷ syntax.copy (syntax.place 2 []) ∷ syntax.copy
     (syntax.place 3 []) ∷ []))
 
 abbrev body : syntax.Body
@@ -110,7 +110,7 @@ abbrev outs : typed.Outs
 outs = record { next = none; exits = []; returns = some end }
 
 abbrev parts : typed.Mo start → declared.row (apartT uplink.the-type) .Denot
-parts m = (m .1 .1 .0, (m .1 .0, (m .1 .1 .1 .0, tt)))
+parts m = (m .1 .0, (m .1 .1 .0, (m .1 .1 .1 .0, tt)))
 
 abbrev making : typed.Mo start → typed.Mo made
 making = make.n-make (declared.row (apartT uplink.the-type)) start 0 parts
@@ -166,7 +166,7 @@ abbrev Told : typed.Mo start → Type 0
 Told m = IsTime m × (IsTable m × Four m)
 
 abbrev vals : typed.Mo start → List Val
-vals m = tableVal (m .1 .1 .0) ∷ timeVal (m .1 .0) ∷ countersVal (m .1 .1 .1 .0) ∷ []
+vals m = timeVal (m .1 .0) ∷ tableVal (m .1 .1 .0) ∷ countersVal (m .1 .1 .1 .0) ∷ []
 
 -- ---- the walk
 
@@ -201,11 +201,11 @@ module _ {M : Type 1} (𝓤 : URA M) (H : wp.Heap 𝓤) (A : Atoms 𝓤) (W : Gi
       typed.s-seq 𝓤 H A W 𝓣 E start made makes syntax.return outs (typed.pass start made making) at4
       (make.t-make-told 𝓤 H A W E 𝓣 (declared.row (apartT uplink.the-type)) refl (laws.val (apartT uplink.the-type) uplink-laws.the-laws)
       (laws.lawful (apartT uplink.the-type) uplink-laws.the-laws 𝓤 H A W) (laws.makes (apartT uplink.the-type) uplink-laws.the-plain 𝓤 H A) start 0
-      (oAt 2 tableTy tableVal ∷ oAt 1 time-laws.mir timeVal ∷ oAt 3 countersTy countersVal ∷ [])
+      (oAt 1 time-laws.mir timeVal ∷ oAt 2 tableTy tableVal ∷ oAt 3 countersTy countersVal ∷ [])
       parts Told (room-gone 𝓤 H A uplink-laws.mir) (
-        (arrays.arr-reads 𝓤 H A W elem elem-laws 4, refl),
+        (reads-struct 𝓤 H A W time.the-type time-laws.the-laws, refl),
         (
-          (reads-struct 𝓤 H A W time.the-type time-laws.the-laws, refl),
+          (arrays.arr-reads 𝓤 H A W elem elem-laws 4, refl),
           ((arrays.arr-reads 𝓤 H A W (arrays.eInt syntax.w8) (arrays.eInt-laws syntax.w8) 4, refl), tt),
         ),
       )
@@ -217,18 +217,12 @@ module _ {M : Type 1} (𝓤 : URA M) (H : wp.Heap 𝓤) (A : Atoms 𝓤) (W : Gi
       (make.tells-row 𝓤 H A W E ρ (table-row.out 0 (start .locals)) m 2 (IsTable m) (arr-is 𝓤 H A W E row tt rowVal row-tells 4 ρ 2 (m .1 .1 .0)))
       (make.tells-row 𝓤 H A W E ρ (table-row.out 0 (start .locals)) m 3 (Four m) (arr-len 𝓤 H A W E (rtF (fInt syntax.w8)) ρ 3 4 zero (m .1 .1 .1 .0)))))
       (λ m q. made-val (apartT uplink.the-type) uplink-laws.the-laws (vals m) (parts m) (
-        table-made (m .1 .1 .0) (q .1 .0),
-        (
-          made-struct time.the-type time-laws.the-laws time-laws.lowers (m .1 .0) (q .0),
-          (array-made u8-field laws.u8-laws make.u8-wt 4 (m .1 .1 .1 .0) (q .1 .1), tt),
-        ),
+        made-struct time.the-type time-laws.the-laws time-laws.lowers (m .1 .0) (q .0),
+        (table-made (m .1 .1 .0) (q .1 .0), (array-made u8-field laws.u8-laws make.u8-wt 4 (m .1 .1 .1 .0) (q .1 .1), tt)),
       ))
       (λ m q. made-is (apartT uplink.the-type) uplink-laws.the-laws (vals m) (parts m) (
-        table-made (m .1 .1 .0) (q .1 .0),
-        (
-          made-struct time.the-type time-laws.the-laws time-laws.lowers (m .1 .0) (q .0),
-          (array-made u8-field laws.u8-laws make.u8-wt 4 (m .1 .1 .1 .0) (q .1 .1), tt),
-        ),
+        made-struct time.the-type time-laws.the-laws time-laws.lowers (m .1 .0) (q .0),
+        (table-made (m .1 .1 .0) (q .1 .0), (array-made u8-field laws.u8-laws make.u8-wt 4 (m .1 .1 .1 .0) (q .1 .1), tt)),
       )))
       d4
 

@@ -487,10 +487,10 @@ b17 = Syntax.call "bs_sched::put_record" ((Syntax.copy (Syntax.place 20 [])) ∷
     ∷ []) (Syntax.place 18 [])
 
 abbrev b18 : Syntax.Body
-b18 = Syntax.assign (Syntax.place 13 []) (Syntax.rvOpd (Syntax.copy (Syntax.place 10 ((Syntax.field 1) ∷ []))))
+b18 = Syntax.assign (Syntax.place 13 []) (Syntax.rvOpd (Syntax.copy (Syntax.place 10 ((Syntax.field 0) ∷ []))))
 
 abbrev b19 : Syntax.Body
-b19 = Syntax.assign (Syntax.place 14 []) (Syntax.rvOpd (Syntax.copy (Syntax.place 10 ((Syntax.field 0) ∷ []))))
+b19 = Syntax.assign (Syntax.place 14 []) (Syntax.rvOpd (Syntax.copy (Syntax.place 10 ((Syntax.field 1) ∷ []))))
 
 abbrev b20 : Syntax.Body
 b20 = Syntax.assign (Syntax.place 0 []) (Syntax.aggregate ((Syntax.copy (Syntax.place 13 [])) ∷ (Syntax.copy (Syntax.place 14 [])) ∷ []))
@@ -929,11 +929,11 @@ module _ (claims· : Claims) where
   s36 = λ bs. Relend.k-back-sl in-Record.row T37 20 2 0 3 τ5 τ4 Row.off (λ x. x) λ x. x
 
   abbrev s38 : (bs : List.List Nat.ℕ) → Typed.Mo T39 → Typed.Mo T41
-  s38 = λ bs. Make'.n-make (Declared.row RequestReply.the-type) T39 13 λ m. RequestPlan.struct .as-values (m .1 .1 .1 .1 .1 .1 .1 .1 .1 .1 .0) .1 .0
+  s38 = λ bs. Make'.n-make (Declared.row RequestReply.the-type) T39 13 λ m. RequestPlan.struct .as-values (m .1 .1 .1 .1 .1 .1 .1 .1 .1 .1 .0) .0
 
   abbrev s39 : (bs : List.List Nat.ℕ) → Typed.Both T41 T42
   s39 = λ bs. WayStmt.k-way-copy-out T41 (Row.out 10 (T41 .locals)) (λ u. Row.drop 10 (T41 .locals) u) 14 ρ4 (λ u. At.getAt (RequestPlan.the-type
-      .parts) 0 (RequestPlan.struct .as-values (u .1 .1 .1 .1 .1 .1 .1 .1 .1 .1 .0))) (λ T′. record { locals = Row.setRow 10 ε34 T′; slots = [] }) (λ
+      .parts) 1 (RequestPlan.struct .as-values (u .1 .1 .1 .1 .1 .1 .1 .1 .1 .1 .0))) (λ T′. record { locals = Row.setRow 10 ε34 T′; slots = [] }) (λ
       u T′ m′. Row.set 10 ε34 (u .1 .1 .1 .1 .1 .1 .1 .1 .1 .1 .0) T′ m′) (λ u. Unit) λ u. Unit
 
   abbrev s40 : (bs : List.List Nat.ℕ) → Typed.Mo T42 → Typed.Mo T43
@@ -1687,16 +1687,16 @@ module _ (claims· : Claims) where
           d34 : Typed.Typed 𝓤 H A 𝓣 E G41 b23 Δ0 (at34 bs)
           d34 = Typed.s-seq 𝓤 H A W 𝓣 E G41 G42 b19 b22 Δ0 (Typed.both (s39 bs)) (at33 bs) (WayStmt.t-way-copy-out 𝓤 H A W E 𝓣 (Declared'.row
               Station.the-type) Path'.refl (Copies.cStruct Station.the-type Laws'4.the-laws Laws'4.the-copy .copy 𝓤 H A W) (λ ρ. Unit) G41 (Row.out 10
-              (G41 .locals)) (λ u. Row.drop 10 (G41 .locals) u) (G41 .slots) 10 (λ t. ((Syntax.field 0) ∷ t)) mirs.sched_core-Station
-              mirs.sched_core-Station 14 ρ4 (λ x. x) (λ u. At.getAt (RequestPlan.the-type .parts) 0 (RequestPlan.struct .as-values (u .1 .1 .1 .1 .1
+              (G41 .locals)) (λ u. Row.drop 10 (G41 .locals) u) (G41 .slots) 10 (λ t. ((Syntax.field 1) ∷ t)) mirs.sched_core-Station
+              mirs.sched_core-Station 14 ρ4 (λ x. x) (λ u. At.getAt (RequestPlan.the-type .parts) 1 (RequestPlan.struct .as-values (u .1 .1 .1 .1 .1
               .1 .1 .1 .1 .1 .0))) (λ u. (
                 Row.hd 0 (Row.tl (Row.tl (Row.tl (Row.tl (Row.tl (Row.tl (Row.tl (Row.tl (Row.tl (Row.tl bs)))))))))),
-                Nat._+_ 0 0,
+                Nat._+_ 0 8,
               )) (λ T′. record { locals = Row.setRow 10 ε34 T′; slots = G41 .slots }) (λ u T′ m′. Row.set 10 ε34 (u .1 .1 .1 .1 .1 .1 .1 .1
               .1 .1 .0) T′ m′) (λ u. Unit) (λ x. Unit) (Own.told-none 𝓤 H A (G41 .slots)) (DerefMove.learns-nothing 𝓤 H A (Declared'.row
               Station.the-type)) (λ ρ told u asked. Way'.w-partˢ 𝓤 H A W E (Declared'.row RequestPlan.the-type) (Declared'.row Station.the-type)
-              mirs.sched_request-RequestPlan mirs.sched_core-Station 0 0 (u .1 .1 .1 .1 .1 .1 .1 .1 .1 .1 .0) (At.getAt (RequestPlan.the-type .parts)
-              0 (RequestPlan.struct .as-values (u .1 .1 .1 .1 .1 .1 .1 .1 .1 .1 .0))) (
+              mirs.sched_request-RequestPlan mirs.sched_core-Station 1 8 (u .1 .1 .1 .1 .1 .1 .1 .1 .1 .1 .0) (At.getAt (RequestPlan.the-type .parts)
+              1 (RequestPlan.struct .as-values (u .1 .1 .1 .1 .1 .1 .1 .1 .1 .1 .0))) (
                 Row.hd 0 (Row.tl (Row.tl (Row.tl (Row.tl (Row.tl (Row.tl
                     (Row.tl (Row.tl (Row.tl (Row.tl bs)))))))))),
                 0,
@@ -1705,14 +1705,14 @@ module _ (claims· : Claims) where
               RequestPlan.the-type) ρ (u .1 .1 .1 .1 .1 .1 .1 .1 .1 .1 .0) (Row.hd 0 (Row.tl (Row.tl (Row.tl (Row.tl (Row.tl (Row.tl (Row.tl (Row.tl
               (Row.tl (Row.tl bs)))))))))))) (Local.whole-mem 𝓤 H A W (Declared'.row RequestPlan.the-type) ρ (u .1 .1 .1 .1 .1 .1 .1 .1 .1 .1 .0)
               (Row.hd 0 (Row.tl (Row.tl (Row.tl (Row.tl (Row.tl (Row.tl (Row.tl (Row.tl (Row.tl (Row.tl bs)))))))))))))) Path'.refl λ q.
-              Inner.cut-record 𝓤 H A q (Declared'.row RequestPlan.the-type) Station.the-type 0 (u .1 .1 .1 .1 .1 .1 .1 .1 .1 .1 .0) (u .1 .1 .1 .1 .1
-              .1 .1 .1 .1 .1 .0) (At.getAt (RequestPlan.the-type .parts) 0 (RequestPlan.struct .as-values (u .1 .1 .1 .1 .1 .1 .1 .1 .1 .1 .0)))
-              (At.getAt (RequestPlan.the-type .parts) 0 (RequestPlan.struct .as-values (u .1 .1 .1 .1 .1 .1 .1 .1 .1 .1 .0))) (
+              Inner.cut-record 𝓤 H A q (Declared'.row RequestPlan.the-type) Station.the-type 8 (u .1 .1 .1 .1 .1 .1 .1 .1 .1 .1 .0) (u .1 .1 .1 .1 .1
+              .1 .1 .1 .1 .1 .0) (At.getAt (RequestPlan.the-type .parts) 1 (RequestPlan.struct .as-values (u .1 .1 .1 .1 .1 .1 .1 .1 .1 .1 .0)))
+              (At.getAt (RequestPlan.the-type .parts) 1 (RequestPlan.struct .as-values (u .1 .1 .1 .1 .1 .1 .1 .1 .1 .1 .0))) (
                 Row.hd 0 (Row.tl
                     (Row.tl (Row.tl (Row.tl (Row.tl (Row.tl (Row.tl (Row.tl (Row.tl (Row.tl bs)))))))))),
                 0,
               ) (Behind.look-at 𝓤 H A W q RequestPlan.the-type
-              Laws'5.the-laws 0 0 Path'.refl Path'.refl (
+              Laws'5.the-laws 1 8 Path'.refl Path'.refl (
                 Row.hd 0 (Row.tl (Row.tl (Row.tl (Row.tl (Row.tl (Row.tl (Row.tl (Row.tl (Row.tl (Row.tl
                     bs)))))))))),
                 0,
@@ -1723,12 +1723,12 @@ module _ (claims· : Claims) where
           d35 : Typed.Typed 𝓤 H A 𝓣 E G40 b24 Δ0 (at35 bs)
           d35 = Typed.s-seq 𝓤 H A W 𝓣 E G40 G41 b18 b23 Δ0 (Typed.pass T39 T41 (s38 bs)) (at34 bs) (CopyOut.t-copy-told 𝓤 H A W E 𝓣 (Declared.row
               RequestReply.the-type) Path'.refl (Laws'7.val RequestReply.the-type Laws'3.the-laws) (Laws'7.lawful RequestReply.the-type
-              Laws'3.the-laws 𝓤 H A W tt) (Laws'7.makes RequestReply.the-type Laws'3.the-plain 𝓤 H A) G40 13 (Scalar.oFld 10 ((Syntax.field 1) ∷ [])
-              mirs.sched_core-RequestReply 1456 λ x. Laws'7.val RequestReply.the-type Laws'3.the-laws (RequestPlan.struct .as-values x .1 .0)) (λ m.
-              RequestPlan.struct .as-values (m .1 .1 .1 .1 .1 .1 .1 .1 .1 .1 .0) .1 .0) (λ m. Laws'8.Is (Declared'.row RequestPlan.the-type) (m .1 .1
-              .1 .1 .1 .1 .1 .1 .1 .1 .0) (Laws'9.vals RequestPlan.the-type Laws'5.the-laws (m .1 .1 .1 .1 .1 .1 .1 .1 .1 .1 .0))) (Reads'.room-gone 𝓤
-              H A mirs.sched_core-RequestReply) (
-                Reads.reads-field 𝓤 H A W RequestPlan.the-type Laws'5.the-laws 1 mirs.sched_core-RequestReply 1456
+              Laws'3.the-laws 𝓤 H A W tt) (Laws'7.makes RequestReply.the-type Laws'3.the-plain 𝓤 H A) G40 13 (Scalar.oFld 10 ((Syntax.field 0) ∷ [])
+              mirs.sched_core-RequestReply 0 λ x. Laws'7.val RequestReply.the-type Laws'3.the-laws (RequestPlan.struct .as-values x .0)) (λ m.
+              RequestPlan.struct .as-values (m .1 .1 .1 .1 .1 .1 .1 .1 .1 .1 .0) .0) (λ m. Laws'8.Is (Declared'.row RequestPlan.the-type) (m .1 .1 .1
+              .1 .1 .1 .1 .1 .1 .1 .0) (Laws'9.vals RequestPlan.the-type Laws'5.the-laws (m .1 .1 .1 .1 .1 .1 .1 .1 .1 .1 .0))) (Reads'.room-gone 𝓤 H
+              A mirs.sched_core-RequestReply) (
+                Reads.reads-field 𝓤 H A W RequestPlan.the-type Laws'5.the-laws 0 mirs.sched_core-RequestReply 0
                     Path'.refl,
                 Path'.refl,
               ) Path'.refl (λ ρ m. Make'.tells-row 𝓤 H A W E ρ (Row.out 13 (G40 .locals)) m 10 (Laws'8.Is (Declared'.row
@@ -1736,7 +1736,7 @@ module _ (claims· : Claims) where
               .1 .1 .0))) (Make'.whole-is 𝓤 H A W E (Declared'.row RequestPlan.the-type) Path'.refl (Laws'9.val RequestPlan.the-type Laws'5.the-laws)
               (Laws'9.tells RequestPlan.the-type Laws'5.the-laws) ρ 10 (m .1 .1 .1 .1 .1 .1 .1 .1 .1 .1 .0))) (λ m k wa. Path'.refl) λ m k wa.
               Laws'9.owed RequestPlan.the-type Laws'5.the-laws (m .1 .1 .1 .1 .1 .1 .1 .1 .1 .1 .0) (Laws'9.vals RequestPlan.the-type Laws'5.the-laws
-              (m .1 .1 .1 .1 .1 .1 .1 .1 .1 .1 .0)) k .1 .0) d34
+              (m .1 .1 .1 .1 .1 .1 .1 .1 .1 .1 .0)) k .0) d34
 
           d36 : Typed.Typed 𝓤 H A 𝓣 E G39 b24 Δ0 (at36 bs)
           d36 = Typed.g-pre 𝓤 H A W 𝓣 E G39 G40 b24 Δ0 (λ Ψ. Ψ) (at35 bs) (Lifetime.g-forget 𝓤 H A W E G39 3 Row.dead Path'.refl) d35
