@@ -1,5 +1,5 @@
 //! What the streams cannot ask: headers, acknowledgements, owners and usage, and buffers of wrong length or content.
-use bs_sched::{ffi, Address, AddressKind, ChanAlloc, Header, Owners, Refusal, Scheduler, Time, Usage};
+use bs_sched::{Address, AddressKind, ChanAlloc, Header, Owners, Refusal, Requirement, Scheduler, Time, Usage, ffi};
 
 const FIRST: Time = Time { h: 0, m: 1, f: 1, t: 1 };
 
@@ -47,13 +47,13 @@ fn an_acknowledgement_is_a_flag() {
 fn owners_and_usage() {
     let mut s = Scheduler::new(FIRST).unwrap();
     let at = |f| Time { f, ..FIRST };
-    s.request(1, 0, ssi(5)).unwrap();
+    s.request(1, Requirement::Req1Subslot, ssi(5)).unwrap();
     assert_eq!(s.slot_owner(FIRST), Ok(Owners { both: None, first: Some(5), second: None }));
     assert_eq!(s.usage(FIRST), Ok(Usage::CommonAndAssigned));
-    s.request(1, 0, ssi(6)).unwrap();
+    s.request(1, Requirement::Req1Subslot, ssi(6)).unwrap();
     assert_eq!(s.slot_owner(FIRST), Ok(Owners { both: None, first: Some(5), second: Some(6) }));
     assert_eq!(s.usage(FIRST), Ok(Usage::AssignedOnly));
-    assert_eq!(s.request(1, 2, ssi(9)).unwrap().usage_marker, Some(4));
+    assert_eq!(s.request(1, Requirement::Req2Slots, ssi(9)).unwrap().usage_marker, Some(4));
     assert_eq!(s.slot_owner(at(2)), Ok(Owners { both: Some(9), first: Some(9), second: Some(9) }));
     assert_eq!(s.usage(at(2)), Ok(Usage::Traffic(4)));
     assert_eq!(s.usage(at(4)), Ok(Usage::CommonOnly));
@@ -102,9 +102,11 @@ fn illegal_words() {
     }
     assert_eq!(with(alloc, 18, 1), 6);
     assert_eq!(with(plain, 1, 3), 5);
-    // words that are no record's: the record that stands for them has no kind of address
-    for (place, value) in [(0, 5), (1, 256), (3, 65537), (4, 256), (11, 2), (12, 1), (21, 65544)] {
-        assert_eq!(with(plain, place, value), 5, "word {place} is {value}");
+    // a word that is too wide: the number of its question; kind and bits sent do not count
+    for (place, value, number) in
+        [(1, 256, 5), (2, 1 << 24, 5), (3, 65537, 6), (4, 256, 6), (10, 257, 6), (11, 2, 6), (12, 1, 6), (21, 65544, 7), (0, 5, 0), (22, u32::MAX, 0)]
+    {
+        assert_eq!(with(plain, place, value), number, "word {place} is {value}");
     }
     assert_eq!((offer(&plain[..22]), offer(&[])), (2, 2));
 }
@@ -126,7 +128,7 @@ fn wrong_lengths() {
     let station: [u32; ffi::STATION_WORDS] = station.try_into().unwrap();
     for (q, o) in [(0, 0), (queue.len() - 1, store.len()), (queue.len(), store.len() - 1), (queue.len() + 23, store.len())] {
         let mut t = Scheduler::from_parts(station, vec![0; q], vec![0; o]);
-        assert_eq!(t.request(1, 1, ssi(1)), Err(Refusal::Lengths));
+        assert_eq!(t.request(1, Requirement::Req1Slot, ssi(1)), Err(Refusal::Lengths));
         assert_eq!(t.enqueue_ack(1, ssi(1)), Err(Refusal::Lengths));
         assert_eq!(t.enqueue(1, ssi(1), None, Header::default(), 0, &[]), Err(Refusal::Lengths));
         assert_eq!(t.build(), Err(Refusal::Lengths));
@@ -158,7 +160,7 @@ fn no_such_kind() {
 fn any_content() {
     let mut busy = Scheduler::new(FIRST).unwrap();
     busy.enqueue(1, ssi(1), Some(3), Header { chan_alloc_element: Some(allocation()), ..Header::default() }, 600, &[0xa5; 75]).unwrap();
-    busy.request(1, 2, ssi(2)).unwrap();
+    busy.request(1, Requirement::Req2Slots, ssi(2)).unwrap();
     busy.enqueue_ack(2, ssi(3)).unwrap();
     busy.build().unwrap();
     let (station, queue, store) = busy.parts();
@@ -172,7 +174,7 @@ fn any_content() {
                 Some(i) => q[i] = value,
             }
             let mut t = Scheduler::from_parts(s.clone().try_into().unwrap(), q.clone(), store.clone());
-            let r = t.request(1, 1, ssi(4));
+            let r = t.request(1, Requirement::Req1Slot, ssi(4));
             if r.is_err() {
                 assert_eq!(t.parts(), (&s[..], &q[..], &store[..]));
                 refused += 1;

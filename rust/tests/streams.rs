@@ -1,6 +1,6 @@
 //! The streams of tests/oracle through this interface: the answers are those of the published Rust, and of document 01 in
 //! tests/oracle/differences.
-use bs_sched::{Address, AddressKind, Header, Refusal, Scheduler, Time};
+use bs_sched::{Address, AddressKind, Header, Refusal, Requirement, Scheduler, Time, ffi};
 use std::path::{Path, PathBuf};
 
 fn octets(text: &str) -> Vec<u8> {
@@ -28,8 +28,11 @@ impl Session {
 
     fn request(&mut self, a: &[u8]) -> String {
         let address = address_of(a[2], u32::from_be_bytes([a[3], a[4], a[5], a[6]]));
-        match self.scheduler.request(a[0], a[1], address) {
-            Ok(g) => format!("R 0 {} {} {}", g.capacity, g.delay, g.usage_marker.unwrap_or(0)),
+        let Some(requirement) = Requirement::from_code(a[1]) else {
+            return format!("R {}", no_such_code(&self.scheduler, a[0], a[1], address));
+        };
+        match self.scheduler.request(a[0], requirement, address) {
+            Ok(g) => format!("R 0 {} {} {}", g.capacity.code().unwrap(), g.delay, g.usage_marker.unwrap_or(0)),
             Err(r) => format!("R {}", r.number()),
         }
     }
@@ -61,6 +64,17 @@ impl Session {
             }
         }
     }
+}
+
+// The safe interface has no code above 15: the library is asked, on copies.
+fn no_such_code(s: &Scheduler, timeslot: u8, code: u8, address: Address) -> u8 {
+    let (station, queue, store) = s.parts();
+    let (mut w, mut q) = (station.to_vec(), queue.to_vec());
+    let (l, n) = (w.len(), q.len());
+    let (store, k, kind) = (store.as_ptr(), store.len(), address.kind as u8);
+    let g = unsafe { ffi::bs_sched_request(w.as_mut_ptr(), l, q.as_mut_ptr(), n, store, k, timeslot, code, kind, address.number) };
+    assert_eq!((&w[..], &q[..]), (station, queue));
+    g.refusal
 }
 
 // The safe interface has no kind above 2: in its place a number that question 5 refuses too.

@@ -5,7 +5,7 @@
 _Static_assert(sizeof(struct bs_sched_grant) == 4, "grant");
 _Static_assert(sizeof(struct bs_sched_built) == 36, "built");
 _Static_assert(sizeof(struct bs_sched_owners) == 16, "owners");
-_Static_assert(sizeof(struct bs_sched_usage) == 3, "usage");
+_Static_assert(sizeof(struct bs_sched_slot_usage) == 3, "usage");
 
 static uint32_t station[BS_SCHED_STATION_WORDS];
 static uint32_t queue[BS_SCHED_QUEUE_WORDS];

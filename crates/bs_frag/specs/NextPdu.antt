@@ -62,8 +62,8 @@ pub record Next : Type 0 where
   pub room : ℕ
   pub outcome : ChunkOutcome
 
--- The first PDU: whole, "filled .. to the octet, or to the block's end if that is nearer"; nothing, "a record that does not fit, with fewer than 32 bits
--- left or fewer than its header"; or the first fragment, which fills the block.
+-- The first PDU: whole, "filled .. to the octet, or to the block's end if that is nearer"; nothing, for "A record that does not fit, with fewer than 32
+-- bits left or fewer than its header"; or the first fragment, which fills the block.
 unfoldable pub beginWith : ℕ → ℕ → Record → List ℕ → Next
 beginWith h room r sdu =
     let n : ℕ = h + r .bits in

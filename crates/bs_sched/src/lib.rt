@@ -23,15 +23,14 @@ ghost use lib.Seq.{paste};
 ghost use Rattle.sizes.specs.Sizes.{perTimeslot};
 ghost use Rattle.dl_record.specs.Record.{emptyRecord};
 ghost use Rattle.dl_queue.specs.Questions.{soundPlace};
-ghost use Rattle.questions.specs.declared.Refusal.{Refusal};
-ghost use Rattle.questions.specs.Questions.{question, ask};
+ghost use Rattle.questions.specs.Questions.{question, askedNumber};
 ghost use Rattle.sched_core.specs.declared.BuildReply.{BuildReply};
 ghost use Rattle.sched_core.specs.Station.{withQueued};
 ghost use Rattle.sched_core.specs.Questions.{memory, soundStation, memoryQuestions};
+ghost use Rattle.sched_core.specs.Replies.{queueReply, requestReply, ownerReply, usageReply};
 ghost use Rattle.sched_core.specs.Calls.{outcome, current, requestCall, ackCall, tmaCall, buildCall};
 ghost use Rattle.sched_core.specs.Calls.{stationOutcome, newCall, advanceCall, ownerCall, usageCall};
-ghost use Rattle.bs_sched.specs.declared.Passage.{Passage};
-ghost use Rattle.bs_sched.specs.Entries.{buildAnswerOf, buildLeft, leftBy};
+ghost use Rattle.bs_sched.specs.Entries.{passageNumber, buildAnswerOf, buildLeft, leftBy};
 
 // What a build answers: the reply, the tags of the records that are finished, and the station after the call.
 pub struct BuildAnswer {
@@ -55,7 +54,7 @@ fn empty_record() -> Record
 }
 
 // Stores r at place i; past the end nothing.
-pub fn put_record(queue: &mut [Record], i: usize, r: Record)
+fn put_record(queue: &mut [Record], i: usize, r: Record)
     ensures { λ _. ⌜ now (queue .exit) ≡ set (now (queue .entry)) i r ⌝ }
 {
     if i < queue.len() {
@@ -78,8 +77,7 @@ fn unfilled_is_sound(r: Record, cell: &[u8]) -> bool
 // Questions 1 and 2 over the station and the caller's queue and store. `lent` says whether what else is lent has its length. A
 // timeslot's filled places come first, so each kind of place has a loop of its own.
 fn ask_memory(s: Station, queue: &[Record], store: &[u8], lent: bool) -> Passage
-    ensures { λ r. ⌜ r ≡ ask (memoryQuestions (memory s (now (queue .entry)) (now (store .entry))) (question lent Refusal.Lengths ∷ []))
-        Passage.Passed Passage.No ⌝ }
+    ensures { λ r. ⌜ passageNumber r ≡ askedNumber (memoryQuestions (memory s (now (queue .entry)) (now (store .entry))) (question lent 2 ∷ [])) ⌝ }
 {
     if !sched_core::station_is_sound(s) {
         return Passage::No(Refusal::Unsound);
@@ -188,28 +186,28 @@ fn built(plan: Progress, station: Station) -> BuildAnswer
 
 // A new station at a time: an empty table and queues, and markers at 4.
 pub fn new(time: TdmaTime) -> Answer
-    ensures { λ r. ⌜ stationOutcome (r .reply) (r .station) ≡ newCall time ⌝ }
+    ensures { λ r. ⌜ stationOutcome (queueReply (r .reply)) (r .station) ≡ newCall time ⌝ }
 {
     sched_core::new(time)
 }
 
 // One slot on.
 pub fn advance(s: Station) -> Answer
-    ensures { λ r. ⌜ stationOutcome (r .reply) (r .station) ≡ advanceCall s ⌝ }
+    ensures { λ r. ⌜ stationOutcome (queueReply (r .reply)) (r .station) ≡ advanceCall s ⌝ }
 {
     sched_core::advance(s)
 }
 
 // Who holds the first half of the slot at a time, the second, or both.
 pub fn ul_get_slot_owner(s: Station, ts: TdmaTime, slot: PhyBlockNum) -> OwnerReply
-    ensures { λ r. ⌜ r ≡ ownerCall s ts slot ⌝ }
+    ensures { λ r. ⌜ ownerReply r ≡ ownerCall s ts slot ⌝ }
 {
     sched_core::ul_get_slot_owner(s, ts, slot)
 }
 
 // How the slot at a time is used.
 pub fn ul_get_usage(s: Station, ts: TdmaTime) -> UsageReply
-    ensures { λ r. ⌜ r ≡ usageCall s ts ⌝ }
+    ensures { λ r. ⌜ usageReply r ≡ usageCall s ts ⌝ }
 {
     sched_core::ul_get_usage(s, ts)
 }
@@ -224,7 +222,7 @@ pub fn ul_process_cap_req(
     kind: u8,
     number: u32,
 ) -> RequestAnswer
-    ensures { λ r. ⌜ outcome (r .reply) (memory (r .station) (now (queue .exit)) (now (store .entry)))
+    ensures { λ r. ⌜ outcome (requestReply (r .reply)) (memory (r .station) (now (queue .exit)) (now (store .entry)))
         ≡ requestCall (memory s (now (queue .entry)) (now (store .entry))) timeslot code kind number ⌝ }
 {
     let passage = ask_memory(s, queue, store, true);
@@ -255,7 +253,7 @@ pub fn dl_enqueue_random_access_ack(
     kind: u8,
     number: u32,
 ) -> Answer
-    ensures { λ r. ⌜ outcome (r .reply)
+    ensures { λ r. ⌜ outcome (queueReply (r .reply))
         (memory (r .station) (now (queue .exit)) (now (store .entry))) ≡ ackCall (memory s (now (queue .entry)) (now (store .entry))) timeslot kind number ⌝ }
 {
     let passage = ask_memory(s, queue, store, true);
@@ -290,7 +288,7 @@ pub fn dl_enqueue_tma(
     bits: u16,
     sdu: &[u8],
 ) -> Answer
-    ensures { λ r. ⌜ outcome (r .reply)
+    ensures { λ r. ⌜ outcome (queueReply (r .reply))
         (memory (r .station) (now (queue .exit)) (now (store .exit))) ≡ tmaCall (memory s (now (queue .entry)) (now (store .entry)))
         timeslot kind number tag header bits (now (sdu .entry)) ⌝ }
 {

@@ -13,9 +13,9 @@ use Rattle.uplink.proofs.Basics.{not-both}
 use Rattle.dl_record.specs.declared.Record.{Record}
 use Rattle.dl_queue.specs.Questions.{soundQueue}
 use Rattle.sched_core.specs.declared.Station.{Station}
-use Rattle.questions.specs.declared.Refusal.{Refusal}
 use Rattle.questions.specs.Questions.{question, askedNumber}
-use Rattle.questions.proofs.NumberLaws.{number-yes}
+use Rattle.questions.proofs.AskLaws.{number-yes}
+use Rattle.sched_core.proofs.QuestionLaws.{memory-positive}
 use Rattle.sched_core.specs.Questions.{memory, memoryQuestions}
 use Rattle.sched_enqueue.specs.Plan.{SoundQueue}
 use Rattle.sched_enqueue.proofs.PlanLaws.{Told, yes-told}
@@ -64,9 +64,11 @@ four-counts ws = go (sameWords (stationWords (stationRead ws)) ws)
 
 -- no no: the station is sound, and so are queue and store
 pub asked-yes : (s : Station) (qs st : List ℕ) (lent : Bool) (n : ℕ)
-    → n ≡ askedNumber (memoryQuestions (memory s (recordsFrom qs) st) (question lent Refusal.Lengths ∷ [])) → n ≡ 0 → Told s (recordsFrom qs) st lent
+    → n ≡ askedNumber (memoryQuestions (memory s (recordsFrom qs) st) (question lent 2 ∷ [])) → n ≡ 0 → Told s (recordsFrom qs) st lent
 asked-yes s qs st lent n e z =
-    yes-told s (recordsFrom qs) st lent (number-yes (memoryQuestions (memory s (recordsFrom qs) st) (question lent Refusal.Lengths ∷ [])) (sym e ∙ z))
+    let m = memory s (recordsFrom qs) st in
+    let own = question lent 2 ∷ [] in
+    yes-told s (recordsFrom qs) st lent (number-yes (memoryQuestions m own) (memory-positive m own (omega arith, tt)) (sym e ∙ z))
 
 -- ---- the words of a sound queue
 

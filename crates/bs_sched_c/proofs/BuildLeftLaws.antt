@@ -1,8 +1,8 @@
 -- What the export of a build leaves, exit by exit. Assumes nothing.
 use mathlib.Core.Path.{_≡_, refl, sym, ap, _∙_}
 use mathlib.Core.Bool.{true, false}
-use mathlib.Core.List.{List, []}
-use Prim.Native.Nat.{ℕ, _*_}
+use mathlib.Core.List.{List, [], _∷_}
+use Prim.Native.Nat.{ℕ, _*_, _≤_}
 use native.Mathlib.Omega.{arith}
 use lib.ListN.{length, getD, set, take}
 use lib.Seq.{sets}
@@ -13,28 +13,29 @@ use Rattle.dl_send.specs.declared.Progress.{Progress}
 use Rattle.dl_send.specs.Arrays.{tagRow}
 use Rattle.dl_build.specs.Build.{BuiltIn}
 use Rattle.sched_core.specs.declared.Station.{Station}
-use Rattle.questions.specs.declared.Refusal.{Refusal}
-use Rattle.sched_core.specs.declared.BuildReply.{BuildReply}
-use Rattle.questions.specs.Questions.{refusalNumber, askedNumber}
-use Rattle.questions.proofs.NumberLaws.{number-positive, number-no}
+use Rattle.questions.specs.Questions.{ask, askedNumber}
+use Rattle.questions.proofs.AskLaws.{number-no}
 use Rattle.sched_core.specs.Station.{withQueued}
 use Rattle.sched_core.specs.Questions.{Memory, soundStation, memoryQuestions, buildLent}
+use Rattle.sched_core.specs.Replies.{Numbered}
 use Rattle.sched_core.specs.Calls.{BuildOutcome, current, buildsNow, builtNow, buildCall}
 use Rattle.sched_core.specs.Calls.{notBuilt as nothing}
+use Rattle.sched_core.proofs.QuestionLaws.{memory-positive}
 use Rattle.sched_core.proofs.StationLaws.{sound-time}
 use Rattle.sched_enqueue.specs.Plan.{SoundQueue}
 use Rattle.sched_build.proofs.BuildCallLaws as plan
 use Rattle.sched_words.specs.Words.{stationWordCount, recordWordCount, stationWords, stationFrom, queueWords, recordsFrom}
 use Rattle.sched_words.proofs.RoundTrip.{station-words-back}
 use Rattle.bs_sched_c.specs.declared.reply.BsSchedBuilt.{BsSchedBuilt}
-use Rattle.bs_sched_c.specs.Exports.{otherLength, ifStation, memoryFrom, notBuiltStruct, BuildWordsLeft, buildWordsLeft, buildWordsLeftBy}
+use Rattle.bs_sched_c.specs.Exports.{asksStationWords, memoryFrom, notBuiltStruct, BuildWordsLeft, buildWordsLeft, buildWordsLeftBy}
 use Rattle.bs_sched_c.proofs.AskedLaws.{four-counts, words-back, records-stored}
 use Rattle.bs_sched_c.proofs.LeftLaws.{is-station}
 
 -- a station of its number of words
 module _ (ws qs st block : List ℕ) (size : length ws ≡ stationWordCount) where
-  abbrev other : BuildWordsLeft
-  other = buildWordsLeft (notBuiltStruct otherLength) ws qs st block
+  -- a refusal
+  abbrev no : ℕ → BuildWordsLeft
+  no n = buildWordsLeft (notBuiltStruct n) ws qs st block
 
   abbrev m : Memory
   m = memoryFrom ws qs st
@@ -44,12 +45,11 @@ module _ (ws qs st block : List ℕ) (size : length ws ≡ stationWordCount) whe
 
   -- what the export promises
   abbrev promised : BuildWordsLeft
-  promised = ifStation ws (buildWordsLeftBy ws qs st block (buildCall m block)) other
+  promised = ask (asksStationWords ws ∷ []) (buildWordsLeftBy ws qs st block (buildCall m block)) no
 
-  refused-left : (r : Refusal) → buildWordsLeft (notBuiltStruct (refusalNumber r)) ws qs st block
-      ≡ buildWordsLeftBy ws qs st block (nothing (BuildReply.Refused r) m block)
+  refused-left : (n : ℕ) → 1 ≤ n → buildWordsLeft (notBuiltStruct n) ws qs st block ≡ buildWordsLeftBy ws qs st block (nothing (Numbered.refused n) m block)
   unfolding tagRow
-  refused-left r = rw (ne-eqb (refusalNumber r) 0 (λ z. omega (arith, z, number-positive r)))
+  refused-left n p = rw (ne-eqb n 0 (λ z. omega (arith, z, p)))
 
   -- a no to one of the questions
   pub build-no : (n : ℕ) → n ≡ askedNumber (memoryQuestions m (buildLent block)) → (n ≡ 0 → ⊥)
@@ -57,10 +57,10 @@ module _ (ws qs st block : List ℕ) (size : length ws ≡ stationWordCount) whe
   unfolding buildCall
   build-no n e h x ex =
       ap (λ (y : BsSchedBuilt). buildWordsLeft y ws qs st block) (ex ∙ ap notBuiltStruct e)
-      ∙ is-station ws other size
+      ∙ is-station ws _ no size
       (number-no (λ (i : ℕ) (o : BuildOutcome). buildWordsLeft (notBuiltStruct i) ws qs st block ≡ buildWordsLeftBy ws qs st block o) _
-      (λ r. nothing (BuildReply.Refused r) m block)
-      refused-left (memoryQuestions m (buildLent block)) [] (λ z. h (e ∙ z)))
+      (λ i. nothing (Numbered.refused i) m block)
+      refused-left (memoryQuestions m (buildLent block)) [] (memory-positive m (buildLent block) (omega arith, tt)) (λ z. h (e ∙ z)))
 
   -- every question is answered yes
   module _ (good : soundStation s ≡ true) (full : length block ≡ blockOctets) (queue : SoundQueue s (recordsFrom qs) st) where
@@ -68,9 +68,9 @@ module _ (ws qs st block : List ℕ) (size : length ws ≡ stationWordCount) whe
     pub build-none : buildsNow s ≡ false → (x : BsSchedBuilt) → x ≡ notBuiltStruct 0 → buildWordsLeft x ws qs st block ≡ promised
     unfolding tagRow
     build-none idle x ex =
-        let o : nothing BuildReply.NoBlock m block ≡ buildCall m block = plan.none-called m good (queue .places) (queue .cells)
+        let o : nothing Numbered.noBlock m block ≡ buildCall m block = plan.none-called m good (queue .places) (queue .cells)
         (queue .sound) block full idle in
-        is-station ws other size
+        is-station ws _ no size
         ((λ i. buildWordsLeft (ex i) (sym (station-words-back ws good) i) (sym (words-back ws qs st queue) i) st block)
         ∙ ap (buildWordsLeftBy ws qs st block) o)
 
@@ -86,7 +86,7 @@ module _ (ws qs st block : List ℕ) (size : length ws ≡ stationWordCount) whe
         let row = ap length (h .records) ∙ length-records perTimeslot (builtNow m .left) in
         let stored = eq ∙ records-stored ws qs st queue (perTimeslot * current s) (getD (s .queued) (current s) 0) (omega (arith, low, few)) (p .records)
         (omega (arith, few, row)) in
-        is-station ws other size
+        is-station ws _ no size
         (rw (ew, stored, h .tags, h .tag-count)
         (ap (buildWordsLeftBy ws qs st block)
         (plan.plan-called m good (queue .places) (queue .cells) (queue .sound) block full can (four-counts ws) p _ _ st' block' h refl refl)))

@@ -1,3 +1,4 @@
 pub mod AskedLaws
 pub mod LeftLaws
 pub mod BuildLeftLaws
+pub mod BufferLaws

@@ -1,6 +1,6 @@
 -- What each exported function answers and leaves, by the calls of document 01 on what the caller's words stand for. Assumes nothing.
 use mathlib.Core.Bool.{cond}
-use mathlib.Core.List.{List}
+use mathlib.Core.List.{List, [], _∷_}
 use Prim.Native.Nat.{ℕ}
 use lib.Dec.{eqb}
 use lib.ListN.{length, replicate}
@@ -8,18 +8,15 @@ use Rattle.sizes.specs.Sizes.{perTimeslot}
 use Rattle.tdma_time.specs.declared.TdmaTime.{TdmaTime}
 use Rattle.uplink.specs.declared.PhyBlockNum.{PhyBlockNum}
 use Rattle.uplink.specs.declared.Entry.{Entry}
-use Rattle.uplink.specs.UplinkEntry.{ownerOf, usageNumber, usageMarker, markerOrZero}
+use Rattle.uplink.specs.UplinkEntry.{ownerOf, markerOrZero}
 use Rattle.dl_send.specs.Arrays.{tagRow}
-use Rattle.sched_core.specs.declared.RequestReply.{RequestReply}
-use Rattle.sched_core.specs.declared.BuildReply.{BuildReply}
-use Rattle.sched_core.specs.declared.OwnerReply.{OwnerReply}
-use Rattle.sched_core.specs.declared.UsageReply.{UsageReply}
-use Rattle.questions.specs.declared.Refusal.{Refusal}
-use Rattle.questions.specs.Questions.{refusalNumber}
-use Rattle.sched_core.specs.Questions.{Memory, memory}
-use Rattle.sched_core.specs.Calls.{Outcome, StationOutcome, BuildOutcome, replyNumber, requestNumber, buildNumber, ownerNumber}
-use Rattle.sched_core.specs.Calls.{newCall, advanceCall, ownerCall, usageCall, requestCall, ackCall, tmaCall, buildCall}
-use Rattle.sched_words.specs.Words.{stationWordCount, recordWordCount, wordOf32, stationWords, stationFrom, queueWords, recordsFrom, recordFrom}
+use Rattle.questions.specs.Questions.{Question, question, ask}
+use Rattle.sched_core.specs.Station.{newStation}
+use Rattle.sched_core.specs.Questions.{Memory, memory, asksTime, memoryQuestions}
+use Rattle.sched_core.specs.Replies.{Numbered, replyNumber, tagsIn}
+use Rattle.sched_core.specs.Calls.{Outcome, StationOutcome, BuildOutcome}
+use Rattle.sched_core.specs.Calls.{advanceCall, ownerCall, usageCall, requestCall, ackCall, tmaCall, buildCall}
+use Rattle.sched_words.specs.Words.{stationWordCount, recordWordCount, wordOf32, stationWords, stationFrom, queueWords, recordsFrom, offeredFrom}
 use Rattle.bs_sched_c.specs.declared.reply.BsSchedGrant.{BsSchedGrant}
 use Rattle.bs_sched_c.specs.declared.reply.BsSchedBuilt.{BsSchedBuilt}
 use Rattle.bs_sched_c.specs.declared.reply.BsSchedOwners.{BsSchedOwners}
@@ -32,27 +29,41 @@ abbrev pub notGrantedStruct : ℕ → BsSchedGrant
 notGrantedStruct n = record { refusal = n; capacity = 0; delay = 0; «usage_marker» = 0 }
 
 -- document 01: "for R capacity, delay, marker or 0"
-abbrev pub grantStruct : RequestReply → BsSchedGrant
-grantStruct (RequestReply.Granted c d m) = record { refusal = 0; capacity = c; delay = d; «usage_marker» = markerOrZero m }
-grantStruct (RequestReply.Refused r) = notGrantedStruct (refusalNumber r)
+abbrev pub grantStruct : Numbered → BsSchedGrant
+grantStruct Numbered.done = notGrantedStruct 0
+grantStruct (Numbered.refused n) = notGrantedStruct n
+grantStruct (Numbered.granted c d m) = record { refusal = 0; capacity = c; delay = d; «usage_marker» = markerOrZero m }
+grantStruct (Numbered.block octets tags) = notGrantedStruct 0
+grantStruct Numbered.noBlock = notGrantedStruct 0
+grantStruct (Numbered.owned o) = notGrantedStruct 0
+grantStruct (Numbered.used n m) = notGrantedStruct 0
 
 -- is there a block
-abbrev pub builtWord : BuildReply → ℕ
-builtWord BuildReply.Built = 1
-builtWord BuildReply.NoBlock = 0
-builtWord (BuildReply.Refused r) = 0
+abbrev pub builtWord : Numbered → ℕ
+builtWord Numbered.done = 0
+builtWord (Numbered.refused n) = 0
+builtWord (Numbered.granted c d m) = 0
+builtWord (Numbered.block octets tags) = 1
+builtWord Numbered.noBlock = 0
+builtWord (Numbered.owned o) = 0
+builtWord (Numbered.used n m) = 0
 
 abbrev pub notBuiltStruct : ℕ → BsSchedBuilt
 notBuiltStruct n = record { refusal = n; built = 0; «tag_count» = 0; tags = replicate perTimeslot 0 }
 
 -- "Tags of finished records come back in order": as many as a timeslot has places, zeros behind those that come back
-abbrev pub builtStruct : BuildOutcome → BsSchedBuilt
-builtStruct o = record { refusal = buildNumber (o .reply); built = builtWord (o .reply); «tag_count» = length (o .tags); tags = tagRow perTimeslot (o .tags) }
+abbrev pub builtStruct : Numbered → BsSchedBuilt
+builtStruct r = record { refusal = replyNumber r; built = builtWord r; «tag_count» = length (tagsIn r); tags = tagRow perTimeslot (tagsIn r) }
 
 -- an owner: 0 for none, else the number and 1
-abbrev pub ownerWord : OwnerReply → ℕ
-ownerWord (OwnerReply.Owner o) = wordOf32 o
-ownerWord (OwnerReply.Refused r) = 0
+abbrev pub ownerWord : Numbered → ℕ
+ownerWord Numbered.done = 0
+ownerWord (Numbered.refused n) = 0
+ownerWord (Numbered.granted c d m) = 0
+ownerWord (Numbered.block octets tags) = 0
+ownerWord Numbered.noBlock = 0
+ownerWord (Numbered.owned o) = wordOf32 o
+ownerWord (Numbered.used n m) = 0
 
 -- "On a no, the number is the whole reply": all else 0
 abbrev pub noOwnersStruct : ℕ → BsSchedOwners
@@ -68,28 +79,39 @@ entryOwners e =
       second = wordOf32 (ownerOf PhyBlockNum.Block2 e);
     }
 
-abbrev pub ownersStruct : OwnerReply → OwnerReply → OwnerReply → BsSchedOwners
-ownersStruct both first second = record { refusal = ownerNumber both; both = ownerWord both; first = ownerWord first; second = ownerWord second }
+abbrev pub ownersStruct : Numbered → Numbered → Numbered → BsSchedOwners
+ownersStruct both first second = record { refusal = replyNumber both; both = ownerWord both; first = ownerWord first; second = ownerWord second }
 
 -- "Usage: 0 no half taken, 1 first only, 2 both, 3 any taken with a marker, the marker beside it."
 abbrev pub usageStruct : ℕ → ℕ → ℕ → BsSchedUsage
 usageStruct n u m = record { refusal = n; usage = u; «usage_marker» = m }
 
-abbrev pub usageStructOf : UsageReply → BsSchedUsage
-usageStructOf (UsageReply.Usage u) = usageStruct 0 (usageNumber u) (markerOrZero (usageMarker u))
-usageStructOf (UsageReply.Refused r) = usageStruct (refusalNumber r) 0 0
+abbrev pub usageStructOf : Numbered → BsSchedUsage
+usageStructOf Numbered.done = usageStruct 0 0 0
+usageStructOf (Numbered.refused n) = usageStruct n 0 0
+usageStructOf (Numbered.granted c d m) = usageStruct 0 0 0
+usageStructOf (Numbered.block octets tags) = usageStruct 0 0 0
+usageStructOf Numbered.noBlock = usageStruct 0 0 0
+usageStructOf (Numbered.owned o) = usageStruct 0 0 0
+usageStructOf (Numbered.used n m) = usageStruct 0 n (markerOrZero m)
 
 -- the time that a caller names
 abbrev pub timeAt : ℕ → ℕ → ℕ → ℕ → TdmaTime
 timeAt h m f t = record { t = t; f = f; m = m; h = h }
 
--- ---- a station of another number of words: question 2, and nothing is altered
+-- ---- what is asked of the words, in front of the questions of each call
 
-abbrev pub otherLength : ℕ
-otherLength = refusalNumber Refusal.Lengths
+-- "2. Are the lent lengths those above?": of the station. Another number of words is no state to judge, so this comes before 1
+abbrev pub asksStationWords : List ℕ → Question
+asksStationWords ws = question (eqb (length ws) stationWordCount) 2
 
-abbrev pub ifStation : {A : Type 0} → List ℕ → A → A → A
-ifStation ws done refused = cond (eqb (length ws) stationWordCount) done refused
+-- of the record that is offered
+abbrev pub asksRecordWords : List ℕ → Question
+asksRecordWords rs = question (eqb (length rs) recordWordCount) 2
+
+-- "a time given to the call is judged here too": that needs no state
+abbrev pub timeThenWords : TdmaTime → List ℕ → List Question
+timeThenWords x ws = asksTime x ∷ asksStationWords ws ∷ []
 
 -- ---- calls on the station alone
 
@@ -106,19 +128,19 @@ abbrev pub stationLeftBy : List ℕ → StationOutcome → StationLeft
 stationLeftBy ws a = cond (eqb (replyNumber (a .reply)) 0) (stationLeft 0 (stationWords (a .station))) (stationLeft (replyNumber (a .reply)) ws)
 
 unfoldable pub newLeft : List ℕ → TdmaTime → StationLeft
-newLeft ws x = ifStation ws (stationLeftBy ws (newCall x)) (stationLeft otherLength ws)
+newLeft ws x = ask (timeThenWords x ws) (stationLeft 0 (stationWords (newStation x))) (λ n. stationLeft n ws)
 
 unfoldable pub advanceLeft : List ℕ → StationLeft
-advanceLeft ws = ifStation ws (stationLeftBy ws (advanceCall (stationFrom ws))) (stationLeft otherLength ws)
+advanceLeft ws = ask (asksStationWords ws ∷ []) (stationLeftBy ws (advanceCall (stationFrom ws))) (λ n. stationLeft n ws)
 
 unfoldable pub ownerAnswer : List ℕ → TdmaTime → BsSchedOwners
 ownerAnswer ws x =
     let s = stationFrom ws in
-    ifStation ws (ownersStruct (ownerCall s x PhyBlockNum.Both) (ownerCall s x PhyBlockNum.Block1) (ownerCall s x PhyBlockNum.Block2))
-    (noOwnersStruct otherLength)
+    ask (timeThenWords x ws) (ownersStruct (ownerCall s x PhyBlockNum.Both) (ownerCall s x PhyBlockNum.Block1) (ownerCall s x PhyBlockNum.Block2))
+    noOwnersStruct
 
 unfoldable pub usageAnswer : List ℕ → TdmaTime → BsSchedUsage
-usageAnswer ws x = ifStation ws (usageStructOf (usageCall (stationFrom ws) x)) (usageStruct otherLength 0 0)
+usageAnswer ws x = ask (timeThenWords x ws) (usageStructOf (usageCall (stationFrom ws) x)) (λ n. usageStruct n 0 0)
 
 -- ---- calls that queue
 
@@ -137,28 +159,27 @@ abbrev pub memoryFrom : List ℕ → List ℕ → List ℕ → Memory
 memoryFrom ws qs st = memory (stationFrom ws) (recordsFrom qs) st
 
 -- what an outcome leaves: its memory in words where the number is 0, else all as it came in
-abbrev pub wordsLeftBy : {A : Type 0} {R : Type 0} → (A → ℕ) → (A → R) → List ℕ → List ℕ → List ℕ → Outcome A → Left R
-wordsLeftBy number reply ws qs st o =
-    cond (eqb (number (o .reply)) 0) (left (reply (o .reply)) (stationWords (o .memory .station)) (queueWords (o .memory .records)) (o .memory .store))
+abbrev pub wordsLeftBy : {R : Type 0} → (Numbered → R) → List ℕ → List ℕ → List ℕ → Outcome → Left R
+wordsLeftBy reply ws qs st o =
+    cond (eqb (replyNumber (o .reply)) 0) (left (reply (o .reply)) (stationWords (o .memory .station)) (queueWords (o .memory .records)) (o .memory .store))
     (left (reply (o .reply)) ws qs st)
 
 unfoldable pub requestLeft : List ℕ → List ℕ → List ℕ → ℕ → ℕ → ℕ → ℕ → Left BsSchedGrant
 requestLeft ws qs st t code kind n =
-    ifStation ws (wordsLeftBy requestNumber grantStruct ws qs st (requestCall (memoryFrom ws qs st) t code kind n))
-    (left (notGrantedStruct otherLength) ws qs st)
+    ask (asksStationWords ws ∷ []) (wordsLeftBy grantStruct ws qs st (requestCall (memoryFrom ws qs st) t code kind n))
+    (λ i. left (notGrantedStruct i) ws qs st)
 
 unfoldable pub ackLeft : List ℕ → List ℕ → List ℕ → ℕ → ℕ → ℕ → Left ℕ
-ackLeft ws qs st t kind n = ifStation ws (wordsLeftBy replyNumber replyNumber ws qs st (ackCall (memoryFrom ws qs st) t kind n)) (left otherLength ws qs st)
+ackLeft ws qs st t kind n =
+    ask (asksStationWords ws ∷ []) (wordsLeftBy replyNumber ws qs st (ackCall (memoryFrom ws qs st) t kind n)) (λ i. left i ws qs st)
 
--- of the words of the record that is offered kind and sent do not count; of another number of words: question 2, like the station
+-- the record's words are lent, so their number is asked with the other lengths, before records and cells are looked at
 unfoldable pub enqueueLeft : List ℕ → List ℕ → List ℕ → ℕ → List ℕ → List ℕ → Left ℕ
 enqueueLeft ws qs st t rs sdu =
-    let r = recordFrom rs in
-    ifStation ws
-    (cond (eqb (length rs) recordWordCount)
-    (wordsLeftBy replyNumber replyNumber ws qs st (tmaCall (memoryFrom ws qs st) t (r .«address_kind») (r .number) (r .tag) (r .header) (r .bits) sdu))
-    (left otherLength ws qs st))
-    (left otherLength ws qs st)
+    let m = memoryFrom ws qs st in
+    let r = offeredFrom rs in
+    ask (asksStationWords ws ∷ memoryQuestions m (asksRecordWords rs ∷ []))
+    (wordsLeftBy replyNumber ws qs st (tmaCall m t (r .«address_kind») (r .number) (r .tag) (r .header) (r .bits) sdu)) (λ i. left i ws qs st)
 
 -- ---- a build
 
@@ -175,10 +196,11 @@ buildWordsLeft r ws qs st block = record { reply = r; station = ws; queue = qs; 
 
 abbrev pub buildWordsLeftBy : List ℕ → List ℕ → List ℕ → List ℕ → BuildOutcome → BuildWordsLeft
 buildWordsLeftBy ws qs st block o =
-    cond (eqb (buildNumber (o .reply)) 0) (buildWordsLeft (builtStruct o) (stationWords (o .memory .station)) (queueWords (o .memory .records))
+    cond (eqb (replyNumber (o .reply)) 0) (buildWordsLeft (builtStruct (o .reply)) (stationWords (o .memory .station)) (queueWords (o .memory .records))
     (o .memory .store) (o .block))
-    (buildWordsLeft (builtStruct o) ws qs st block)
+    (buildWordsLeft (builtStruct (o .reply)) ws qs st block)
 
 unfoldable pub builtLeft : List ℕ → List ℕ → List ℕ → List ℕ → BuildWordsLeft
-builtLeft ws qs st block = ifStation ws (buildWordsLeftBy ws qs st block (buildCall (memoryFrom ws qs st) block))
-    (buildWordsLeft (notBuiltStruct otherLength) ws qs st block)
+builtLeft ws qs st block =
+    ask (asksStationWords ws ∷ []) (buildWordsLeftBy ws qs st block (buildCall (memoryFrom ws qs st) block))
+    (λ i. buildWordsLeft (notBuiltStruct i) ws qs st block)

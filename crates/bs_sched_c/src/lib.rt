@@ -1,5 +1,6 @@
 // The scheduler for callers in C and Rust: state and queue as words (crate sched_words), store, SDU and block as octets. Each
 // function answers document 01's number, 0 for done; on any other number nothing of the caller's is altered.
+pub mod buffers;
 pub mod reply;
 
 use crate::reply::BsSchedBuilt;
@@ -19,11 +20,10 @@ ghost use mathlib.Core.List.{[], _∷_};
 ghost use Prim.Native.Nat.{_-_, _<_};
 ghost use lib.ListN.{length};
 ghost use Rattle.sizes.specs.Sizes.{timeslots};
-ghost use Rattle.questions.specs.declared.Refusal.{Refusal};
 ghost use Rattle.questions.specs.Questions.{question, askedNumber};
 ghost use Rattle.sched_core.specs.Questions.{memory, memoryQuestions, legalTimeslot};
 ghost use Rattle.sched_words.specs.Words.{stationWordCount, stationFrom, recordsFrom};
-ghost use Rattle.bs_sched_c.specs.Exports.{otherLength, timeAt, stationLeft, newLeft, advanceLeft, ownerAnswer, usageAnswer, left, requestLeft, ackLeft};
+ghost use Rattle.bs_sched_c.specs.Exports.{timeAt, stationLeft, newLeft, advanceLeft, ownerAnswer, usageAnswer, left, requestLeft, ackLeft};
 ghost use Rattle.bs_sched_c.specs.Exports.{enqueueLeft, buildWordsLeft, builtLeft};
 
 fn time_at(h: u16, m: u8, f: u8, t: u8) -> TdmaTime
@@ -37,11 +37,18 @@ fn time_at(h: u16, m: u8, f: u8, t: u8) -> TdmaTime
     }
 }
 
-// The number of question 2, for a station or an offered record of another number of words.
+// The number of question 2, for a station of another number of words.
 fn other_length() -> u8
-    ensures { λ r. ⌜ r ≡ otherLength ⌝ }
+    ensures { λ r. ⌜ r ≡ 2 ⌝ }
 {
     questions::number(Refusal::Lengths)
+}
+
+// The number of question 1, for a station or a time.
+fn unsound() -> u8
+    ensures { λ r. ⌜ r ≡ 1 ⌝ }
+{
+    questions::number(Refusal::Unsound)
 }
 
 // A new station at a time. Queue and store of a new station are all 0.
@@ -49,17 +56,15 @@ fn other_length() -> u8
 pub extern "C" fn bs_sched_new(station: &mut [u32], h: u16, m: u8, f: u8, t: u8) -> u8
     ensures { λ r. ⌜ stationLeft r (now (station .exit)) ≡ newLeft (now (station .entry)) (timeAt h m f t) ⌝ }
 {
+    let time = time_at(h, m, f, t);
+    if !time.is_valid() {
+        return unsound();
+    }
     if station.len() != STATION_WORDS {
         return other_length();
     }
-    let time = time_at(h, m, f, t);
     let answer = sched_core::new(time);
-    let reply = answer.reply;
     let next = answer.station;
-    let n = reply::reply_number(reply);
-    if n != 0 {
-        return n;
-    }
     sched_words::station::put_station(station, next);
     0
 }
@@ -73,7 +78,7 @@ pub extern "C" fn bs_sched_advance(station: &mut [u32]) -> u8
         return other_length();
     }
     if !sched_words::station::station_is_sound(station) {
-        return questions::number(Refusal::Unsound);
+        return unsound();
     }
     sched_words::station::advance(station);
     0
@@ -84,15 +89,15 @@ pub extern "C" fn bs_sched_advance(station: &mut [u32]) -> u8
 pub extern "C" fn bs_sched_slot_owner(station: &[u32], h: u16, m: u8, f: u8, t: u8) -> BsSchedOwners
     ensures { λ r. ⌜ r ≡ ownerAnswer (now (station .entry)) (timeAt h m f t) ⌝ }
 {
+    let time = time_at(h, m, f, t);
+    if !time.is_valid() {
+        return reply::no_owners(unsound());
+    }
     if station.len() != STATION_WORDS {
         return reply::no_owners(other_length());
     }
-    let time = time_at(h, m, f, t);
     if !sched_words::station::station_is_sound(station) {
-        return reply::no_owners(questions::number(Refusal::Unsound));
-    }
-    if !time.is_valid() {
-        return reply::no_owners(questions::number(Refusal::Unsound));
+        return reply::no_owners(unsound());
     }
     let e = sched_words::station::entry_at(station, time);
     reply::owners_of(e)
@@ -103,15 +108,15 @@ pub extern "C" fn bs_sched_slot_owner(station: &[u32], h: u16, m: u8, f: u8, t: 
 pub extern "C" fn bs_sched_usage(station: &[u32], h: u16, m: u8, f: u8, t: u8) -> BsSchedUsage
     ensures { λ r. ⌜ r ≡ usageAnswer (now (station .entry)) (timeAt h m f t) ⌝ }
 {
+    let time = time_at(h, m, f, t);
+    if !time.is_valid() {
+        return reply::usage_answer(unsound(), 0, 0);
+    }
     if station.len() != STATION_WORDS {
         return reply::usage_answer(other_length(), 0, 0);
     }
-    let time = time_at(h, m, f, t);
     if !sched_words::station::station_is_sound(station) {
-        return reply::usage_answer(questions::number(Refusal::Unsound), 0, 0);
-    }
-    if !time.is_valid() {
-        return reply::usage_answer(questions::number(Refusal::Unsound), 0, 0);
+        return reply::usage_answer(unsound(), 0, 0);
     }
     let e = sched_words::station::entry_at(station, time);
     let usage = uplink::usage_of(e);
@@ -123,7 +128,7 @@ pub extern "C" fn bs_sched_usage(station: &[u32], h: u16, m: u8, f: u8, t: u8) -
 fn memory_number(station: &[u32], queue: &[u32], store: &[u8], lent: bool) -> u8
     requires { ⌜ length (now station) ≡ stationWordCount ⌝ }
     ensures { λ n. ⌜ n ≡ askedNumber (memoryQuestions (memory (stationFrom (now (station .entry))) (recordsFrom (now (queue .entry))) (now (store .entry)))
-        (question lent Refusal.Lengths ∷ [])) ⌝ }
+        (question lent 2 ∷ [])) ⌝ }
 {
     let sound = sched_words::station::station_is_sound(station);
     if !sound {
@@ -241,15 +246,12 @@ pub extern "C" fn bs_sched_enqueue(
     if station.len() != STATION_WORDS {
         return other_length();
     }
-    if offered.len() != RECORD_WORDS {
-        return other_length();
-    }
-    let no = memory_number(station, queue, store, true);
+    let no = memory_number(station, queue, store, offered.len() == RECORD_WORDS);
     if no != 0 {
         return no;
     }
     let queued = sched_words::station::queued_of(station);
-    let o = sched_words::queue::record_from(offered);
+    let o = sched_words::queue::offered_from(offered);
     let address_kind = o.address_kind;
     let number = o.number;
     let tag = o.tag;

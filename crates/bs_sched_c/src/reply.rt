@@ -8,7 +8,7 @@ use uplink::Entry;
 use uplink::PhyBlockNum;
 ghost use mathlib.Core.Path.{_≡_};
 ghost use Rattle.uplink.specs.UplinkEntry.{usageNumber, usageMarker, markerOrZero};
-ghost use Rattle.sched_core.specs.Calls.{replyNumber};
+ghost use Rattle.sched_core.specs.Replies.{replyNumber, queueReply, requestReply};
 ghost use Rattle.bs_sched_c.specs.Exports.{notGrantedStruct, grantStruct, notBuiltStruct, noOwnersStruct, entryOwners, usageStruct};
 
 // The grant of a request; usage_marker is 0 if there is none.
@@ -47,7 +47,7 @@ pub struct BsSchedUsage {
 }
 
 pub fn reply_number(r: Reply) -> u8
-    ensures { λ n. ⌜ n ≡ replyNumber r ⌝ }
+    ensures { λ n. ⌜ n ≡ replyNumber (queueReply r) ⌝ }
 {
     match r {
         Reply::Done => 0,
@@ -79,7 +79,7 @@ fn granted(capacity: u8, delay: u8, usage_marker: OptU8) -> BsSchedGrant
 }
 
 pub fn grant_of(r: RequestReply) -> BsSchedGrant
-    ensures { λ g. ⌜ g ≡ grantStruct r ⌝ }
+    ensures { λ g. ⌜ g ≡ grantStruct (requestReply r) ⌝ }
 {
     match r {
         RequestReply::Granted {

@@ -107,7 +107,34 @@ fn markers() {
     );
 }
 
-pub fn run() {
+// A null PDU with such a power control element.
+fn null(power: OptU8) -> MacResource {
+    MacResource {
+        fill_bits: 0,
+        pos_of_grant: 0,
+        encryption_mode: 0,
+        random_access_flag: 0,
+        length_ind: 2,
+        address_kind: AddressKind::Absent,
+        number: 0,
+        event_label: OptU16::Absent,
+        usage_marker: OptU8::Absent,
+        power_control_element: power,
+        slot_granting_element: OptU8::Absent,
+        chan_alloc_element: OptChanAlloc::Absent,
+    }
+}
+
+fn nulls() {
+    written(b"R32 null PDU written alone:", null(OptU8::Absent));
+    written(
+        b"R32 null PDU with power control written alone:",
+        null(OptU8::Of(3)),
+    );
+}
+
+pub(crate) fn run() {
     allocations();
     markers();
+    nulls();
 }

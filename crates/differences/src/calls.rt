@@ -124,7 +124,7 @@ fn second_half() {
     usage(b"R3 second half without a first:", &station);
 }
 
-pub fn run() {
+pub(crate) fn run() {
     two_channel_allocations();
     second_half();
 }

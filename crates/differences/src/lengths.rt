@@ -86,7 +86,7 @@ fn block_of_33() {
     memory::compared(&state, &station, &words, &queue, &octets, &block);
 }
 
-pub fn run() {
+pub(crate) fn run() {
     queue_of_63();
     store_of_16383();
     block_of_33();

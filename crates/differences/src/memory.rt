@@ -1,14 +1,14 @@
 // A new station, and what a call leaves of its buffers.
 
 // The words of a new station at 0/1/1/1.
-pub fn new_station() -> [u32; 228] {
+pub(crate) fn new_station() -> [u32; 228] {
     let mut station = [0u32; 228];
     let _new = bs_sched_c::bs_sched_new(&mut station, 0, 1, 1, 1);
     station
 }
 
 // The number that a call answers.
-pub fn number(n: u8) {
+pub(crate) fn number(n: u8) {
     show::number(n as u64);
 }
 
@@ -28,7 +28,7 @@ fn same_words(a: &[u32], b: &[u32]) -> bool {
 }
 
 // The end of a line: whether state, queue and octets are what they were before the call.
-pub fn compared(
+pub(crate) fn compared(
     state: &[u32],
     station: &[u32],
     words: &[u32],

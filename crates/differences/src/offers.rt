@@ -71,7 +71,7 @@ fn allocations() {
     offered(b"R14 carrier 4096 queued:", w);
 }
 
-pub fn run() {
+pub(crate) fn run() {
     plain_records();
     allocations();
 }

@@ -77,9 +77,83 @@ fn behind_the_block() {
     );
 }
 
-pub fn run() {
+// A MAC-RESOURCE of six octets with an SSI, its encryption in the first octet.
+fn encryption() {
+    let mut block = [0u8; 34];
+    block[0] = 0x20;
+    block[1] = 0x31;
+    block[4] = 0x01;
+    block[5] = 0x10;
+    block[7] = 0x10;
+    read(b"R25 SSI with encryption 0 read:", &block);
+    block[0] = 0x24;
+    read(b"R25 SSI with encryption 1 read:", &block);
+}
+
+// The same with other length codes, their first bit in the first octet.
+fn length_codes() {
+    let mut block = [0u8; 34];
+    block[4] = 0x01;
+    block[1] = 0x01;
+    read(b"R26 length code 0 read:", &block);
+    block[1] = 0x09;
+    read(b"R26 length code 1 read:", &block);
+    block[0] = 0x01;
+    block[1] = 0x19;
+    read(b"R26 length code 35 read:", &block);
+    block[1] = 0xf1;
+    read(b"R26 length code 62 read:", &block);
+}
+
+// Length code 63 in a MAC-RESOURCE, a null PDU and a MAC-END.
+fn code_63() {
+    let mut block = [0u8; 34];
+    block[0] = 0x01;
+    block[1] = 0xf9;
+    read(b"R27 MAC-RESOURCE with code 63 read:", &block);
+    block[1] = 0xf8;
+    read(b"R27 null PDU with code 63 read:", &block);
+    block[0] = 0x67;
+    block[1] = 0xe0;
+    read(b"R27 MAC-END with code 63 read:", &block);
+}
+
+// A header of 43 bits in PDUs of 33, 34 and 5 octets.
+fn inside() {
+    let mut block = [0u8; 34];
+    block[0] = 0x01;
+    block[1] = 0x09;
+    read(b"R28 PDU of 33 octets read:", &block);
+    block[1] = 0x11;
+    read(b"R28 PDU of 34 octets read:", &block);
+    block[0] = 0x00;
+    block[1] = 0x29;
+    read(b"R29 header of 43 bits in a PDU of 40 read:", &block);
+}
+
+// The types behind MAC-RESOURCE and MAC-FRAG, and the bits behind a null PDU and the block.
+fn types() {
+    let mut block = [0u8; 34];
+    block[0] = 0x80;
+    read(b"R30 PDU of type 10 read:", &block);
+    block[0] = 0xc0;
+    read(b"R30 PDU of type 11 read:", &block);
+    block[0] = 0x00;
+    block[1] = 0x10;
+    block[33] = 0x10;
+    read(b"R31 bit 267 set, read:", &block);
+    block[33] = 0x01;
+    read(b"R31 bit 271 set, read:", &block);
+}
+
+pub(crate) fn run() {
     end_flags();
     allocations();
     nulls();
     behind_the_block();
+    encryption();
+    length_codes();
+    code_63();
+    inside();
+    types();
 }

@@ -33,7 +33,7 @@ fn fill(text: &[u8], total: usize, room: usize) {
     show::end();
 }
 
-pub fn run() {
+pub(crate) fn run() {
     slots(
         b"V2 to_req_slotcount of capacity 0:",
         BasicSlotgrantCapAlloc::FirstSubslotGranted,

@@ -144,10 +144,10 @@ overlap (suc d) (suc m) (x ∷ l) h =
     and-assoc (eqb x 0) (allZero (take m l)) (allZero (drop d l)) ∙ ap (λ (t : Bool). eqb x 0 && t) (overlap d m l (omega arith))
 
 -- the octets from a place on: the first m of them, and those from `last` on
-pub parts-zero : (s : List ℕ) (from m last x y : ℕ) → from ≤ last → last ≤ from + m → eqb x 0 ≡ allZero (take m (drop from s)) → eqb y 0 ≡ allZero (drop last s)
-    → eqb (bitOr x y) 0 ≡ allZero (drop from s)
+pub parts-zero : (s : List ℕ) (from m last : ℕ) (x y : Bool) → from ≤ last → last ≤ from + m → x ≡ allZero (take m (drop from s)) → y ≡ allZero (drop last s)
+    → x && y ≡ allZero (drop from s)
 parts-zero s from m last x y h k ex ey =
     let d : ℕ = last - from in
     let sum : last ≡ from + d = omega arith in
     let at : drop last s ≡ drop d (drop from s) = ap (λ (n : ℕ). drop n s) sum ∙ sym (drop-drop d from s) in
-    or-zero x y ∙ ap₂ _&&_ ex (ey ∙ ap allZero at) ∙ overlap d m (drop from s) (omega arith)
+    ap₂ _&&_ ex (ey ∙ ap allZero at) ∙ overlap d m (drop from s) (omega arith)

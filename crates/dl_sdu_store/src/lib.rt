@@ -3,42 +3,40 @@ use sizes::CELL_OCTETS;
 ghost use mathlib.Core.Path.{_≡_};
 ghost use Prim.Native.Nat.{_+_, _*_, _<_, _≤_};
 ghost use lib.ListN.{length, getD, drop, replicate};
-ghost use lib.Dec.{eqb};
 ghost use lib.Seq.{paste};
 ghost use Rattle.sizes.specs.Sizes.{cellOctets, sduBits};
 ghost use Rattle.dl_sdu_store.specs.Cells.{allZero, cleanPast, cellOf, firstBits};
 
-// The octets, one or-ed to another: 0 exactly if each is 0. No branch for an octet.
-fn any_bit(s: &[u8]) -> u8
-    ensures { λ r. ⌜ eqb r 0 ≡ allZero (now (s .entry)) ⌝ }
+// Whether each octet is 0: they are or-ed, with no branch for an octet.
+fn all_zero(s: &[u8]) -> bool
+    ensures { λ r. ⌜ r ≡ allZero (now (s .entry)) ⌝ }
 {
     let mut acc: u8 = 0;
     for i in 0..s.len() {
         acc = acc | s[i];
     }
-    acc
+    acc == 0
 }
 
 // Whether all bits of a cell are zero. It looks at the whole cell, so that no octet is left over beside the wide steps.
 pub fn cell_is_zero(cell: &[u8]) -> bool
     ensures { λ r. ⌜ r ≡ cleanPast 0 (now (cell .entry)) ⌝ }
 {
-    let any = any_bit(cell);
-    any == 0
+    all_zero(cell)
 }
 
-// The octets from `from` on, or-ed. The last 32 are looked at twice, so that no octet is left over beside the wide steps.
-fn any_bit_from(s: &[u8], from: usize) -> u8
+// Whether each octet from `from` on is 0. The last 32 are looked at twice, so that no octet is left over beside the wide steps.
+fn all_zero_from(s: &[u8], from: usize) -> bool
     requires { ⌜ from ≤ length (now s) ⌝ }
-    ensures { λ r. ⌜ eqb r 0 ≡ allZero (drop from (now (s .entry))) ⌝ }
+    ensures { λ r. ⌜ r ≡ allZero (drop from (now (s .entry))) ⌝ }
 {
     let left = s.len() - from;
     if left < 32 {
-        return any_bit(&s[from..]);
+        return all_zero(&s[from..]);
     }
     let end = from + left / 32 * 32;
     let last = s.len() - 32;
-    any_bit(&s[from..end]) | any_bit(&s[last..])
+    all_zero(&s[from..end]) & all_zero(&s[last..])
 }
 
 // Whether the bits of a cell past the first `bits` are zero.
@@ -52,8 +50,7 @@ pub fn cell_is_clean(cell: &[u8], bits: u16) -> bool
     }
     let low = cell[k] << (n % 8);
     let rest = k + 1;
-    let above = any_bit_from(cell, rest);
-    (low == 0) & (above == 0)
+    (low == 0) & all_zero_from(cell, rest)
 }
 
 // The octet at `whole` with only its first `rest` bits.

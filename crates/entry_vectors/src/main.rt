@@ -176,6 +176,18 @@ fn begin() -> Left {
     }
 }
 
+// An ack behind a grant for the same number: both stand in one header. The block is what the Rust printed for the same calls.
+fn ack_behind_a_grant(l: Left, store: &mut [u8], block: &mut [u8]) {
+    let mut x = l;
+    x = requested(x, store, 2, 1, 8);
+    x = acked(x, store, 2, 0, 8);
+    let s = x.station;
+    let queue = x.queue;
+    let b = interpreter::calls::build(s, queue, store, block);
+    let reply = b.reply;
+    built(reply, block);
+}
+
 fn main() {
     let mut store = [0u8; sizes::STORE_OCTETS];
     let mut block = [0u8; sizes::BLOCK_OCTETS];
@@ -194,4 +206,11 @@ fn main() {
     built(reply, &block);
     let after = b.station;
     slots(four_on(after));
+    let next = one_on(after);
+    let records = b.records;
+    let left = Left {
+        station: next,
+        queue: records,
+    };
+    ack_behind_a_grant(left, &mut store, &mut block);
 }

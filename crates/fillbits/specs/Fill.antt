@@ -5,7 +5,6 @@ use Prim.Native.Nat.{ℕ, zero, suc, _-_, _*_, _%_, min}
 use lib.Dec.{leb, eqb}
 use lib.ListN.{length, replicate}
 use Rattle.bitbuffer.specs.Bits.{bitsOf, part}
-use Rattle.questions.specs.declared.Refusal.{Refusal}
 use Rattle.questions.specs.Questions.{Question, question, refusalNumber, ask}
 use Rattle.fillbits.specs.declared.FillRemoval.{FillRemoval}
 use Rattle.fillbits.specs.declared.FillRemoval.the-variants.{Bits, Refused}
@@ -39,8 +38,8 @@ reply (Refused r) = refusalNumber r ∷ []
 
 -- "11. Writer, fill removal: bits enough left? No: 11."
 abbrev pub fillQuestions : List ℕ → ℕ → List Question
-fillQuestions s end = question (leb end (8 * length s)) Refusal.NoRoom ∷ []
+fillQuestions s end = question (leb end (8 * length s)) 11 ∷ []
 
 -- the fill bits before `end`
 unfoldable pub fillReply : List ℕ → ℕ → ℕ → List ℕ
-fillReply s start end = ask (fillQuestions s end) (reply (Bits (fillAtEnd (bitsOf s) start end))) (λ r. reply (Refused r))
+fillReply s start end = ask (fillQuestions s end) (0 ∷ fillAtEnd (bitsOf s) start end ∷ []) (λ n. n ∷ [])

@@ -65,12 +65,12 @@ fn fill_bits_before(buf: &[u8], start: usize, at: usize, end: usize) -> usize
 }
 
 // The bits of one run of the recursion: a call takes some stack, and a caller's buffer may be of any length.
-const PART: usize = 2048;
+const PART: usize = 512;
 
 // Where the last part of the bits from `start` up to `at` begins.
 fn part_start(start: usize, at: usize) -> usize
     requires { ⌜ start < at ⌝ }
-    ensures { λ r. ⌜ (start ≤ r) × (r < at) × (at ≤ r + 2048) ⌝ }
+    ensures { λ r. ⌜ (start ≤ r) × (r < at) × (at ≤ r + 512) ⌝ }
 {
     if at - start <= PART {
         return start;

@@ -22,18 +22,17 @@ use Rattle.uplink.proofs.VerdictLaws.{verdict-grant}
 use Rattle.mac_pdus.specs.declared.ResourceHeader.{ResourceHeader}
 use Rattle.mac_pdus.specs.declared.PduHeader.{PduHeader}
 use Rattle.mac_pdus.specs.Legal.{numberOf}
-use Rattle.mac_reader.specs.declared.BlockHeaders.{BlockHeaders}
 use Rattle.mac_reader.specs.declared.PlacedHeader.{PlacedHeader}
 use Rattle.mac_reader.specs.PduList.{Pdu, null, header, pduBits, blockBits, placed}
 use Rattle.mac_reader.specs.Reader as reader
-use Rattle.mac_reader.specs.Reader.{noHeader, readBlock}
+use Rattle.mac_reader.specs.Reader.{Reading, noHeader, readBlock}
 use Rattle.dl_queue.specs.Queue.{Item}
 use Rattle.dl_send.specs.Send.{blockOf}
 use Rattle.dl_build.proofs.AfterBuild.{build-read}
-use Rattle.questions.specs.declared.Refusal.{Refusal}
-use Rattle.questions.specs.Questions.{refusalNumber, ask}
+use Rattle.questions.specs.Questions.{ask}
 use Rattle.sched_core.specs.Questions.{Memory, asksBlock}
-use Rattle.history.specs.Call.{Call, build, refused, block, noBlock, Stepped, stepped, unlessRefused}
+use Rattle.sched_core.specs.Replies.{refused, block, noBlock}
+use Rattle.history.specs.Call.{Call, build, Stepped, stepped, unlessRefused}
 use Rattle.history.specs.Queues.{Queues, queueAt, withQueueAt, someQueued, canBuild}
 use Rattle.history.specs.UplinkModel.{modelVerdict}
 use Rattle.history.specs.Model.{NamedSdu, Model, became, onlyCounted, namedBuilt, built, modelStep, modelAt, queueNow, pdusBuilt, namesBuilt}
@@ -117,7 +116,7 @@ module _ (x : TdmaTime) (v : Valid x) (before : List Call) (b : List ℕ) where
   block-built octets tags e = go (asksBlock b .holds) (canBuild (m .uplink .now) (m .queues)) e
     where
       step : Bool → Bool → Stepped Model
-      step right can = cond right (cond can done (stepped (onlyCounted m) noBlock)) (stepped (onlyCounted m) (refused (refusalNumber Refusal.Lengths)))
+      step right can = cond right (cond can done (stepped (onlyCounted m) noBlock)) (stepped (onlyCounted m) (refused 2))
 
       go : (right can : Bool) → step right can .reply ≡ block octets tags
           → (can ≡ true) × (step right can .after ≡ done .after) × (octets ≡ blockOf blockOctets (blockBits pdus))
@@ -162,10 +161,10 @@ module _ (x : TdmaTime) (v : Valid x) (before : List Call) (b : List ℕ) where
 
   module _ (octets tags : List ℕ) (e : Replied octets tags) where
     many-listed : readBlock blockOctets octets .count ≡ length pdus
-    many-listed = ap (λ (y : BlockHeaders). y .count) (block-listed octets tags e) ∙ placed-length 0 pdus
+    many-listed = ap (λ (y : Reading). y .count) (block-listed octets tags e) ∙ placed-length 0 pdus
 
     header-listed : (i : ℕ) → i < length pdus → getD (readBlock blockOctets octets .headers) i noHeader .header ≡ header (getD pdus i null)
-    header-listed i l = ap (λ (y : BlockHeaders). getD (y .headers) i noHeader .header) (block-listed octets tags e) ∙ placed-at 0 pdus _ i l
+    header-listed i l = ap (λ (y : Reading). getD (y .headers) i noHeader .header) (block-listed octets tags e) ∙ placed-at 0 pdus _ i l
 
     its-grant : (h : ResourceHeader) (octet name : ℕ) → Faithful x before t (numberOf (h .address)) (OptU8.Of octet) (some name)
         → ItsGrant x before h octet name

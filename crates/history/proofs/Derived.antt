@@ -13,7 +13,8 @@ use Rattle.tdma_time.specs.Time.{clock, firstUsable}
 use Rattle.uplink.specs.Search.{Run}
 use Rattle.uplink.specs.Request.{Verdict, noRun, tooLate, grant, capacity, reservedBy, msHalfSlots}
 use Rattle.uplink.proofs.MsLaws.{ms-derives-exactly}
-use Rattle.history.specs.Call.{CapacityRequest, requestOf, request, granted, Stepped, unlessRefused}
+use Rattle.sched_core.specs.Replies.{granted}
+use Rattle.history.specs.Call.{CapacityRequest, requestOf, request, Stepped, unlessRefused}
 use Rattle.history.specs.UplinkModel.{modelView, modelVerdict}
 use Rattle.history.specs.Model.{Model, requestAsked, reserved, requested, modelStep}
 use Rattle.sched_core.proofs.QuestionLaws.{timeslot-range}

@@ -7,6 +7,7 @@ pub mod QueueMaps
 pub mod ReadLaws
 pub mod QueueSteps
 pub mod WholeSimulation
+pub mod LeftSlots
 pub mod ReservedLaws
 pub mod RunLaws
 pub mod Disjoint

@@ -92,7 +92,7 @@ reserve-matched n hs some who k (c ∷ cs) near t xs m =
 -- ---- the next slot
 
 -- the entry of the slot four before slot n + 1 is that of slot n + 69
-emptied-cell : (n : ℕ) → (clock (n + 1) + cycle - 4) % 72 ≡ (n + (slotsAgreed + 1)) % 72
+pub emptied-cell : (n : ℕ) → (clock (n + 1) + cycle - 4) % 72 ≡ (n + (slotsAgreed + 1)) % 72
 emptied-cell n = omega arith
 
 -- the slot from n + 1 on that shows the time of a slot from `clock (n + 1)` on

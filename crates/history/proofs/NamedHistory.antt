@@ -21,11 +21,12 @@ use Rattle.mac_pdus.specs.Legal.{absentU8, legalQueued, legalOffered}
 use Rattle.dl_record.specs.Record.{grantRecord, ackRecord, resourceOf}
 use Rattle.dl_queue.specs.Queue.{Item, item}
 use Rattle.dl_merge.proofs.NameLaws.{Tied}
-use Rattle.questions.specs.Questions.{refusalNumber, ask}
+use Rattle.questions.specs.Questions.{ask}
 use Rattle.questions.proofs.AskLaws.{AllYes, yes-before}
 use Rattle.sched_core.proofs.QuestionLaws.{timeslot-range}
+use Rattle.sched_core.specs.Replies.{refused, granted, noBlock}
 use Rattle.history.specs.Call.{CapacityRequest, requestOf, RecordOffer, recordOf, Call, advance, request, enqueueAck, enqueueRecord, build, read}
-use Rattle.history.specs.Call.{refused, granted, noBlock, Stepped, stepped, unlessRefused, run}
+use Rattle.history.specs.Call.{Stepped, stepped, unlessRefused, run}
 use Rattle.history.specs.Queues.{Queues, noQueues, queueAt, appended, canBuild}
 use Rattle.history.specs.UplinkModel.{modelVerdict}
 use Rattle.history.specs.Model.{NamedSdu, named, bare, ofSdu, Model, newModel, onlyCounted, requestAsked, requested, built, modelStep, modelAt}
@@ -164,7 +165,7 @@ module _ (x : TdmaTime) (xs : List Call) (k : modelAt x xs .count ≡ length xs)
       go (modelVerdict (m .uplink) (requestOf a))
       (λ g r.
       ap (λ (y : Stepped Model). y .reply)
-      (yes-before (requested a (modelVerdict (m .uplink) (requestOf a)) m) (λ x. stepped (onlyCounted m) (refused (refusalNumber x))) (requestAsked a m) [] q)
+      (yes-before (requested a (modelVerdict (m .uplink) (requestOf a)) m) (λ n. stepped (onlyCounted m) (refused n)) (requestAsked a m) [] q)
       ∙ ap (λ (w : Verdict). requested a w m .reply) r) refl
     where
       go : (w : Verdict)

@@ -24,24 +24,23 @@ use Rattle.dl_sdu_store.proofs.CellBits.{length-cellOf, bits-cellOf}
 use Rattle.dl_queue.specs.Queue.{item, zeroCell, queuesOf, enqueued, withCell}
 use Rattle.dl_queue.proofs.QueueLaws.{counts-back}
 use Rattle.dl_merge.proofs.MergeLaws.{reload, sduInCell, unnamed}
-use Rattle.questions.specs.declared.Refusal.{Refusal}
 use Rattle.questions.specs.Questions.{Question, ask}
 use Rattle.questions.proofs.AskLaws.{ask-both}
-use Rattle.sched_core.specs.declared.Reply as core
-use Rattle.sched_core.specs.declared.RequestReply.{RequestReply}
 use Rattle.sched_core.specs.Station.{advancedStation}
 use Rattle.sched_core.specs.Questions.{Memory, memory, legalTimeslot, queuedFor, requestQuestions, ackQuestions, tmaQuestions}
+use Rattle.sched_core.specs.Replies.{done, refused}
 use Rattle.sched_core.specs.Calls.{Outcome, outcome, grantQueued, requestAnswered, requestCall, advanceCall, advanceMemory}
 use Rattle.sched_core.specs.Calls.{withRecord, withSdu, ackCall, tmaCall}
 use Rattle.sched_core.specs.Invariant.{SoundMemory}
+use Rattle.sched_core.specs.RequestGranted.{queuesIn}
 use Rattle.sched_core.proofs.QuestionLaws.{timeslot-range, sdu-range, memory-passes}
 use Rattle.sched_core.proofs.KeptLaws.{sound-yes}
 use Rattle.history.specs.Call.{CapacityRequest, requestOf, AckOffer, RecordOffer, recordOf, advance, request, enqueueAck, enqueueRecord}
-use Rattle.history.specs.Call.{done, Stepped, unlessRefused}
+use Rattle.history.specs.Call.{Stepped, unlessRefused}
 use Rattle.history.specs.Queues.{Queues, queuedAt, appended}
 use Rattle.history.specs.UplinkModel.{modelView, modelVerdict}
 use Rattle.history.specs.Model.{NamedSdu, Model, became, bare, ofSdu, onlyCounted, requestAsked, requested, modelStep}
-use Rattle.history.specs.Memory.{queueReply, requestReply, answered, memoryStep}
+use Rattle.history.specs.Memory.{answered, memoryStep}
 use Rattle.history.proofs.Steps.{Agree}
 use Rattle.history.proofs.Simulation.{Alike, grant-alike, answer-reply, advance-alike}
 use Rattle.history.proofs.QueueMaps.{Held, same-count, appended-held}
@@ -54,14 +53,10 @@ sdu-in-cell n s p =
 
 -- ---- memory and model
 
--- the lists of records with their cells that a memory holds
-abbrev pub listsOf : Memory → Queues (List ℕ)
-listsOf m = queuesOf (m .station .queued) (m .records) (m .store)
-
 -- the same time, counters, table and queues
 pub record Same (m : Memory) (b : Model) : Type 0 where
   pub uplink : Alike (m .station .uplink) (b .uplink)
-  pub queues : Held (listsOf m) (b .queues)
+  pub queues : Held (queuesIn m) (b .queues)
 
 module _ (m : Memory) (b : Model) (k : SoundMemory m) (a : Same m b) where
   abbrev ns : List ℕ
@@ -79,8 +74,8 @@ module _ (m : Memory) (b : Model) (k : SoundMemory m) (a : Same m b) where
   pub count-at : (t : ℕ) → getD ns (t - 1) 0 ≡ queuedAt (b .queues) t
   count-at t =
       ap (λ (l : List ℕ). getD l (t - 1) 0) (sym (counts-back ns (m .records) (m .store)))
-      ∙ List·getD-map length (listsOf m) (t - 1) []
-      ∙ same-count (listsOf m) (b .queues) (a .queues) t
+      ∙ List·getD-map length (queuesIn m) (t - 1) []
+      ∙ same-count (queuesIn m) (b .queues) (a .queues) t
 
   -- a call that changes nothing
   pub stays : Same m (onlyCounted b)
@@ -88,7 +83,7 @@ module _ (m : Memory) (b : Model) (k : SoundMemory m) (a : Same m b) where
 
   -- ---- an advance
 
-  advance-is : advanceMemory m ≡ outcome core.Reply.Done (memory (advancedStation (m .station)) (m .records) (m .store))
+  advance-is : advanceMemory m ≡ outcome done (memory (advancedStation (m .station)) (m .records) (m .store))
   unfolding advanceMemory advanceCall ask
   advance-is = rw (k .station)
 
@@ -121,7 +116,7 @@ module _ (m : Memory) (b : Model) (k : SoundMemory m) (a : Same m b) where
     joins r c y l e =
         subst (λ (qs : Queues (List ℕ)). Held qs (appended (b .queues) t (item r y)))
         (sym (cell-joins ns (m .records) (m .store) (t - 1) inside room places size (k .queue) r c l))
-        (appended-held (listsOf m) (b .queues) (a .queues) t (item r c) (item r y) e)
+        (appended-held (queuesIn m) (b .queues) (a .queues) t (item r c) (item r y) e)
 
     -- without SDU: its cell is zero as it stands
     bare-joins : (r : Record) (y : NamedSdu) → reload sduInCell (item r zeroCell) ≡ reload unnamed (item r y)
@@ -130,7 +125,7 @@ module _ (m : Memory) (b : Model) (k : SoundMemory m) (a : Same m b) where
     bare-joins r y e =
         subst (λ (qs : Queues (List ℕ)). Held qs (appended (b .queues) t (item r y)))
         (sym (empty-joins ns (m .records) (m .store) (t - 1) inside room places size (k .queue) r (k .octets)))
-        (appended-held (listsOf m) (b .queues) (a .queues) t (item r zeroCell) (item r y) e)
+        (appended-held (queuesIn m) (b .queues) (a .queues) t (item r zeroCell) (item r y) e)
 
   -- ---- a request
 
@@ -142,14 +137,14 @@ module _ (m : Memory) (b : Model) (k : SoundMemory m) (a : Same m b) where
     abbrev given : CapAnswer
     given = answer (m .station .uplink) (requestOf c)
 
-    abbrev answeredAs : CapReply → Outcome RequestReply
+    abbrev answeredAs : CapReply → Outcome
     answeredAs x = grantQueued m (c .timeslot) (c .kind) (c .number) given x
 
-    abbrev no : Refusal → Outcome RequestReply
-    no r = outcome (RequestReply.Refused r) m
+    abbrev no : ℕ → Outcome
+    no n = outcome (refused n) m
 
     answered-agrees : legalTimeslot (c .timeslot) ≡ true → ltb queued perTimeslot ≡ true → (w : Verdict) → modelVerdict (b .uplink) (requestOf c) ≡ w
-        → Agree Same (answered requestReply (answeredAs (replyTo (modelView (b .uplink .taken)) (b .uplink .markers) (requestOf c) w))) (requested c w b)
+        → Agree Same (answered (answeredAs (replyTo (modelView (b .uplink .taken)) (b .uplink .markers) (requestOf c) w))) (requested c w b)
     unfolding grantQueued requested replyTo
     answered-agrees legal fits noRun e = record { after = stays; reply = refl }
     answered-agrees legal fits tooLate e = record { after = stays; reply = refl }
@@ -157,9 +152,9 @@ module _ (m : Memory) (b : Model) (k : SoundMemory m) (a : Same m b) where
         record { after = record { uplink = grant-alike _ _ up (requestOf c) g e; queues = bare-joins (c .timeslot) legal fits _ _ refl }; reply = refl }
 
     searched : legalTimeslot (c .timeslot) ≡ true → ltb queued perTimeslot ≡ true
-        → Agree Same (answered requestReply (answeredAs (given .reply))) (requested c (modelVerdict (b .uplink) (requestOf c)) b)
+        → Agree Same (answered (answeredAs (given .reply))) (requested c (modelVerdict (b .uplink) (requestOf c)) b)
     searched legal fits =
-        subst (λ (r : CapReply). Agree Same (answered requestReply (answeredAs r)) (requested c (modelVerdict (b .uplink) (requestOf c)) b))
+        subst (λ (r : CapReply). Agree Same (answered (answeredAs r)) (requested c (modelVerdict (b .uplink) (requestOf c)) b))
         (sym (answer-reply _ _ up (requestOf c) (modelVerdict (b .uplink) (requestOf c)) refl)) (answered-agrees legal fits _ refl)
 
     -- its own questions decide, and the model counts what the station counts
@@ -172,18 +167,18 @@ module _ (m : Memory) (b : Model) (k : SoundMemory m) (a : Same m b) where
     pub request-agrees : Agree Same (memoryStep (request c) m) (modelStep (request c) b)
     unfolding memoryStep modelStep unlessRefused
     request-agrees =
-        subst (λ (o : Outcome RequestReply). Agree Same (answered requestReply o) (modelStep (request c) b)) (sym request-asks)
-        (ask-both (λ (o : Outcome RequestReply) (y : Stepped Model). Agree Same (answered requestReply o) y) (requestAsked c b) _ no _ _
+        subst (λ (o : Outcome). Agree Same (answered o) (modelStep (request c) b)) (sym request-asks)
+        (ask-both (λ (o : Outcome) (y : Stepped Model). Agree Same (answered o) y) (requestAsked c b) _ no _ _
         (λ r. record { after = stays; reply = refl }) (λ h. searched (h .0) (h .1 .1 .1 .0)))
 
   -- ---- an ack
 
   module _ (o : AckOffer) where
-    abbrev ack-done : Outcome core.Reply
-    ack-done = outcome core.Reply.Done (withRecord m (o .timeslot) (ackRecord (o .kind) (o .number)))
+    abbrev ack-done : Outcome
+    ack-done = outcome done (withRecord m (o .timeslot) (ackRecord (o .kind) (o .number)))
 
-    abbrev ack-no : Refusal → Outcome core.Reply
-    ack-no r = outcome (core.Reply.Refused r) m
+    abbrev ack-no : ℕ → Outcome
+    ack-no n = outcome (refused n) m
 
     abbrev ack-open : Bool
     ack-open = ltb (queuedAt (b .queues) (o .timeslot)) perTimeslot
@@ -200,24 +195,24 @@ module _ (m : Memory) (b : Model) (k : SoundMemory m) (a : Same m b) where
     abbrev ack-joined : Stepped Model
     ack-joined = became b (b .uplink) (appended (b .queues) (o .timeslot) (item (ackRecord (o .kind) (o .number)) bare)) done
 
-    ack-joins : legalTimeslot (o .timeslot) ≡ true → ack-open ≡ true → Agree Same (answered queueReply ack-done) ack-joined
+    ack-joins : legalTimeslot (o .timeslot) ≡ true → ack-open ≡ true → Agree Same (answered ack-done) ack-joined
     ack-joins legal fits = record { after = record { uplink = up; queues = bare-joins (o .timeslot) legal fits _ _ refl }; reply = refl }
 
     pub ack-agrees : Agree Same (memoryStep (enqueueAck o) m) (modelStep (enqueueAck o) b)
     unfolding memoryStep modelStep unlessRefused
     ack-agrees =
-        subst (λ (y : Outcome core.Reply). Agree Same (answered queueReply y) (modelStep (enqueueAck o) b)) (sym ack-asks)
-        (ask-both (λ (y : Outcome core.Reply) (z : Stepped Model). Agree Same (answered queueReply y) z) (ack-own (queuedAt (b .queues) (o .timeslot)))
+        subst (λ (y : Outcome). Agree Same (answered y) (modelStep (enqueueAck o) b)) (sym ack-asks)
+        (ask-both (λ (y : Outcome) (z : Stepped Model). Agree Same (answered y) z) (ack-own (queuedAt (b .queues) (o .timeslot)))
         _ ack-no _ _ (λ r. record { after = stays; reply = refl }) (λ h. ack-joins (h .0) (h .1 .1 .0)))
 
   -- ---- a record
 
   module _ (o : RecordOffer) where
-    abbrev rec-done : Outcome core.Reply
-    rec-done = outcome core.Reply.Done (withSdu m (o .timeslot) (recordOf o) (o .octets))
+    abbrev rec-done : Outcome
+    rec-done = outcome done (withSdu m (o .timeslot) (recordOf o) (o .octets))
 
-    abbrev rec-no : Refusal → Outcome core.Reply
-    rec-no r = outcome (core.Reply.Refused r) m
+    abbrev rec-no : ℕ → Outcome
+    rec-no n = outcome (refused n) m
 
     abbrev rec-open : Bool
     rec-open = ltb (queuedAt (b .queues) (o .timeslot)) perTimeslot
@@ -236,7 +231,7 @@ module _ (m : Memory) (b : Model) (k : SoundMemory m) (a : Same m b) where
     rec-joined = became b (b .uplink) (appended (b .queues) (o .timeslot) (item (recordOf o) (ofSdu (o .bits) (o .octets)))) done
 
     rec-joins : legalTimeslot (o .timeslot) ≡ true → presentSdu (o .bits) (o .octets) ≡ true → rec-open ≡ true
-        → Agree Same (answered queueReply rec-done) rec-joined
+        → Agree Same (answered rec-done) rec-joined
     rec-joins legal present fits =
         record {
           after =
@@ -253,6 +248,6 @@ module _ (m : Memory) (b : Model) (k : SoundMemory m) (a : Same m b) where
     pub rec-agrees : Agree Same (memoryStep (enqueueRecord o) m) (modelStep (enqueueRecord o) b)
     unfolding memoryStep modelStep unlessRefused
     rec-agrees =
-        subst (λ (y : Outcome core.Reply). Agree Same (answered queueReply y) (modelStep (enqueueRecord o) b)) (sym rec-asks)
-        (ask-both (λ (y : Outcome core.Reply) (z : Stepped Model). Agree Same (answered queueReply y) z) (rec-own (queuedAt (b .queues) (o .timeslot)))
+        subst (λ (y : Outcome). Agree Same (answered y) (modelStep (enqueueRecord o) b)) (sym rec-asks)
+        (ask-both (λ (y : Outcome) (z : Stepped Model). Agree Same (answered y) z) (rec-own (queuedAt (b .queues) (o .timeslot)))
         _ rec-no _ _ (λ r. record { after = stays; reply = refl }) (λ h. rec-joins (h .0) (h .1 .1 .1 .0) (h .1 .1 .1 .1 .0)))

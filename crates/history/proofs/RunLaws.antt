@@ -8,7 +8,8 @@ use native.Mathlib.Omega.{arith}
 use Rattle.optional.specs.declared.OptU32.{OptU32}
 use Rattle.tdma_time.specs.Time.{cycle, clock}
 use Rattle.uplink.specs.HalfSlot.{Half}
-use Rattle.history.specs.Call.{CapacityRequest, Call, advance, request, enqueueAck, enqueueRecord, build, read, noBlock, Stepped, stepped, run}
+use Rattle.sched_core.specs.Replies.{noBlock}
+use Rattle.history.specs.Call.{CapacityRequest, Call, advance, request, enqueueAck, enqueueRecord, build, read, Stepped, stepped, run}
 use Rattle.history.specs.Queues.{canBuild}
 use Rattle.history.specs.UplinkModel.{UplinkModel, takenBy, modelView, advancedUplinkModel}
 use Rattle.history.specs.Model.{Model, onlyCounted, built, modelStep}

@@ -20,17 +20,17 @@ use Rattle.dl_send.specs.Send.{Sent, cellSdu, blockOf}
 use Rattle.dl_send.proofs.MapLaws.{reloadSent}
 use Rattle.dl_build.specs.Build.{buildList, builtFrom, builtOf}
 use Rattle.dl_build.proofs.AfterBuild.{build-holds}
-use Rattle.questions.specs.declared.Refusal.{Refusal}
-use Rattle.questions.specs.Questions.{refusalNumber, ask}
-use Rattle.sched_core.specs.declared.BuildReply.{BuildReply}
+use Rattle.questions.specs.Questions.{ask}
 use Rattle.sched_core.specs.Questions.{Memory, asksBlock, buildLent}
+use Rattle.sched_core.specs.Replies.{refused, block, noBlock}
 use Rattle.sched_core.specs.Calls.{BuildOutcome}
 use Rattle.sched_core.specs.Calls.{current, buildsNow, builtNow, withLeft, blockBuilt, notBuilt, buildCall, newMemory}
 use Rattle.sched_core.specs.Invariant.{SoundMemory}
+use Rattle.sched_core.specs.RequestGranted.{queuesIn}
 use Rattle.sched_core.proofs.QuestionLaws.{memory-passes}
 use Rattle.sched_core.proofs.KeptLaws.{every-call-keeps, sound-yes}
 use Rattle.history.specs.Call.{Call, advance, request, enqueueAck, enqueueRecord, build, read}
-use Rattle.history.specs.Call.{refused, block, noBlock, stepped, unlessRefused}
+use Rattle.history.specs.Call.{stepped, unlessRefused}
 use Rattle.history.specs.Queues.{Queues, queueAt, withQueueAt, someQueued, canBuild}
 use Rattle.history.specs.Model.{Model, newModel, became, onlyCounted, namedBuilt, queueNow, built, modelStep, modelAt}
 use Rattle.history.specs.Memory.{answeredBuild, memoryStep, memoryAt}
@@ -38,7 +38,7 @@ use Rattle.history.proofs.Steps.{Agree, run-agree}
 use Rattle.history.proofs.Simulation.{new-alike}
 use Rattle.history.proofs.QueueMaps.{Held, set-held, cellsBuilt, steadyBits, steadyNames, same-built}
 use Rattle.history.proofs.ReadLaws.{read-agrees}
-use Rattle.history.proofs.QueueSteps.{Same, listsOf, places, size, count-at, stays, advance-agrees, request-agrees, ack-agrees, rec-agrees}
+use Rattle.history.proofs.QueueSteps.{Same, places, size, count-at, stays, advance-agrees, request-agrees, ack-agrees, rec-agrees}
 
 some-count : {C : Type 0} (ys : List (Item C)) → ltb 0 (length ys) ≡ someQueued ys
 some-count [] = refl
@@ -69,12 +69,12 @@ module _ (m : Memory) (b : Model) (k : SoundMemory m) (a : Same m b) where
   abbrev pub sent : Sent (List ℕ)
   sent = builtOf ns (m .records) (m .store) (t - 1)
 
-  sent-is : sent ≡ cellsBuilt (queueAt (listsOf m) t)
+  sent-is : sent ≡ cellsBuilt (queueAt (queuesIn m) t)
   unfolding builtOf builtFrom cellsBuilt
   sent-is = ap (λ (q : List (Item (List ℕ))). buildList cellSdu blockWidth (mergeCells q)) (sym (queues-at ns (m .records) (m .store) (t - 1) now-inside))
 
   same-sent : reloadSent sduInCell steadyBits sent ≡ reloadSent unnamed steadyNames (namedBuilt (queueNow b))
-  same-sent = ap (reloadSent sduInCell steadyBits) sent-is ∙ same-built (listsOf m) (b .queues) (a .queues) t
+  same-sent = ap (reloadSent sduInCell steadyBits) sent-is ∙ same-built (queuesIn m) (b .queues) (a .queues) t
 
   pub same-pdus : sent .pdus ≡ namedBuilt (queueNow b) .pdus
   same-pdus = ap (λ (s : Sent (List ℕ)). s .pdus) same-sent
@@ -82,23 +82,23 @@ module _ (m : Memory) (b : Model) (k : SoundMemory m) (a : Same m b) where
   same-tags : sent .tags ≡ namedBuilt (queueNow b) .tags
   same-tags = ap (λ (s : Sent (List ℕ)). s .tags) same-sent
 
-  same-left : Held (listsOf (withLeft m (t - 1) sent)) (withQueueAt (b .queues) t (namedBuilt (queueNow b) .left))
+  same-left : Held (queuesIn (withLeft m (t - 1) sent)) (withQueueAt (b .queues) t (namedBuilt (queueNow b) .left))
   same-left =
       subst (λ (qs : Queues (List ℕ)). Held qs (withQueueAt (b .queues) t (namedBuilt (queueNow b) .left)))
       (sym (build-holds ns (m .records) (m .store) (t - 1) now-inside (places m b k a) (size m b k a) (k .queue) (k .octets) .lists))
-      (set-held (listsOf m) (b .queues) (a .queues) (t - 1) _ _ (ap (λ (s : Sent (List ℕ)). s .left) same-sent))
+      (set-held (queuesIn m) (b .queues) (a .queues) (t - 1) _ _ (ap (λ (s : Sent (List ℕ)). s .left) same-sent))
 
   -- only the length of the block is in doubt
   abbrev asks-build : List ℕ → Bool → ℕ → BuildOutcome
   asks-build l can j =
       cond (asksBlock l .holds)
-      (cond can (blockBuilt m j (builtOf ns (m .records) (m .store) j)) (notBuilt BuildReply.NoBlock m l))
-      (notBuilt (BuildReply.Refused Refusal.Lengths) m l)
+      (cond can (blockBuilt m j (builtOf ns (m .records) (m .store) j)) (notBuilt noBlock m l))
+      (notBuilt (refused 2) m l)
 
   build-asks : (l : List ℕ) → buildCall m l ≡ asks-build l (canBuild (b .uplink .now) (b .queues)) (t - 1)
   unfolding buildCall builtNow ask
   build-asks l =
-      memory-passes m (buildLent l) [] _ (λ r. notBuilt (BuildReply.Refused r) m l) (sound-yes m k)
+      memory-passes m (buildLent l) [] _ (λ n. notBuilt (refused n) m l) (sound-yes m k)
       ∙ ap₂ (λ (can : Bool) (j : ℕ). asks-build l can j) same-can here
 
   build-agrees : (l : List ℕ) → Agree Same (memoryStep (build l) m) (modelStep (build l) b)
@@ -108,13 +108,13 @@ module _ (m : Memory) (b : Model) (k : SoundMemory m) (a : Same m b) where
       go : (right can : Bool)
           → Agree Same
           (answeredBuild
-          (cond right (cond can (blockBuilt m (t - 1) sent) (notBuilt BuildReply.NoBlock m l)) (notBuilt (BuildReply.Refused Refusal.Lengths) m l)))
+          (cond right (cond can (blockBuilt m (t - 1) sent) (notBuilt noBlock m l)) (notBuilt (refused 2) m l)))
           (cond right
           (cond can
           (became b (b .uplink) (withQueueAt (b .queues) t (namedBuilt (queueNow b) .left))
           (block (blockOf blockOctets (blockBits (namedBuilt (queueNow b) .pdus))) (namedBuilt (queueNow b) .tags)))
           (stepped (onlyCounted b) noBlock))
-          (stepped (onlyCounted b) (refused (refusalNumber Refusal.Lengths))))
+          (stepped (onlyCounted b) (refused 2)))
       go true true =
           record {
             after = record { uplink = a .uplink; queues = same-left };
@@ -140,7 +140,7 @@ pub record SoundAndSame (m : Memory) (b : Model) : Type 0 where
   pub sound : SoundMemory m
   pub same : Same m b
 
-step-sound : (c : Call) (m : Memory) → SoundMemory m → SoundMemory (memoryStep c m .after)
+pub step-sound : (c : Call) (m : Memory) → SoundMemory m → SoundMemory (memoryStep c m .after)
 unfolding memoryStep
 step-sound advance m k = every-call-keeps .advance m k
 step-sound (request a) m k = every-call-keeps .request m _ _ _ _ k

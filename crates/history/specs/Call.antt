@@ -1,8 +1,7 @@
 -- The calls of a history with their arguments, and what a call comes to. Assumes nothing.
 use mathlib.Core.List.{List, [], _∷_}
 use Prim.Native.Nat.{ℕ}
-use Rattle.questions.specs.Questions.{Question, refusalNumber, ask}
-use Rattle.optional.specs.declared.OptU8.{OptU8}
+use Rattle.questions.specs.Questions.{Question, ask}
 use Rattle.optional.specs.declared.OptU16.{OptU16}
 use Rattle.tdma_time.specs.declared.TdmaTime.{TdmaTime}
 use Rattle.uplink.specs.declared.PhyBlockNum.{PhyBlockNum}
@@ -10,6 +9,7 @@ use Rattle.uplink.specs.Request.{Request}
 use Rattle.dl_record.specs.declared.QueuedHeader.{QueuedHeader}
 use Rattle.dl_record.specs.declared.Record.{Record}
 use Rattle.dl_record.specs.Record.{offeredRecord}
+use Rattle.sched_core.specs.Replies.{Numbered, refused}
 
 -- a request for capacity, as the call is given it: timeslot, requirement code, address kind and number
 pub record CapacityRequest : Type 0 where
@@ -59,28 +59,19 @@ pub data Call : Type 0 where
   build : List ℕ → Call
   read : Query → Call
 
--- "On a no, the number is the whole reply"; a grant has its capacity, its delay, and a marker or none; a block's octets come with the tags of
--- finished records; or none is built
-pub data Reply : Type 0 where
-  done : Reply
-  refused : ℕ → Reply
-  granted : ℕ → ℕ → OptU8 → Reply
-  block : List ℕ → List ℕ → Reply
-  noBlock : Reply
-
 -- ---- a step: what a call leaves, and its reply
 
 pub record Stepped (S : Type 0) : Type 0 where
   pub after : S
-  pub reply : Reply
+  pub reply : Numbered
 
 module _ {S : Type 0} where
-  abbrev pub stepped : S → Reply → Stepped S
+  abbrev pub stepped : S → Numbered → Stepped S
   stepped s r = record { after = s; reply = r }
 
   -- "On a no, the number is the whole reply and each lent bit and the state are those that came in."
   unfoldable pub unlessRefused : List Question → S → Stepped S → Stepped S
-  unlessRefused qs s fine = ask qs fine (λ r. stepped s (refused (refusalNumber r)))
+  unlessRefused qs s fine = ask qs fine (λ n. stepped s (refused n))
 
   -- "In a history each call gets state, queue and store as the last one left them"
   unfoldable pub run : (Call → S → Stepped S) → List Call → S → S

@@ -13,11 +13,12 @@ use Rattle.sizes.specs.Sizes.{timeslots, framesSearched, blockOctets}
 use Rattle.optional.specs.declared.OptU8.{OptU8}
 use Rattle.optional.specs.declared.OptU32.{OptU32}
 use Rattle.tdma_time.specs.declared.TdmaTime.{TdmaTime}
-use Rattle.tdma_time.specs.Time.{slotOf, timeOf, clock, firstUsable, timeslot}
+use Rattle.tdma_time.specs.Time.{Valid, cycle, slotOf, timeOf, clock, firstUsable, timeslot}
 use Rattle.slot_codes.specs.Codes.{grantOctet, capacityOf, delayOf}
+use Rattle.uplink.specs.declared.Entry.{Entry}
 use Rattle.uplink.specs.declared.PhyBlockNum.{PhyBlockNum}
 use Rattle.uplink.specs.HalfSlot.{Half, HalfSlot}
-use Rattle.uplink.specs.UplinkEntry.{ownerOf, usageOf, tableView}
+use Rattle.uplink.specs.UplinkEntry.{emptyEntry, SameEntry, ownerOf, tableView}
 use Rattle.uplink.specs.Request.{msHalfSlots}
 use Rattle.mac_pdus.specs.declared.ResourceHeader.{ResourceHeader}
 use Rattle.mac_pdus.specs.declared.PduHeader.{PduHeader}
@@ -25,14 +26,14 @@ use Rattle.mac_pdus.specs.Legal.{numberOf}
 use Rattle.mac_reader.specs.PduList.{placed}
 use Rattle.mac_reader.specs.Reader.{headers, noHeader, replyOf, readBlock}
 use Rattle.dl_queue.specs.Queue.{Item}
-use Rattle.sched_core.specs.declared.OwnerReply.{OwnerReply}
-use Rattle.sched_core.specs.declared.UsageReply.{UsageReply}
+use Rattle.sched_core.specs.Questions.{Memory}
+use Rattle.sched_core.specs.Replies.{Numbered, granted, block, owned, usedAs}
 use Rattle.sched_core.specs.Calls.{ownerCall, usageCall}
 use Rattle.sched_core.specs.Invariant.{SoundMemory}
-use Rattle.history.specs.Call.{CapacityRequest, Call, advance, request, enqueueAck, enqueueRecord, build, read, granted, block}
+use Rattle.history.specs.Call.{CapacityRequest, Query, owner, usage, timeRead, Call, advance, request, enqueueAck, enqueueRecord, build, read}
 use Rattle.history.specs.UplinkModel.{modelEntry}
 use Rattle.history.specs.Model.{NamedSdu, Model, reserved, modelStep, modelAt, queueNow, pdusBuilt, namesBuilt, pending, replaces}
-use Rattle.history.specs.Memory.{memoryStep, memoryAt}
+use Rattle.history.specs.Memory.{readAnswer, memoryStep, memoryAt}
 
 -- "4,320 to a hyperframe": the slots of 65,535 hyperframes
 abbrev pub farthest : ℕ
@@ -91,6 +92,15 @@ ItsGrant x cs h octet name =
     (o : Origin x cs (timeslot (modelAt x cs .uplink .now)) (numberOf (h .address)) octet name)
     × DerivedAt (modelAt x (o .before)) (o .asker) octet (modelAt x cs .uplink .now)
 
+-- what an entry answers to a call that only reads
+abbrev pub entryReading : Query → Entry → Numbered
+entryReading (owner x half) e = owned (ownerOf half e)
+entryReading (usage x) e = usedAs e
+
+-- asked for a valid time with the timeslot and frame of slot c, a call that only reads answers what entry e holds
+abbrev pub AnswersAt : Query → Memory → ℕ → Entry → Type 0
+AnswersAt q m c e = Valid (timeRead q) → SameEntry (slotOf (timeRead q)) c → readAnswer q m ≡ entryReading q e
+
 -- Half-slot y stands reserved under number w: a request of number w reserved it, and its slot is not passed.
 pub record Standing (x : TdmaTime) (cs : List Call) (y : HalfSlot) (w : ℕ) : Type 0 where
   pub before : List Call
@@ -138,6 +148,10 @@ pub record Demand3 (x : TdmaTime) (cs : List Call) : Type 0 where
       → slotsAdvanced between ≤ farthest
       → (y : HalfSlot) → List·Memᴰ y (reserved a (modelAt x before))
       → List·Memᴰ y (reserved a′ (modelAt x (before ++ request a ∷ between))) → ⊥
+  -- "It begins at the new station's time", "An advance takes the next time": the station's time is a valid one, and the model's now
+  pub time : Valid (memoryAt x cs .station .uplink .time)
+  pub now : slotOf (memoryAt x cs .station .uplink .time) ≡ modelAt x cs .uplink .now
+  pub in-range : modelAt x cs .uplink .now < cycle
   -- in the 68 slots from now on the table has taken exactly the half-slots reserved and not passed, each under its request's number
   pub table : (k : ℕ) → k < slotsAgreed → (h : Half) (w : ℕ)
       → (tableView (memoryAt x cs .station .uplink .rows) (slotOf (memoryAt x cs .station .uplink .time) + k) h ≡ OptU32.Of w)
@@ -146,9 +160,26 @@ pub record Demand3 (x : TdmaTime) (cs : List Call) : Type 0 where
   -- drew or none
   pub owners : (k : ℕ) → k < slotsAgreed → (half : PhyBlockNum)
       → let c = slotOf (memoryAt x cs .station .uplink .time) + k in
-      ownerCall (memoryAt x cs .station) (timeOf c) half ≡ OwnerReply.Owner (ownerOf half (modelEntry (modelAt x cs .uplink .taken) c))
+      ownerCall (memoryAt x cs .station) (timeOf c) half ≡ owned (ownerOf half (modelEntry (modelAt x cs .uplink .taken) c))
   pub usages : (k : ℕ) → k < slotsAgreed
       → let c = slotOf (memoryAt x cs .station .uplink .time) + k in
-      usageCall (memoryAt x cs .station) (timeOf c) ≡ UsageReply.Usage (usageOf (modelEntry (modelAt x cs .uplink .taken) c))
+      usageCall (memoryAt x cs .station) (timeOf c) ≡ usedAs (modelEntry (modelAt x cs .uplink .taken) c)
+  -- and so do they where they stand in the list, by value: asked for a time in the 68 slots from the model's now on, they answer what the model has
+  -- taken in that slot then
+  pub reads : (before since : List Call) (q : Query) → cs ≡ before ++ read q ∷ since → (k : ℕ) → k < slotsAgreed
+      → let c = modelAt x before .uplink .now + k in
+      timeRead q ≡ timeOf c → readAnswer q (memoryAt x before) ≡ entryReading q (modelEntry (modelAt x before .uplink .taken) c)
+  -- The table is "indexed by timeslot and frame", so that a time outside of these slots is answered for a slot some times 18 frames away: for that of
+  -- the 68 which has its timeslot and frame,
+  pub elsewhere : (before since : List Call) (q : Query) → cs ≡ before ++ read q ∷ since → (k : ℕ) → k < slotsAgreed
+      → let c = modelAt x before .uplink .now + k in
+      AnswersAt q (memoryAt x before) c (modelEntry (modelAt x before .uplink .taken) c)
+  -- or the next behind them, whose entry is that of "the slot four earlier" and empty,
+  pub emptied : (before since : List Call) (q : Query) → cs ≡ before ++ read q ∷ since
+      → AnswersAt q (memoryAt x before) (modelAt x before .uplink .now + slotsAgreed) emptyEntry
+  -- or one of the three slots left last, whose entries stand as they were left
+  pub left : (before between since : List Call) (q : Query) → cs ≡ before ++ advance ∷ between ++ read q ∷ since → slotsAdvanced between ≤ 2
+      → let c = modelAt x before .uplink .now in
+      AnswersAt q (memoryAt x (before ++ advance ∷ between)) c (modelEntry (modelAt x before .uplink .taken) c)
   -- what the code holds is sound: question 1 is never answered no
   pub sound : SoundMemory (memoryAt x cs)

@@ -6,8 +6,7 @@ use Prim.Native.Nat.{ℕ, suc}
 use lib.Dec.{eqb}
 use lib.ListN.{take}
 use Rattle.sizes.specs.Sizes.{blockWidth, blockOctets}
-use Rattle.questions.specs.declared.Refusal.{Refusal}
-use Rattle.questions.specs.Questions.{Question, refusalNumber, ask}
+use Rattle.questions.specs.Questions.{Question, ask}
 use Rattle.bitbuffer.specs.Bits.{bitsOf}
 use Rattle.tdma_time.specs.declared.TdmaTime.{TdmaTime}
 use Rattle.tdma_time.specs.Time.{timeslot}
@@ -23,8 +22,9 @@ use Rattle.dl_merge.specs.Merge.{Named, mergeNamed}
 use Rattle.dl_send.specs.Send.{Sent, blockOf, nullIn, Turn, turns, readOff}
 use Rattle.dl_build.specs.Build.{inOrder, buildList}
 use Rattle.sched_core.specs.Questions.{requestQuestions, ackQuestions, tmaQuestions, buildLent, timeQuestions}
+use Rattle.sched_core.specs.Replies.{Numbered, done, refused, granted, block, noBlock}
 use Rattle.history.specs.Call.{CapacityRequest, requestOf, recordOf, timeRead, Call, advance, request, enqueueAck, enqueueRecord, build, read}
-use Rattle.history.specs.Call.{done, refused, granted, block, noBlock, Reply, Stepped, stepped, unlessRefused, run}
+use Rattle.history.specs.Call.{Stepped, stepped, unlessRefused, run}
 use Rattle.history.specs.Queues.{Queues, noQueues, queueAt, queuedAt, withQueueAt, appended, canBuild}
 use Rattle.history.specs.UplinkModel.{UplinkModel, newUplinkModel, modelView, advancedUplinkModel, modelVerdict, takenFor}
 
@@ -56,7 +56,7 @@ unfoldable pub newModel : TdmaTime → Model
 newModel x = record { uplink = newUplinkModel x; queues = noQueues; count = 0 }
 
 -- one call more: with this uplink, these queues and this reply
-abbrev pub became : Model → UplinkModel → Queues NamedSdu → Reply → Stepped Model
+abbrev pub became : Model → UplinkModel → Queues NamedSdu → Numbered → Stepped Model
 became m u qs r = stepped (record { uplink = u; queues = qs; count = suc (m .count) }) r
 
 -- "a refused call, or one that only reads, changes nothing": it is counted
@@ -71,13 +71,13 @@ requestAsked a m = requestQuestions (queuedAt (m .queues) (a .timeslot)) (a .tim
 
 -- "The half-slots it takes, in order, [..] are its reserved list": none where a question is answered no
 unfoldable pub reserved : CapacityRequest → Model → List HalfSlot
-reserved a m = ask (requestAsked a m) (reservedBy (modelView (m .uplink .taken)) (a .code) (modelVerdict (m .uplink) (requestOf a))) (λ r. [])
+reserved a m = ask (requestAsked a m) (reservedBy (modelView (m .uplink .taken)) (a .code) (modelVerdict (m .uplink) (requestOf a))) (λ n. [])
 
 -- "9. Does the run exist?" "10. At most 13 before it?" "Its grant, with the delay counted there and any marker drawn as above, is queued and
 -- named after the request": after its place in the history
 unfoldable pub requested : CapacityRequest → Verdict → Model → Stepped Model
-requested a noRun m = stepped (onlyCounted m) (refused (refusalNumber Refusal.NoRun))
-requested a tooLate m = stepped (onlyCounted m) (refused (refusalNumber Refusal.TooLate))
+requested a noRun m = stepped (onlyCounted m) (refused 9)
+requested a tooLate m = stepped (onlyCounted m) (refused 10)
 requested a (grant g) m =
     let cap = capacity (modelView (m .uplink .taken)) (a .code) (g .slots) in
     let marker = markerOf (m .uplink .markers) (requestOf a) in

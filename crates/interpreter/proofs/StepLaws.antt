@@ -1,8 +1,8 @@
 -- What each command's function answers is the outcome of the command. Assumes nothing.
 use mathlib.Core.Path.{_≡_, refl, sym, ap, _∙_, subst}
 use mathlib.Core.Bool.{true, false}
-use mathlib.Core.List.{List, [], _∷_, _++_, append-nil}
-use Prim.Native.Nat.{ℕ, zero, suc, _+_, _*_, _≤_, _<_}
+use mathlib.Core.List.{List, _++_, append-nil}
+use Prim.Native.Nat.{ℕ, _+_, _*_, _≤_, _<_}
 use native.Mathlib.Omega.{arith}
 use lib.ListN.{length, take, drop, replicate, length-replicate}
 use lib.Seq.{paste, take-all, drop-length}
@@ -15,9 +15,7 @@ use Rattle.uplink.specs.UplinkEntry.{markerOrZero}
 use Rattle.bitbuffer.specs.Bits.{written, part, Wrote}
 use Rattle.dl_record.specs.declared.Record.{Record}
 use Rattle.dl_record.specs.Record.{emptyRecord, emptyHeader}
-use Rattle.dl_send.specs.Arrays.{tagRow}
 use Rattle.sched_core.specs.declared.Station.{Station}
-use Rattle.sched_core.specs.declared.Reply.{Reply}
 use Rattle.interpreter.specs.declared.calls.BuildDone.{BuildDone}
 use Rattle.sched_core.specs.declared.RequestReply.{RequestReply}
 use Rattle.sched_core.specs.declared.BuildReply.{BuildReply}
@@ -25,7 +23,8 @@ use Rattle.questions.specs.declared.Refusal.{Refusal}
 use Rattle.sched_core.specs.Station.{newStation}
 use Rattle.questions.specs.Questions.{refusalNumber}
 use Rattle.sched_core.specs.Questions.{Memory, memory, timeQuestions}
-use Rattle.sched_core.specs.Calls.{Outcome, outcome, StationOutcome, replyNumber}
+use Rattle.sched_core.specs.Replies.{Numbered, replyNumber, queueReply, requestReply, buildReply}
+use Rattle.sched_core.specs.Calls.{Outcome, outcome, StationOutcome}
 use Rattle.sched_core.specs.Calls.{newCall, newMemory, advanceCall, advanceMemory, requestCall, tmaCall, buildCall}
 use Rattle.sched_core.specs.Invariant.{isDone}
 use Rattle.questions.proofs.AskLaws.{ask-elim}
@@ -34,7 +33,7 @@ use Rattle.interpreter.specs.declared.calls.QueueLeft.{QueueLeft}
 use Rattle.interpreter.specs.declared.Command.{Command}
 use Rattle.interpreter.specs.declared.Executed.{Executed}
 use Rattle.interpreter.specs.Text.{number, line}
-use Rattle.interpreter.specs.Slotrun.{Session, session, Step, stageKept, step, operandCount, octet, twoOctets, fourOctets, timeGiven}
+use Rattle.interpreter.specs.Slotrun.{Printed, Session, session, Step, stageKept, step, operandCount, octet, twoOctets, fourOctets, timeGiven}
 use Rattle.interpreter.specs.Slotrun.{newStep, advanceStep, requestStep, grantFields, staged, stageLine, queueStep, buildStep, blockFields}
 use Rattle.interpreter.specs.Steps.{BuildAnswered, Executes, Advances, Steps}
 use Rattle.interpreter.proofs.TextLaws.{nothing}
@@ -96,15 +95,15 @@ advanced s out out' a n count made num few w rs store =
 -- ---- 52 request
 
 pub requested : (m : Memory) (ops out out' st : List ℕ) (a : RequestLeft) (n count : ℕ) → n ≡ fourOctets ops 3
-    → outcome (a .reply) (memory (a .station) (a .records) st) ≡ requestCall m (octet ops 0) (octet ops 1) (octet ops 2) n → count ≤ 173
-    → Wrote out 0 out' count (line 82 (grantFields (a .reply)))
+    → outcome (requestReply (a .reply)) (memory (a .station) (a .records) st) ≡ requestCall m (octet ops 0) (octet ops 1) (octet ops 2) n → count ≤ 173
+    → Wrote out 0 out' count (line 82 (grantFields (requestReply (a .reply))))
     → Executes (requestStep m ops) (record { station = a .station; queue = a .records; count = count }) st out out'
 unfolding requestStep
 requested m ops out out' st a n count num h few w =
     let e = h ∙ ap (λ (k : ℕ). requestCall m (octet ops 0) (octet ops 1) (octet ops 2) k) num in
     record {
-      memory-after = ap (λ (o : Outcome RequestReply). o .memory) e;
-      line = relined (ap (λ (o : Outcome RequestReply). line 82 (grantFields (o .reply))) e) w;
+      memory-after = ap (λ (o : Outcome). o .memory) e;
+      line = relined (ap (λ (o : Outcome). line 82 (grantFields (o .reply))) e) w;
       most = few;
     }
 
@@ -112,8 +111,8 @@ requested m ops out out' st a n count num h few w =
 
 pub queued : (m : Memory) (stage ops out out' st : List ℕ) (a : QueueLeft) (n tag bits k count : ℕ) → n ≡ fourOctets ops 2 → tag ≡ twoOctets ops 6
     → bits ≡ twoOctets ops 8
-    → outcome (a .reply) (memory (a .station) (a .records) st) ≡ tmaCall m (octet ops 0) (octet ops 1) n (OptU16.Of tag) emptyHeader bits stage
-    → k ≡ replyNumber (a .reply) → count ≤ 8 → Wrote out 0 out' count (line 81 (number k))
+    → outcome (queueReply (a .reply)) (memory (a .station) (a .records) st) ≡ tmaCall m (octet ops 0) (octet ops 1) n (OptU16.Of tag) emptyHeader bits stage
+    → k ≡ replyNumber (queueReply (a .reply)) → count ≤ 8 → Wrote out 0 out' count (line 81 (number k))
     → Executes (queueStep m stage ops) (record { station = a .station; queue = a .records; count = count }) st out out'
 unfolding queueStep
 queued m stage ops out out' st a n tag bits k count e1 e2 e3 h num few w =
@@ -122,41 +121,24 @@ queued m stage ops out out' st a n tag bits k count e1 e2 e3 h num few w =
     ∙ ap (λ (x : ℕ). tmaCall m (octet ops 0) (octet ops 1) (fourOctets ops 2) (OptU16.Of x) emptyHeader bits stage) e2
     ∙ ap (λ (x : ℕ). tmaCall m (octet ops 0) (octet ops 1) (fourOctets ops 2) (OptU16.Of (twoOctets ops 6)) emptyHeader x stage) e3 in
     record {
-      memory-after = ap (λ (o : Outcome Reply). o .memory) e;
-      line = relined (ap (λ (x : ℕ). line 81 (number x)) num ∙ ap (λ (o : Outcome Reply). line 81 (number (replyNumber (o .reply)))) e) w;
+      memory-after = ap (λ (o : Outcome). o .memory) e;
+      line = relined (ap (λ (x : ℕ). line 81 (number x)) num ∙ ap (λ (o : Outcome). line 81 (number (replyNumber (o .reply)))) e) w;
       most = omega arith;
     }
 
 -- ---- 42 build
 
-tags-taken : (k : ℕ) (ts : List ℕ) → length ts ≤ k → take (length ts) (tagRow k ts) ≡ ts
-unfolding tagRow
-tags-taken zero [] h = refl
-tags-taken zero (t ∷ ts) h = absurd (omega arith)
-tags-taken (suc k) [] h = refl
-tags-taken (suc k) (t ∷ ts) h = ap (λ (l : List ℕ). t ∷ l) (tags-taken k ts (omega arith))
-
 pub tag-count : (m : Memory) (block st block' : List ℕ) (a : BuildDone) → length (m .station .queued) ≡ timeslots
     → BuildAnswered (buildCall m block) a st block' → a .«tag_count» ≤ perTimeslot
-tag-count m block st block' a four h =
-    subst (λ (n : ℕ). n ≤ perTimeslot) (sym (ap (λ (b : BuildDone). b .«tag_count») (h .answer))) (few-tags m block four)
+tag-count m block st block' a four h = subst (λ (n : ℕ). n ≤ perTimeslot) (sym (h .tag-count)) (few-tags m block four)
 
-pub built : (m : Memory) (out out' st block' : List ℕ) (a : BuildDone) (count : ℕ) → length (m .station .queued) ≡ timeslots
+pub built : (m : Memory) (out out' st block' : List ℕ) (a : BuildDone) (count : ℕ)
     → BuildAnswered (buildCall m (replicate blockOctets 0)) a st block' → count ≤ 173
-    → Wrote out 0 out' count (line 66 (blockFields (a .reply) block' (take (a .«tag_count») (a .tags))))
+    → Wrote out 0 out' count (line 66 (blockFields (buildReply (a .reply) block' (take (a .«tag_count») (a .tags)))))
     → Executes (buildStep m) (record { station = a .station; queue = a .records; count = count }) st out out'
 unfolding buildStep
-built m out out' st block' a count four h few w =
-    let o = buildCall m (replicate blockOctets 0) in
-    record {
-      memory-after = ap (λ (b : BuildDone). memory (b .station) (b .records) st) (h .answer)
-          ∙ ap (λ (l : List ℕ). memory (o .memory .station) (o .memory .records) l) (h .store);
-      line = relined (ap (λ (b : BuildDone). line 66 (blockFields (b .reply) block' (take (b .«tag_count») (b .tags)))) (h .answer)
-          ∙ ap (λ (l : List ℕ). line 66 (blockFields (o .reply) l (take (length (o .tags)) (tagRow perTimeslot (o .tags))))) (h .block)
-          ∙ ap (λ (l : List ℕ). line 66 (blockFields (o .reply) (o .block) l))
-          (tags-taken perTimeslot (o .tags) (few-tags m (replicate blockOctets 0) four))) w;
-      most = few;
-    }
+built m out out' st block' a count h few w =
+    record { memory-after = h .memory-after; line = relined (ap (λ (r : Numbered). line 66 (blockFields r)) (h .reply)) w; most = few }
 
 -- ---- 53 stage
 
@@ -180,28 +162,28 @@ stage-filled stage stage' ops out out' text at count small e1 e2 h few w =
 pub grant-line : (out out' : List ℕ) (count : ℕ) (reply : RequestReply) (capacity delay k : ℕ) (marker : OptU8)
     → reply ≡ RequestReply.Granted capacity delay marker → k ≡ markerOrZero marker → count ≤ 26
     → Wrote out 0 out' count (line 82 (number 0 ++ number capacity ++ number delay ++ number k))
-    → (count ≤ 173) × Wrote out 0 out' count (line 82 (grantFields reply))
+    → (count ≤ 173) × Wrote out 0 out' count (line 82 (grantFields (requestReply reply)))
 grant-line out out' count reply capacity delay k marker e num few w =
     let text = ap (λ (x : ℕ). line 82 (number 0 ++ number capacity ++ number delay ++ number x)) num in
-    (omega arith, relined (text ∙ ap (λ (r : RequestReply). line 82 (grantFields r)) (sym e)) w)
+    (omega arith, relined (text ∙ ap (λ (r : RequestReply). line 82 (grantFields (requestReply r))) (sym e)) w)
 
 pub refusal-line : (out out' : List ℕ) (count n : ℕ) (reply : RequestReply) (r : Refusal) → reply ≡ RequestReply.Refused r → n ≡ refusalNumber r → count ≤ 8
-    → Wrote out 0 out' count (line 82 (number n)) → (count ≤ 173) × Wrote out 0 out' count (line 82 (grantFields reply))
+    → Wrote out 0 out' count (line 82 (number n)) → (count ≤ 173) × Wrote out 0 out' count (line 82 (grantFields (requestReply reply)))
 refusal-line out out' count n reply r e num few w =
-    (omega arith, relined (ap (λ (x : ℕ). line 82 (number x)) num ∙ ap (λ (x : RequestReply). line 82 (grantFields x)) (sym e)) w)
+    (omega arith, relined (ap (λ (x : ℕ). line 82 (number x)) num ∙ ap (λ (x : RequestReply). line 82 (grantFields (requestReply x))) (sym e)) w)
 
 pub block-line : (out out' block tags text : List ℕ) (count most : ℕ) (reply known : BuildReply) → reply ≡ known → count ≤ most → most ≤ 173
-    → text ≡ line 66 (blockFields known block tags) → Wrote out 0 out' count text
-    → (count ≤ 173) × Wrote out 0 out' count (line 66 (blockFields reply block tags))
+    → text ≡ line 66 (blockFields (buildReply known block tags)) → Wrote out 0 out' count text
+    → (count ≤ 173) × Wrote out 0 out' count (line 66 (blockFields (buildReply reply block tags)))
 block-line out out' block tags text count most reply known e few fits h w =
-    (omega arith, relined (h ∙ ap (λ (x : BuildReply). line 66 (blockFields x block tags)) (sym e)) w)
+    (omega arith, relined (h ∙ ap (λ (x : BuildReply). line 66 (blockFields (buildReply x block tags))) (sym e)) w)
 
 -- ---- any command
 
 pub counted : (command known : Command) (n : ℕ) → command ≡ known → operandCount command ≤ n → operandCount known ≤ n
 counted command known n e h = subst (λ (c : Command). operandCount c ≤ n) e h
 
-kept-step : (s : Session) (x : Step) (o : Outcome (List ℕ)) (r : Executed) (st out out' : List ℕ) → x ≡ stageKept s o → Executes o r st out out'
+kept-step : (s : Session) (x : Step) (o : Printed) (r : Executed) (st out out' : List ℕ) → x ≡ stageKept s o → Executes o r st out out'
     → Steps x r st (s .stage) out out'
 kept-step s x o r st out out' e h =
     subst (λ y. Steps y r st (s .stage) out out') (sym e)

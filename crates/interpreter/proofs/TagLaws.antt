@@ -18,8 +18,8 @@ use Rattle.dl_send.specs.Send.{turns, readOff, roomAfter, sendAll, tagsOf, cell
 use Rattle.dl_build.specs.Build.{inOrder, buildList, builtFrom, builtOf}
 use Rattle.dl_build.proofs.OrderLaws.{order-length}
 use Rattle.dl_build.proofs.BuildLaws.{mergedQueue, merged-most}
-use Rattle.sched_core.specs.declared.BuildReply.{BuildReply}
 use Rattle.sched_core.specs.Questions.{Memory, memoryQuestions, buildLent}
+use Rattle.sched_core.specs.Replies.{Numbered, tagsIn}
 use Rattle.sched_core.specs.Calls.{BuildOutcome, notBuilt, current, buildsNow, builtNow, blockBuilt, buildCall}
 use Rattle.questions.proofs.AskLaws.{AllYes, ask-elim}
 
@@ -54,13 +54,13 @@ module _ (m : Memory) (block : List ℕ) (four : length (m .station .queued) ≡
       let xs = mergedQueue ns (m .records) (m .store) t in
       omega (arith, sent-tags cellSdu blockWidth (inOrder xs), order-length xs, merged-most ns (m .records) (m .store) t inside places size (said .1 .1 .1 .0))
 
-  pub few-tags : length (buildCall m block .tags) ≤ perTimeslot
+  pub few-tags : length (tagsIn (buildCall m block .reply)) ≤ perTimeslot
   unfolding buildCall
   few-tags =
-      ask-elim (λ (o : BuildOutcome). length (o .tags) ≤ perTimeslot) (memoryQuestions m (buildLent block)) _ _ (λ r. omega arith)
+      ask-elim (λ (o : BuildOutcome). length (tagsIn (o .reply)) ≤ perTimeslot) (memoryQuestions m (buildLent block)) _ _ (λ r. omega arith)
       (λ said. go said (buildsNow (m .station)))
     where
       go : AllYes (memoryQuestions m (buildLent block)) → (b : Bool)
-          → length (cond b (blockBuilt m (current (m .station)) (builtNow m)) (notBuilt BuildReply.NoBlock m block) .tags) ≤ perTimeslot
+          → length (tagsIn (cond b (blockBuilt m (current (m .station)) (builtNow m)) (notBuilt Numbered.noBlock m block) .reply)) ≤ perTimeslot
       go said true = built-tags said
       go said false = omega arith

@@ -10,11 +10,9 @@ use Rattle.tdma_time.specs.declared.TdmaTime.{TdmaTime}
 use Rattle.uplink.specs.UplinkEntry.{markerOrZero}
 use Rattle.bitbuffer.specs.Bits.{written, part}
 use Rattle.dl_record.specs.Record.{emptyHeader}
-use Rattle.sched_core.specs.declared.RequestReply.{RequestReply}
-use Rattle.sched_core.specs.declared.BuildReply.{BuildReply}
-use Rattle.questions.specs.Questions.{refusalNumber}
 use Rattle.sched_core.specs.Questions.{Memory}
-use Rattle.sched_core.specs.Calls.{Outcome, outcome, replyNumber, newCall, newMemory, advanceMemory, requestCall, tmaCall, buildCall}
+use Rattle.sched_core.specs.Replies.{Numbered, replyNumber}
+use Rattle.sched_core.specs.Calls.{newCall, newMemory, advanceMemory, requestCall, tmaCall, buildCall}
 use Rattle.sched_core.specs.Invariant.{isDone}
 use Rattle.interpreter.specs.declared.Command.{Command}
 use Rattle.interpreter.specs.Text.{number, numbers, hex, line}
@@ -81,29 +79,42 @@ fourOctets ops i = 65536 * twoOctets ops i + twoOctets ops (i + 2)
 
 -- ---- what a command does and prints
 
--- "54 new (h 2, m, f, t)"; "a 54 with a bad time prints 1". The outcome of a command is the line that it prints, and the memory after it.
+-- the line that a command prints, and the memory after it
+pub record Printed : Type 0 where
+  pub line : List ℕ
+  pub memory : Memory
+
+abbrev pub prints : List ℕ → Memory → Printed
+prints text m = record { line = text; memory = m }
+
+-- "54 new (h 2, m, f, t)"; "a 54 with a bad time prints 1"
 abbrev pub timeGiven : List ℕ → TdmaTime
 timeGiven ops = record { h = twoOctets ops 0; m = octet ops 2; f = octet ops 3; t = octet ops 4 }
 
-unfoldable pub newStep : Memory → List ℕ → Outcome (List ℕ)
+unfoldable pub newStep : Memory → List ℕ → Printed
 newStep m ops =
     let reply = newCall (timeGiven ops) .reply in
-    outcome (line 84 (number (replyNumber reply))) (cond (isDone reply) (newMemory (timeGiven ops)) m)
+    prints (line 84 (number (replyNumber reply))) (cond (isDone reply) (newMemory (timeGiven ops)) m)
 
 -- "41 advance"
-unfoldable pub advanceStep : Memory → Outcome (List ℕ)
-advanceStep m = let o = advanceMemory m in outcome (line 65 (number (replyNumber (o .reply)))) (o .memory)
+unfoldable pub advanceStep : Memory → Printed
+advanceStep m = let o = advanceMemory m in prints (line 65 (number (replyNumber (o .reply)))) (o .memory)
 
 -- "after a 0 only, for R capacity, delay, marker or 0"
-abbrev pub grantFields : RequestReply → List ℕ
-grantFields (RequestReply.Granted capacity delay marker) = number 0 ++ number capacity ++ number delay ++ number (markerOrZero marker)
-grantFields (RequestReply.Refused r) = number (refusalNumber r)
+abbrev pub grantFields : Numbered → List ℕ
+grantFields Numbered.done = number 0
+grantFields (Numbered.refused n) = number n
+grantFields (Numbered.granted capacity delay marker) = number 0 ++ number capacity ++ number delay ++ number (markerOrZero marker)
+grantFields (Numbered.block octets tags) = number 0
+grantFields Numbered.noBlock = number 0
+grantFields (Numbered.owned o) = number 0
+grantFields (Numbered.used n marker) = number 0
 
 -- "52 request (timeslot, code, address kind, number 4)"
-unfoldable pub requestStep : Memory → List ℕ → Outcome (List ℕ)
+unfoldable pub requestStep : Memory → List ℕ → Printed
 requestStep m ops =
     let o = requestCall m (octet ops 0) (octet ops 1) (octet ops 2) (fourOctets ops 3) in
-    outcome (line 82 (grantFields (o .reply))) (o .memory)
+    prints (line 82 (grantFields (o .reply))) (o .memory)
 
 -- "53 stage (index 0–7, 32 octets)"; "An index above 7 prints 7.": the stage after it, and its line
 unfoldable pub staged : List ℕ → List ℕ → List ℕ
@@ -113,20 +124,24 @@ unfoldable pub stageLine : List ℕ → List ℕ
 stageLine ops = line 83 (number (cond (leb (octet ops 0) 7) 0 7))
 
 -- "51 queue a record (timeslot, address kind, number 4, tag 2, bits 2, taken from stage; no other header part)"
-unfoldable pub queueStep : Memory → List ℕ → List ℕ → Outcome (List ℕ)
+unfoldable pub queueStep : Memory → List ℕ → List ℕ → Printed
 queueStep m stage ops =
     let o = tmaCall m (octet ops 0) (octet ops 1) (fourOctets ops 2) (OptU16.Of (twoOctets ops 6)) emptyHeader (twoOctets ops 8) stage in
-    outcome (line 81 (number (replyNumber (o .reply)))) (o .memory)
+    prints (line 81 (number (replyNumber (o .reply)))) (o .memory)
 
 -- "for B the block or -, then tags in decimal"
-abbrev pub blockFields : BuildReply → List ℕ → List ℕ → List ℕ
-blockFields BuildReply.Built block tags = number 0 ++ 32 ∷ hex block ++ numbers tags
-blockFields BuildReply.NoBlock block tags = number 0 ++ 32 ∷ 45 ∷ []
-blockFields (BuildReply.Refused r) block tags = number (refusalNumber r)
+abbrev pub blockFields : Numbered → List ℕ
+blockFields Numbered.done = number 0
+blockFields (Numbered.refused n) = number n
+blockFields (Numbered.granted capacity delay marker) = number 0
+blockFields (Numbered.block octets tags) = number 0 ++ 32 ∷ hex octets ++ numbers tags
+blockFields Numbered.noBlock = number 0 ++ 32 ∷ 45 ∷ []
+blockFields (Numbered.owned o) = number 0
+blockFields (Numbered.used n marker) = number 0
 
 -- "42 build", into a block of zeros
-unfoldable pub buildStep : Memory → Outcome (List ℕ)
-buildStep m = let o = buildCall m (replicate blockOctets 0) in outcome (line 66 (blockFields (o .reply) (o .block) (o .tags))) (o .memory)
+unfoldable pub buildStep : Memory → Printed
+buildStep m = let o = buildCall m (replicate blockOctets 0) in prints (line 66 (blockFields (o .reply))) (o .memory)
 
 -- what a command comes to: the session after it, and the line that it prints
 pub record Step : Type 0 where
@@ -134,8 +149,8 @@ pub record Step : Type 0 where
   pub line : List ℕ
 
 -- of a command that leaves the stage
-abbrev pub stageKept : Session → Outcome (List ℕ) → Step
-stageKept s o = record { session = session (o .memory) (s .stage); line = o .reply }
+abbrev pub stageKept : Session → Printed → Step
+stageKept s o = record { session = session (o .memory) (s .stage); line = o .line }
 
 unfoldable pub step : Session → Command → List ℕ → Step
 step s Command.New ops = stageKept s (newStep (s .memory) ops)

@@ -2,24 +2,25 @@
 use mathlib.Core.Path.{_≡_}
 use mathlib.Core.List.{List}
 use Prim.Native.Nat.{ℕ, _*_, _≤_}
-use lib.ListN.{length, drop}
+use lib.ListN.{length, take, drop}
 use Rattle.bitbuffer.specs.Bits.{Wrote}
 use Rattle.sizes.specs.Sizes.{perTimeslot}
 use Rattle.dl_record.specs.declared.Record.{Record}
 use Rattle.dl_send.specs.Arrays.{tagRow}
 use Rattle.sched_core.specs.declared.Station.{Station}
 use Rattle.sched_core.specs.Questions.{memory}
-use Rattle.sched_core.specs.Calls.{Outcome, BuildOutcome}
+use Rattle.sched_core.specs.Replies.{tagsIn, buildReply}
+use Rattle.sched_core.specs.Calls.{BuildOutcome}
 use Rattle.interpreter.specs.declared.calls.BuildDone.{BuildDone}
 use Rattle.interpreter.specs.declared.Executed.{Executed}
 use Rattle.interpreter.specs.declared.Advanced.{Advanced}
 use Rattle.interpreter.specs.declared.RunAnswer.{RunAnswer}
-use Rattle.interpreter.specs.Slotrun.{session, Step, Ran, advanceStep}
+use Rattle.interpreter.specs.Slotrun.{Printed, session, Step, Ran, advanceStep}
 
 -- the line of a command is at the front of `out`, as `out'`, and the memory is that of its outcome
-pub record Executes (o : Outcome (List ℕ)) (r : Executed) (store' out out' : List ℕ) : Type 0 where
+pub record Executes (o : Printed) (r : Executed) (store' out out' : List ℕ) : Type 0 where
   pub memory-after : memory (r .station) (r .queue) store' ≡ o .memory
-  pub line : Wrote out 0 out' (r .count) (o .reply)
+  pub line : Wrote out 0 out' (r .count) (o .line)
   pub most : r .count ≤ 173
 
 -- an advance leaves any queue and any store
@@ -44,13 +45,8 @@ pub record Runs (x : Ran) (r : RunAnswer) (input store' stage' out out' : List �
 
 -- what a build by value answers and leaves: sixteen tags, zeros behind those that come back, and the caller's buffers
 pub record BuildAnswered (o : BuildOutcome) (a : BuildDone) (store' block' : List ℕ) : Type 0 where
-  pub answer : a
-      ≡ record {
-        reply = o .reply;
-        tags = tagRow perTimeslot (o .tags);
-        «tag_count» = length (o .tags);
-        station = o .memory .station;
-        records = o .memory .records;
-      }
-  pub store : store' ≡ o .memory .store
+  pub reply : buildReply (a .reply) block' (take (a .«tag_count») (a .tags)) ≡ o .reply
+  pub tags : a .tags ≡ tagRow perTimeslot (tagsIn (o .reply))
+  pub tag-count : a .«tag_count» ≡ length (tagsIn (o .reply))
+  pub memory-after : memory (a .station) (a .records) store' ≡ o .memory
   pub block : block' ≡ o .block

@@ -13,6 +13,7 @@ ghost use mathlib.Core.Path.{_≡_};
 ghost use Rattle.dl_record.specs.Record.{emptyHeader};
 ghost use Rattle.optional.specs.declared.OptU16.{OptU16};
 ghost use Rattle.sched_core.specs.Questions.{memory};
+ghost use Rattle.sched_core.specs.Replies.{queueReply, requestReply};
 ghost use Rattle.sched_core.specs.Calls.{outcome, requestCall, ackCall, tmaCall, buildCall};
 ghost use Rattle.interpreter.specs.Steps.{BuildAnswered};
 
@@ -103,7 +104,7 @@ pub fn request(
     kind: u8,
     number: u32,
 ) -> RequestLeft
-    ensures { λ r. ⌜ outcome (r .reply) (memory (r .station) (r .records) (now (store .entry)))
+    ensures { λ r. ⌜ outcome (requestReply (r .reply)) (memory (r .station) (r .records) (now (store .entry)))
         ≡ requestCall (memory s records (now (store .entry))) timeslot code kind number ⌝ }
 {
     let mut queue = records;
@@ -120,7 +121,7 @@ pub fn queue_ack(
     kind: u8,
     number: u32,
 ) -> QueueLeft
-    ensures { λ r. ⌜ outcome (r .reply) (memory (r .station) (r .records) (now (store .entry)))
+    ensures { λ r. ⌜ outcome (queueReply (r .reply)) (memory (r .station) (r .records) (now (store .entry)))
         ≡ ackCall (memory s records (now (store .entry))) timeslot kind number ⌝ }
 {
     let mut queue = records;
@@ -140,7 +141,7 @@ pub fn queue_record(
     bits: u16,
     sdu: &[u8],
 ) -> QueueLeft
-    ensures { λ r. ⌜ outcome (r .reply) (memory (r .station) (r .records) (now (store .exit)))
+    ensures { λ r. ⌜ outcome (queueReply (r .reply)) (memory (r .station) (r .records) (now (store .exit)))
         ≡ tmaCall (memory s records (now (store .entry))) timeslot kind number (OptU16.Of tag) emptyHeader bits (now (sdu .entry)) ⌝ }
 {
     let mut queue = records;

@@ -9,7 +9,7 @@ ghost use Prim.Native.Nat.{_+_, _*_, _^_, _<_, _≤_};
 ghost use lib.ListN.{length, drop};
 ghost use Rattle.sizes.specs.Sizes.{storeOctets};
 ghost use Rattle.questions.specs.Questions.{refusalNumber};
-ghost use Rattle.sched_core.specs.Calls.{replyNumber};
+ghost use Rattle.sched_core.specs.Replies.{replyNumber, queueReply};
 ghost use Rattle.sched_core.specs.Questions.{memory};
 ghost use Rattle.interpreter.specs.declared.Command.{Command};
 ghost use Rattle.interpreter.specs.Slotrun.{stageOctets, commandOf, isKnown, operandCount, twoOctets, fourOctets, session, isWhole, commands};
@@ -136,7 +136,7 @@ pub fn refusal_number(r: Refusal) -> u16
 
 // The number of a reply: 0 done.
 pub fn reply_number(r: Reply) -> u16
-    ensures { λ n. ⌜ n ≡ replyNumber r ⌝ }
+    ensures { λ n. ⌜ n ≡ replyNumber (queueReply r) ⌝ }
 {
     match r {
         Reply::Done => 0,

@@ -14,6 +14,7 @@ ghost use lib.ListN.{length, take};
 ghost use Rattle.sizes.specs.Sizes.{perTimeslot, storeOctets, blockOctets};
 ghost use Rattle.bitbuffer.specs.Bits.{Wrote};
 ghost use Rattle.sched_core.specs.Questions.{memory};
+ghost use Rattle.sched_core.specs.Replies.{queueReply, requestReply, buildReply};
 ghost use Rattle.sched_core.specs.Invariant.{isDone};
 ghost use Rattle.interpreter.specs.Text.{line};
 ghost use Rattle.interpreter.specs.Slotrun.{stageOctets, operandCount, grantFields, blockFields, session, step};
@@ -21,7 +22,7 @@ ghost use Rattle.interpreter.specs.Slotrun.{newStep, requestStep, staged
 ghost use Rattle.interpreter.specs.Steps.{Executes, Advances, Steps};
 
 fn is_done(r: Reply) -> bool
-    ensures { λ b. ⌜ b ≡ isDone r ⌝ }
+    ensures { λ b. ⌜ b ≡ isDone (queueReply r) ⌝ }
 {
     match r {
         Reply::Done => true,
@@ -89,7 +90,7 @@ pub fn advance_step(station: Station, out: &mut [u8]) -> Advanced
 // The line of a request.
 fn put_request(out: &mut [u8], reply: RequestReply) -> usize
     requires { ⌜ 173 ≤ length (now out) ⌝ }
-    ensures { λ r. ⌜ (r ≤ 173) × Wrote (now (out .entry)) 0 (now (out .exit)) r (line 82 (grantFields reply)) ⌝ }
+    ensures { λ r. ⌜ (r ≤ 173) × Wrote (now (out .entry)) 0 (now (out .exit)) r (line 82 (grantFields (requestReply reply))) ⌝ }
 {
     match reply {
         RequestReply::Granted {
@@ -193,7 +194,8 @@ fn put_build(
     count: usize,
 ) -> usize
     requires { ⌜ (173 ≤ length (now out)) × (length (now block) ≡ blockOctets) × (count ≤ perTimeslot) ⌝ }
-    ensures { λ r. ⌜ (r ≤ 173) × Wrote (now (out .entry)) 0 (now (out .exit)) r (line 66 (blockFields reply (now (block .entry)) (take count tags))) ⌝ }
+    ensures { λ r. ⌜ (r ≤ 173)
+        × Wrote (now (out .entry)) 0 (now (out .exit)) r (line 66 (blockFields (buildReply reply (now (block .entry)) (take count tags)))) ⌝ }
 {
     match reply {
         BuildReply::Built => crate::text::put_block(out, block, tags, count),

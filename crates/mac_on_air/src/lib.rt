@@ -137,7 +137,7 @@ fn marker_of(a: Address) -> OptU8
 }
 
 // A header of the air as a caller offers it.
-fn offered(r: ResourceHeader) -> MacResource
+pub fn offered(r: ResourceHeader) -> MacResource
     ensures { λ h. ⌜ h ≡ offered r ⌝ }
 {
     let address = r.address;

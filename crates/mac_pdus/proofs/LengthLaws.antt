@@ -130,6 +130,30 @@ opt-chan-alloc-bounds : (a : OptChanAlloc) → (1 ≤ optChanAllocLength a) × (
 opt-chan-alloc-bounds OptChanAlloc.Absent = (omega arith, omega arith)
 opt-chan-alloc-bounds (OptChanAlloc.Of c) = let h = frame18-bounds (c .«frame18_mon_pattern») in (omega arith, omega arith)
 
+address-most : (a : Address) → addressLength a ≤ 37
+address-most Null = omega arith
+address-most (Ssi a) = omega arith
+address-most (EventLabel e) = omega arith
+address-most (Ussi a) = omega arith
+address-most (Smi a) = omega arith
+address-most (SsiEventLabel a e) = omega arith
+address-most (SsiUsageMarker a m) = omega arith
+address-most (SmiEventLabel a e) = omega arith
+
+if-zero-most : (n x : ℕ) → ifZero n 0 x ≤ x
+if-zero-most zero x = omega arith
+if-zero-most (suc n) x = omega arith
+
+-- no header has more than 92 bits
+pub header-most : (r : ResourceHeader) → headerLength r ≤ 92
+unfolding headerLength
+header-most r =
+    let n = optLength 4 (r .«power_control_element») + optLength 8 (r .«slot_granting_element») + optChanAllocLength (r .«chan_alloc_element») in
+    let a = opt-bounds 4 (r .«power_control_element») in
+    let b = opt-bounds 8 (r .«slot_granting_element») in
+    let d = opt-chan-alloc-bounds (r .«chan_alloc_element») in
+    omega (arith, address-most (r .address), if-zero-most (addressType (r .address)) n)
+
 -- the address of a queued record: SSI, with a marker or without
 pub data Queued : Address → Type 0 where
   ssi : {a : ℕ} → Queued (Ssi a)

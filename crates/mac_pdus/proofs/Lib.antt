@@ -3,6 +3,7 @@ pub mod LengthLaws
 pub mod ShortHeaders
 pub mod ReadLaws
 pub mod NextLaws
+pub mod Found
 pub mod RoundTrip
 pub mod LegalLaws
 pub mod QueuedLaws

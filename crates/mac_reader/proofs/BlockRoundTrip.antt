@@ -69,18 +69,17 @@ low-bits : (x : ℕ) → drop 4 (bitsOf (x ∷ [])) ≡ valueBits 4 x
 unfolding bitsOf valueBits
 low-bits x = refl
 
-nothing : bitsValue (replicate 4 0) ≡ 0
+pub nothing : bitsValue (replicate 4 0) ≡ 0
 unfolding bitsValue
 nothing = refl
 
+pub last-bits : (s : List ℕ) (o : ℕ) → length s ≡ suc o → drop (8 * o + 4) (bitsOf s) ≡ valueBits 4 (getD s o 0)
+last-bits s o n = sym (drop-drop 4 (8 * o) (bitsOf s)) ∙ ap (drop 4) (drop-bitsOf o s ∙ ap bitsOf (last-octet s o n)) ∙ low-bits (getD s o 0)
+
 four-zeros : (s f : List ℕ) (k o : ℕ) → length s ≡ suc o → length f ≤ 8 * o + 4 → bitsOf s ≡ f ++ replicate k 0 → getD s o 0 % 16 ≡ 0
 four-zeros s f k o n h e =
-    sym (value-valueBits 4 (getD s o 0)) ∙ ap bitsValue (sym front ∙ back) ∙ nothing
+    sym (value-valueBits 4 (getD s o 0)) ∙ ap bitsValue (sym (last-bits s o n) ∙ back) ∙ nothing
   where
-    front : drop (8 * o + 4) (bitsOf s) ≡ valueBits 4 (getD s o 0)
-    front =
-        sym (drop-drop 4 (8 * o) (bitsOf s)) ∙ ap (drop 4) (drop-bitsOf o s ∙ ap bitsOf (last-octet s o n)) ∙ low-bits (getD s o 0)
-
     size : length f + k ≡ 8 * o + 8
     size =
         let a : length (f ++ replicate k 0) ≡ length f + k = length-append f (replicate k 0) ∙ ap (λ (x : ℕ). length f + x) (length-replicate k 0) in
@@ -97,7 +96,7 @@ four-zeros s f k o n h e =
         ap (drop (8 * o + 4)) e ∙ ap (λ (m : ℕ). drop m (f ++ replicate k 0)) here ∙ drop-append-add f (replicate k 0) (8 * o + 4 - length f)
         ∙ drop-replicate (8 * o + 4 - length f) k 0 ∙ ap (λ (m : ℕ). replicate m 0) left
 
-bitsOf-append : (s t : List ℕ) → bitsOf (s ++ t) ≡ bitsOf s ++ bitsOf t
+pub bitsOf-append : (s t : List ℕ) → bitsOf (s ++ t) ≡ bitsOf s ++ bitsOf t
 unfolding bitsOf
 bitsOf-append [] t = refl
 bitsOf-append (x ∷ s) t = rw (append-assoc, bitsOf-append s t)

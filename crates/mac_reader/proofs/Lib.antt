@@ -4,3 +4,7 @@ pub mod Replies
 pub mod ListRoundTrip
 pub mod BlockRoundTrip
 pub mod Cases
+pub mod ReadStands
+pub mod StandsRead
+pub mod TakenExactly
+pub mod SingleHeader

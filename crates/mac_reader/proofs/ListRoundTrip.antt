@@ -1,14 +1,13 @@
 -- The headers of a block that was built are the headers that are read. Assumes nothing.
 use mathlib.Core.Path.{_≡_, refl, sym, ap, _∙_}
-use mathlib.Core.Bool.{Bool, true, false, cond, or-true}
+use mathlib.Core.Bool.{true, or-true}
 use mathlib.Core.Logic.{_⊎_, ⊎-elim}
 use mathlib.Core.List.{List, [], _∷_, _++_, append-assoc}
 use Prim.Native.Nat.{ℕ, zero, suc, _+_, _*_, _/_, _≤_, _<_}
 use native.Mathlib.Omega.{arith}
 use lib.ListN.{length, drop, length-append, length-drop}
 use lib.Seq.{drop-at, drop-drop}
-use lib.Dec.{ltb}
-use borrow.Author.Tests.{ltb-false, le-leb, eq-eqb, ne-eqb}
+use borrow.Author.Tests.{le-leb, eq-eqb, ne-eqb}
 use Rattle.bitbuffer.proofs.Laws.{field-back}
 use Rattle.mac_pdus.specs.declared.ResourceHeader.{ResourceHeader}
 use Rattle.mac_pdus.specs.Headers.{addressType, fixedBits, resourceBits, fragBits, endBits, headerBits, nullHeader}
@@ -24,7 +23,7 @@ use Rattle.mac_pdus.specs.Legal.{withinWidths, allAbsent, legalParts, legalFiel
 use Rattle.mac_pdus.proofs.LegalLaws.{taken-within}
 use Rattle.mac_reader.specs.Reader.{octetsInside, headerEnd, startsFragment, wellPlaced, resourceStep, endStep, endAt, fragmentAt, pduAt, headers, before}
 use Rattle.mac_reader.specs.Reader.{readPdus}
-use Rattle.mac_reader.proofs.Steps.{at-end, last-read, more-read}
+use Rattle.mac_reader.proofs.Steps.{limit-end, limit-block, at-end, last-read, more-read}
 use Rattle.mac_reader.specs.PduList.{Pdu, whole, first, frag, final, null, header, body, pduBits, blockBits, placed, WholeFits, FirstFits, FragFits}
 use Rattle.mac_reader.specs.PduList.{FinalFits, Fits}
 
@@ -35,7 +34,7 @@ after-is : (l f rest : List ℕ) (at after : ℕ) → drop at l ≡ f ++ rest �
 after-is l f rest at after e d h =
     omega (arith, simp (length-append, length-drop) at (ap length e), simp length-drop at (ap length d))
 
-resource-pdu : (r : ResourceHeader) (w at : ℕ) (l rest : List ℕ) → ResourceWithin r → drop at l ≡ resourceBits r ++ rest → 0 < length rest
+pub resource-pdu : (r : ResourceHeader) (w at : ℕ) (l rest : List ℕ) → ResourceWithin r → drop at l ≡ resourceBits r ++ rest → 0 < length rest
     → pduAt w l at ≡ resourceStep w at r (at + length (resourceBits r))
 unfolding pduAt resourceBits fixedBits
 resource-pdu r w at l rest h e some =
@@ -43,7 +42,7 @@ resource-pdu r w at l rest h e some =
     resource-back {X = PduStep} r h l at rest _ (λ x. x ≡ resourceStep w at r (at + length (resourceBits r))) e λ after d.
     ap (resourceStep w at r) (after-is l (resourceBits r) rest at after e d some)
 
-frag-pdu : (f : MacFragDl) (w at : ℕ) (l rest : List ℕ) → f .«fill_bits» < 2 → drop at l ≡ fragBits f ++ rest → pduAt w l at ≡ Last (PduHeader.Frag f)
+pub frag-pdu : (f : MacFragDl) (w at : ℕ) (l rest : List ℕ) → f .«fill_bits» < 2 → drop at l ≡ fragBits f ++ rest → pduAt w l at ≡ Last (PduHeader.Frag f)
 unfolding pduAt fragBits fragmentAt
 frag-pdu f w at l rest h e =
     let P : PduStep → Type 0 = λ x. x ≡ Last (PduHeader.Frag f) in
@@ -51,7 +50,7 @@ frag-pdu f w at l rest h e =
     field-back {X = PduStep} 1 0 (omega arith) l a₁ _ _ P e₁ λ a₂ e₂.
     field-back {X = PduStep} 1 (f .«fill_bits») h l a₂ _ _ P e₂ λ a₃ e₃. refl
 
-final-pdu : (m : MacEndDl) (w at : ℕ) (l rest : List ℕ) → EndWithin m → drop at l ≡ endBits m ++ rest → pduAt w l at ≡ endStep w at m 0 0
+pub final-pdu : (m : MacEndDl) (w at : ℕ) (l rest : List ℕ) → EndWithin m → drop at l ≡ endBits m ++ rest → pduAt w l at ≡ endStep w at m 0 0
 unfolding pduAt endBits fragmentAt endAt
 final-pdu m w at l rest h e =
     let P : PduStep → Type 0 = λ x. x ≡ endStep w at m 0 0 in
@@ -65,19 +64,15 @@ final-pdu m w at l rest h e =
 
 -- ---- what is asked of it
 
-octets-pass : (w at len : ℕ) → 2 ≤ len → len ≤ 34 → at + 8 * len ≤ w → octetsInside w at len ≡ true
+pub octets-pass : (w at len : ℕ) → 2 ≤ len → len ≤ 34 → at + 8 * len ≤ w → octetsInside w at len ≡ true
 unfolding octetsInside
 octets-pass w at len a b c = rw (le-leb 2 len a, le-leb len 34 b, le-leb (at + 8 * len) w c)
 
 header-inside : (w at head len size : ℕ) → head ≤ size → at + size ≤ w → len ≡ size / 8 → (size ≡ 8 * len) ⊎ (at + size ≡ w) → at + head ≤ headerEnd w
     (at + 8 * len)
-header-inside w at head len size k i d e = go (ltb w (at + 8 * len + 8)) refl
-  where
-    go : (b : Bool) → ltb w (at + 8 * len + 8) ≡ b → at + head ≤ cond b w (at + 8 * len)
-    go true q = omega arith
-    go false q =
-        let q' : at + 8 * len + 8 ≤ w = ltb-false w (at + 8 * len + 8) q in
-        ⊎-elim (λ x. omega arith) (λ x. omega arith) e
+header-inside w at head len size k i d e =
+    ⊎-elim (λ x. let least = limit-end w (at + 8 * len) (omega arith) in omega arith)
+    (λ x. let all = limit-block w (at + 8 * len) (omega arith) in omega arith) e
 
 whole-placed : (w at head size : ℕ) (r : ResourceHeader) → WholeFits w at r size → head ≤ size → wellPlaced w at r (at + head) ≡ true
 unfolding wellPlaced
@@ -117,17 +112,10 @@ null-taken : writerTakes nullHeader ≡ true
 unfolding writerTakes offered legalToWrite legalFields withinWidths legalParts allAbsent
 null-taken = refl
 
-null-inside : (w at : ℕ) → at + 16 ≤ w → at + 16 ≤ headerEnd w (at + 16)
-null-inside w at h = go (ltb w (at + 16 + 8))
-  where
-    go : (b : Bool) → at + 16 ≤ cond b w (at + 16)
-    go true = h
-    go false = omega arith
-
 null-step : (w at : ℕ) → at + 16 ≤ w → resourceStep w at nullHeader (at + 16) ≡ Last (PduHeader.Resource nullHeader)
 unfolding resourceStep wellPlaced addressType
 null-step w at h =
-    rw (null-taken, le-leb (at + 16) w h, octets-pass w at 2 (omega arith) (omega arith) h, le-leb (at + 16) (headerEnd w (at + 16)) (null-inside w at h))
+    rw (null-taken, le-leb (at + 16) w h, octets-pass w at 2 (omega arith) (omega arith) h, le-leb (at + 16) (headerEnd w (at + 16)) (limit-end w (at + 16) h))
 
 final-step : (w at : ℕ) (m : MacEndDl) (size : ℕ) → FinalFits w at m size → endStep w at m 0 0 ≡ More (PduHeader.End m) (at + 8 * m .«length_ind»)
 unfolding endStep

@@ -10,7 +10,6 @@ use lib.ListN.{length, getD, take, drop, set, replicate, length-append}
 use lib.Seq.{append-snoc, set-at, take-all, paste-suc}
 use lib.Dec.{ltb, leb, eqb}
 use Rattle.sizes.specs.Sizes.{blockWidth, blockOctets}
-use Rattle.questions.specs.declared.Refusal.{Refusal}
 use Rattle.bitbuffer.specs.Bits.{bitsValue, part, field}
 use Rattle.mac_pdus.specs.declared.ResourceHeader.{ResourceHeader}
 use Rattle.mac_pdus.specs.Headers.{ifZero, addressType}
@@ -19,14 +18,13 @@ use Rattle.mac_pdus.specs.declared.PduHeader.{PduHeader}
 use Rattle.mac_reader.specs.declared.PduStep.{PduStep}
 use Rattle.mac_reader.specs.declared.PduStep.the-variants.{Malformed, Last, More}
 use Rattle.mac_reader.specs.declared.PlacedHeader.{PlacedHeader}
-use Rattle.mac_reader.specs.declared.BlockHeaders.{BlockHeaders}
 use Rattle.mac_pdus.specs.declared.MacEndDl.{MacEndDl}
 use Rattle.mac_pdus.specs.Legal.{writerTakes}
 use Rattle.mac_pdus.proofs.Conjunctions.{and2, and3}
 use Rattle.mac_reader.specs.Reader.{octetsInside, headerEnd, startsFragment, stopsAfter, wellPlaced, resourceStep, endStep, endAt, fragmentAt, ofType}
-use Rattle.mac_reader.specs.Reader.{pduAt, Listing, refused, headers, before, onStep, readPdus, noHeader, noHeaders, replyOf, mostPdus}
-use Rattle.mac_reader.specs.declared.ReadOutcome.{ReadOutcome}
-use Rattle.mac_reader.proofs.Steps.{at-end, last-read, more-read, refused-read, none-left, Octets, octets-true, or-false, neither}
+use Rattle.mac_reader.specs.Reader.{pduAt, Listing, refused, headers, before, onStep, readPdus, reading, noHeader, noHeaders, replyOf, mostPdus}
+use Rattle.mac_reader.specs.Stands.{Octets}
+use Rattle.mac_reader.proofs.Steps.{at-end, last-read, more-read, refused-read, none-left, octets-true, or-false, neither}
 
 -- ---- a PDU that is not the last ends 16 bits or more behind its start, and inside the block
 
@@ -114,24 +112,24 @@ got-start w l = record { ds = []; size = refl; holds = refl; few = omega arith; 
 
 -- the reply, once all is read
 reply : (ds pdus : List PlacedHeader) (n : ℕ) → length ds ≡ n → pdus ≡ ds ++ replicate (mostPdus - n) noHeader
-    → _≡_ {A = BlockHeaders} (record { outcome = ReadOutcome.Listed; count = n; headers = pdus }) (replyOf (headers ds))
+    → reading 0 n pdus ≡ replyOf (headers ds)
 reply ds pdus n s h = rw (h, ← s)
 
 module _ (w : ℕ) (l : List ℕ) (pdus : List PlacedHeader) (n at : ℕ) (g : Got w l pdus n at) where
   less : n < mostPdus → mostPdus - n ≡ suc (mostPdus - (n + 1))
   less h = omega arith
 
-  pub got-end : w < at + 16 → _≡_ {A = BlockHeaders} (record { outcome = ReadOutcome.Listed; count = n; headers = pdus }) (replyOf (readPdus mostPdus w l 0))
+  pub got-end : w < at + 16 → reading 0 n pdus ≡ replyOf (readPdus mostPdus w l 0)
   got-end h =
       reply (g .ds) pdus n (g .size) (g .holds)
       ∙ ap replyOf (ap headers (sym (append-nil (g .ds))) ∙ ap (listedAfter (g .ds)) (sym (at-end (mostPdus - n) w l at h)) ∙ sym (g .left))
 
-  pub got-full : mostPdus ≤ n → _≡_ {A = BlockHeaders} (record { outcome = ReadOutcome.Listed; count = n; headers = pdus }) (replyOf (readPdus mostPdus w l 0))
+  pub got-full : mostPdus ≤ n → reading 0 n pdus ≡ replyOf (readPdus mostPdus w l 0)
   got-full h =
       reply (g .ds) pdus n (g .size) (g .holds)
       ∙ ap replyOf (ap headers (sym (append-nil (g .ds))) ∙ ap (listedAfter (g .ds)) (sym (none-left (mostPdus - n) w l at (omega arith))) ∙ sym (g .left))
 
-  pub got-refused : n < mostPdus → at + 16 ≤ w → pduAt w l at ≡ Malformed → noHeaders Refusal.Malformed ≡ replyOf (readPdus mostPdus w l 0)
+  pub got-refused : n < mostPdus → at + 16 ≤ w → pduAt w l at ≡ Malformed → noHeaders 12 ≡ replyOf (readPdus mostPdus w l 0)
   got-refused k h e =
       ap replyOf (ap (listedAfter (g .ds)) (sym (ap (λ (m : ℕ). readPdus m w l at) (less k) ∙ refused-read (mostPdus - (n + 1)) w l at h e)) ∙ sym (g .left))
 
@@ -146,7 +144,7 @@ module _ (w : ℕ) (l : List ℕ) (pdus : List PlacedHeader) (n at : ℕ) (g : G
   counted p = length-append (g .ds) (p ∷ []) ∙ ap (λ (m : ℕ). m + 1) (g .size)
 
   pub got-last : (h : PduHeader) → n < mostPdus → at + 16 ≤ w → pduAt w l at ≡ Last h
-      → _≡_ {A = BlockHeaders} (record { outcome = ReadOutcome.Listed; count = n + 1; headers = set pdus n (record { at = at; header = h }) })
+      → reading 0 (n + 1) (set pdus n (record { at = at; header = h })) ≡
       (replyOf (readPdus mostPdus w l 0))
   got-last h k i e =
       let p : PlacedHeader = record { at = at; header = h } in

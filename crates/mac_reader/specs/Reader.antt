@@ -1,12 +1,10 @@
 -- What the block reader lists and refuses (document 01, section "Block" and questions 2 and 12). Assumes nothing.
-use mathlib.Core.Path.{_≡_}
 use mathlib.Core.Bool.{Bool, true, false, cond, not, _&&_, _||_}
 use Prim.Native.Nat.{ℕ, zero, suc, _+_, _-_, _*_, _%_}
 use mathlib.Core.List.{List, [], _∷_, _++_}
 use lib.ListN.{length, getD, replicate}
 use lib.Dec.{ltb, leb, eqb}
-use Rattle.questions.specs.declared.Refusal.{Refusal}
-use Rattle.questions.specs.Questions.{Question, question, refusalNumber, ask, askedNumber}
+use Rattle.questions.specs.Questions.{Question, question, refusalNumber, ask}
 use Rattle.bitbuffer.specs.Bits.{bitsOf, field}
 use Rattle.mac_pdus.specs.declared.ResourceHeader.{ResourceHeader}
 use Rattle.mac_pdus.specs.declared.MacEndDl.{MacEndDl}
@@ -107,22 +105,34 @@ blockPdus o s = readPdus mostPdus (8 * o - 4) (bitsOf (s ++ replicate 14 0)) 0
 
 -- ---- the reply
 
--- "number (0 done)"
+-- by document 01's number, "(0 done)", with the headers, `count` of them
+pub record Reading : Type 0 where
+  pub number : ℕ
+  pub count : ℕ
+  pub headers : List PlacedHeader
+
+abbrev pub reading : ℕ → ℕ → List PlacedHeader → Reading
+reading n count ps = record { number = n; count = count; headers = ps }
+
+-- "When an answer is an enum, a definition gives this paper's number and values for each of its cases."
 abbrev pub outcomeNumber : ReadOutcome → ℕ
 outcomeNumber ReadOutcome.Listed = 0
 outcomeNumber (ReadOutcome.Refused r) = refusalNumber r
+
+abbrev pub readingOf : BlockHeaders → Reading
+readingOf b = reading (outcomeNumber (b .outcome)) (b .count) (b .headers)
 
 -- what fills the list behind its last header
 abbrev pub noHeader : PlacedHeader
 noHeader = record { at = 0; header = PduHeader.Frag (record { «fill_bits» = 0 }) }
 
 -- "On a no, the number is the whole reply"
-abbrev pub noHeaders : Refusal → BlockHeaders
-noHeaders r = record { outcome = ReadOutcome.Refused r; count = 0; headers = replicate mostPdus noHeader }
+abbrev pub noHeaders : ℕ → Reading
+noHeaders n = reading n 0 (replicate mostPdus noHeader)
 
-abbrev pub replyOf : Listing → BlockHeaders
-replyOf refused = noHeaders Refusal.Malformed
-replyOf (headers ps) = record { outcome = ReadOutcome.Listed; count = length ps; headers = ps ++ replicate (mostPdus - length ps) noHeader }
+abbrev pub replyOf : Listing → Reading
+replyOf refused = noHeaders 12
+replyOf (headers ps) = reading 0 (length ps) (ps ++ replicate (mostPdus - length ps) noHeader)
 
 -- "the block's last four bits zero"
 abbrev pub lastFourZero : ℕ → List ℕ → Bool
@@ -135,15 +145,10 @@ isList (headers ps) = true
 -- "2. Are the lent lengths those above?", and 12
 abbrev pub readQuestions : ℕ → List ℕ → List Question
 readQuestions o s =
-    question (eqb (length s) o) Refusal.Lengths
-    ∷ question (lastFourZero o s && isList (blockPdus o s)) Refusal.Malformed
+    question (eqb (length s) o) 2
+    ∷ question (lastFourZero o s && isList (blockPdus o s)) 12
     ∷ []
 
 -- the reader on a block of `o` octets: 34 of them make a full slot, 268 bits
-unfoldable pub readBlock : ℕ → List ℕ → BlockHeaders
+unfoldable pub readBlock : ℕ → List ℕ → Reading
 readBlock o s = ask (readQuestions o s) (replyOf (blockPdus o s)) noHeaders
-
--- the reader's promise: the number of its outcome, and its reply
-pub record ReadAs (o : ℕ) (s : List ℕ) (reply : BlockHeaders) : Type 0 where
-  pub number : outcomeNumber (reply .outcome) ≡ askedNumber (readQuestions o s)
-  pub replies : reply ≡ readBlock o s

@@ -4,9 +4,10 @@ ghost use Prim.Native.Nat.{_+_, _*_, _<_, _≤_, _^_};
 ghost use mathlib.Core.List.{_++_};
 ghost use lib.ListN.{length, replicate};
 ghost use Rattle.sizes.specs.Sizes.{blockOctets};
+ghost use Rattle.questions.specs.Questions.{refusalNumber};
 ghost use Rattle.bitbuffer.specs.Bits.{bitsOf};
 ghost use Rattle.mac_reader.specs.Reader.{octetsInside, headerEnd, startsFragment, stopsAfter, wellPlaced, resourceStep, endStep, endAt};
-ghost use Rattle.mac_reader.specs.Reader.{fragmentAt, pduAt, readPdus, mostPdus, noHeaders, replyOf, outcomeNumber, ReadAs};
+ghost use Rattle.mac_reader.specs.Reader.{fragmentAt, pduAt, readPdus, mostPdus, noHeaders, replyOf, outcomeNumber, readingOf, readBlock};
 use mac_pdus::MacEndDl;
 use mac_pdus::MacFragDl;
 use mac_pdus::PduHeader;
@@ -189,7 +190,7 @@ fn read_pdu(s: &[u8], w: usize, at: usize) -> PduStep
 
 // A refused reading.
 fn no_headers(refusal: Refusal) -> BlockHeaders
-    ensures { λ r. ⌜ r ≡ noHeaders refusal ⌝ }
+    ensures { λ r. ⌜ readingOf r ≡ noHeaders (refusalNumber refusal) ⌝ }
 {
     let none = PlacedHeader {
         at: 0,
@@ -206,7 +207,7 @@ fn no_headers(refusal: Refusal) -> BlockHeaders
 // Lists the headers of the PDUs in the first `w` bits, at most 16.
 fn read_list(s: &[u8], w: usize) -> BlockHeaders
     requires { ⌜ (w + 76 ≤ 8 * length (now s)) × (8 * length (now s) + 4096 < 2 ^ 64) ⌝ }
-    ensures { λ r. ⌜ r ≡ replyOf (readPdus mostPdus w (bitsOf (now (s .entry))) 0) ⌝ }
+    ensures { λ r. ⌜ readingOf r ≡ replyOf (readPdus mostPdus w (bitsOf (now (s .entry))) 0) ⌝ }
 {
     let none = PlacedHeader {
         at: 0,
@@ -266,7 +267,7 @@ fn padded(block: &[u8]) -> [u8; BLOCK_OCTETS + 14]
 
 // Reads a block: the headers of its PDUs with their bit positions, or a refusal.
 pub fn read_block(block: &[u8]) -> BlockHeaders
-    ensures { λ r. ⌜ ReadAs blockOctets (now (block .entry)) r ⌝ }
+    ensures { λ r. ⌜ readingOf r ≡ readBlock blockOctets (now (block .entry)) ⌝ }
 {
     if block.len() != BLOCK_OCTETS {
         return no_headers(Refusal::Lengths);

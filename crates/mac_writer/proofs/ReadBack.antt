@@ -29,13 +29,13 @@ pub record ReadsBack (t : List ℕ) (at : ℕ) (h : MacResource) (next : ℕ) : 
 
 pub written-reads-back : (s t : List ℕ) (at : ℕ) (h : MacResource) (next : ℕ) → WrittenAs s at h (WriteReply.Next next) t → ReadsBack t at h next
 written-reads-back s t at h next w =
-    let k = was-taken (length s) at h next (w .replies) in
+    let k = was-taken s at h next (w .replies) in
     let r = room-true (length s) at (headerLength (onAir h)) (k .room) in
     let n = header-size (onAir h) in
     let m = length-bitsOf s in
     record {
       header = λ {X} f.
-          ap (λ (l : List ℕ). resourceAt l at f) (w .bits)
+          ap (λ (l : List ℕ). resourceAt l at f) (w .bits ∙ k .bits)
           ∙ header-back (bitsOf s) at (onAir h) f (legal-within h (to-write h (k .legal) .fields)) (omega (arith, r .inside, n, m))
           ∙ ap (f (onAir h)) (sym (k .ends));
       same = offered-again h (k .legal);

@@ -1,15 +1,15 @@
 -- The header writer's reply, case by case. Assumes nothing.
 use mathlib.Core.Path.{_≡_, refl, sym, ap, _∙_, subst}
 use mathlib.Core.Bool.{Bool, true, false}
-use mathlib.Core.List.{List}
+use mathlib.Core.List.{List, [], _∷_}
 use Prim.Native.Nat.{ℕ, _+_, _-_, _*_, _/_, _%_, _^_, _<_, _≤_}
 use native.Mathlib.Omega.{arith}
-use lib.ListN.{length}
+use lib.ListN.{length, getD}
 use lib.Dec.{ltb, leb}
 use borrow.Author.Tests.{ltb-true, leb-true, leb-false, lt-ltb, le-ltb, le-leb, lt-leb}
 use Rattle.questions.specs.declared.Refusal.{Refusal}
-use Rattle.questions.specs.Questions.{askedNumber}
-use Rattle.questions.proofs.AskLaws.{first-no, every-yes, ask-map, ask-elim}
+use Rattle.questions.specs.Questions.{refusalNumber}
+use Rattle.questions.proofs.AskLaws.{FirstYes, nth, first-no, every-yes, ask-elim}
 use Rattle.bitbuffer.specs.Bits.{bitsOf, written, Wrote}
 use Rattle.mac_pdus.specs.declared.MacResource.{MacResource}
 use Rattle.mac_pdus.specs.declared.ResourceHeader.{ResourceHeader}
@@ -20,7 +20,7 @@ use Rattle.mac_pdus.specs.Legal.{legalToWrite, onAir}
 use Rattle.mac_pdus.proofs.Conjunctions.{and2}
 use Rattle.mac_pdus.proofs.LengthLaws.{header-size}
 use Rattle.mac_writer.specs.declared.WriteReply.{WriteReply}
-use Rattle.mac_writer.specs.Writer.{writeNumber, roomFor, writeQuestions, writeReply, bitsAfter, WrittenAs}
+use Rattle.mac_writer.specs.Writer.{reply, roomFor, writeQuestions, writeReply, bitsAfter, WrittenAs}
 
 -- ---- question 11
 
@@ -51,60 +51,65 @@ room-test octets at n h k =
 
 -- ---- the reply
 
-reply-number : (octets at : ℕ) (h : MacResource) → writeNumber (writeReply octets at h) ≡ askedNumber (writeQuestions octets at h)
-unfolding writeReply
-reply-number octets at h = ask-map writeNumber (writeQuestions octets at h) _ _
-
-as-written : (s t : List ℕ) (at : ℕ) (h : MacResource) (reply : WriteReply) → reply ≡ writeReply (length s) at h → bitsOf t ≡ bitsAfter (bitsOf s) at h reply
-    → WrittenAs s at h reply t
-as-written s t at h reply e b = record { number = ap writeNumber e ∙ reply-number (length s) at h; replies = e; bits = b }
+-- the first no is the whole reply, and the octets are as they were
+refused-written : (s : List ℕ) (at : ℕ) (h : MacResource) (k : ℕ) (r : Refusal)
+    → let qs = writeQuestions (length s) at h in
+    FirstYes k qs → nth k qs .holds ≡ false → refusalNumber r ≡ nth k qs .number → WrittenAs s at h (WriteReply.Refused r) s
+unfolding writeReply bitsAfter
+refused-written s at h k r past other e =
+    let qs = writeQuestions (length s) at h in
+    record { replies = ap (λ (n : ℕ). n ∷ []) e ∙ first-no _ _ k qs past other; bits = first-no _ _ k qs past other }
 
 pub refused-address : (s : List ℕ) (at : ℕ) (h : MacResource) → 16777216 ≤ h .number → WrittenAs s at h (WriteReply.Refused Refusal.Address) s
-unfolding writeReply
-refused-address s at h k = as-written s s at h _ (first-no _ _ 0 (writeQuestions (length s) at h) tt (le-ltb (h .number) 16777216 k)) refl
+refused-address s at h k = refused-written s at h 0 Refusal.Address tt (le-ltb (h .number) 16777216 k) refl
 
 pub refused-header : (s : List ℕ) (at : ℕ) (h : MacResource) → h .number < 16777216 → legalToWrite h ≡ false
     → WrittenAs s at h (WriteReply.Refused Refusal.Header) s
-unfolding writeReply
-refused-header s at h k l = as-written s s at h _ (first-no _ _ 1 (writeQuestions (length s) at h) (tt, lt-ltb (h .number) 16777216 k) l) refl
+refused-header s at h k l = refused-written s at h 1 Refusal.Header (tt, lt-ltb (h .number) 16777216 k) l refl
 
 pub refused-room : (s : List ℕ) (at : ℕ) (h : MacResource) (r : ResourceHeader) (n : ℕ) → h .number < 16777216 → legalToWrite h ≡ true → r ≡ onAir h
     → n ≡ headerLength r
     → roomFor (length s) at n ≡ false → WrittenAs s at h (WriteReply.Refused Refusal.NoRoom) s
-unfolding writeReply
 refused-room s at h r n k l er en lacks =
     let room : roomFor (length s) at (headerLength (onAir h)) ≡ false = ap (roomFor (length s) at) (sym (en ∙ ap headerLength er)) ∙ lacks in
-    as-written s s at h _ (first-no _ _ 2 (writeQuestions (length s) at h) ((tt, lt-ltb (h .number) 16777216 k), l) room) refl
+    refused-written s at h 2 Refusal.NoRoom ((tt, lt-ltb (h .number) 16777216 k), l) room refl
 
 pub header-written : (s t : List ℕ) (at : ℕ) (h : MacResource) (r : ResourceHeader) (n next : ℕ) → h .number < 16777216 → legalToWrite h ≡ true → r ≡ onAir h
     → n ≡ headerLength r → roomFor (length s) at n ≡ true → Wrote (bitsOf s) at (bitsOf t) next (resourceBits r) → WrittenAs s at h (WriteReply.Next next) t
-unfolding writeReply
+unfolding writeReply bitsAfter
 header-written s t at h r n next k l er en has w =
     let room : roomFor (length s) at (headerLength (onAir h)) ≡ true = ap (roomFor (length s) at) (sym (en ∙ ap headerLength er)) ∙ has in
     let ends : next ≡ at + headerLength (onAir h) = w .ends ∙ ap (λ (x : ℕ). at + x) (sym (header-size r) ∙ ap headerLength er) in
-    as-written s t at h _
-    (ap WriteReply.Next ends ∙ every-yes _ _ (writeQuestions (length s) at h) (((tt, lt-ltb (h .number) 16777216 k), l), room))
-    (w .bits ∙ ap (λ (x : ResourceHeader). written (bitsOf s) at (resourceBits x)) er)
+    let qs = writeQuestions (length s) at h in
+    let yes : FirstYes 3 qs = (((tt, lt-ltb (h .number) 16777216 k), l), room) in
+    record {
+      replies = ap (λ (n : ℕ). 0 ∷ n ∷ []) ends ∙ every-yes _ _ qs yes;
+      bits = w .bits ∙ ap (λ (x : ResourceHeader). written (bitsOf s) at (resourceBits x)) er ∙ every-yes _ _ qs yes;
+    }
 
 -- the header that passed has its fields within their widths
 pub passed-within : (h : MacResource) (r : ResourceHeader) → legalToWrite h ≡ true → r ≡ onAir h → ResourceWithin r
 passed-within h r l e = subst ResourceWithin (sym e) (legal-within h (to-write h l .fields))
 
 -- what was written was taken
-pub record TakenHeader (octets at : ℕ) (h : MacResource) (next : ℕ) : Type 0 where
+pub record TakenHeader (s : List ℕ) (at : ℕ) (h : MacResource) (next : ℕ) : Type 0 where
   pub legal : legalToWrite h ≡ true
-  pub room : roomFor octets at (headerLength (onAir h)) ≡ true
+  pub room : roomFor (length s) at (headerLength (onAir h)) ≡ true
   pub ends : next ≡ at + headerLength (onAir h)
+  pub bits : bitsAfter s at h ≡ written (bitsOf s) at (resourceBits (onAir h))
 
-never : {X : Type 0} {n : ℕ} {x : Refusal} → WriteReply.Next n ≡ WriteReply.Refused x → X
-never e = absurd (let z : _≡_ {A = ℕ} 0 1 = cc in omega arith)
+-- a refusal's number stands alone
+never : {X : Type 0} (next n : ℕ) → 0 ∷ next ∷ [] ≡ n ∷ [] → X
+never next n e = let z = ap length e in absurd (omega arith)
 
-same : {n m : ℕ} → WriteReply.Next n ≡ WriteReply.Next m → n ≡ m
-same e = cc
-
-pub was-taken : (octets at : ℕ) (h : MacResource) (next : ℕ) → WriteReply.Next next ≡ writeReply octets at h → TakenHeader octets at h next
-unfolding writeReply
-was-taken octets at h next =
-    ask-elim (λ (r : WriteReply). WriteReply.Next next ≡ r → TakenHeader octets at h next) (writeQuestions octets at h) _ WriteReply.Refused
-    (λ r e. never e)
-    (λ yes e. record { legal = yes .1 .0; room = yes .1 .1 .0; ends = same e })
+pub was-taken : (s : List ℕ) (at : ℕ) (h : MacResource) (next : ℕ) → reply (WriteReply.Next next) ≡ writeReply (length s) at h → TakenHeader s at h next
+unfolding writeReply bitsAfter
+was-taken s at h next =
+    ask-elim (λ (r : List ℕ). 0 ∷ next ∷ [] ≡ r → TakenHeader s at h next) (writeQuestions (length s) at h) _ _
+    (λ n e. never next n e)
+    (λ yes e. record {
+      legal = yes .1 .0;
+      room = yes .1 .1 .0;
+      ends = ap (λ (l : List ℕ). getD l 1 0) e;
+      bits = sym (every-yes _ _ (writeQuestions (length s) at h) (((tt, yes .0), yes .1 .0), yes .1 .1 .0));
+    })

@@ -2,11 +2,11 @@
 use mathlib.Core.Path.{_≡_, refl, sym, _∙_}
 use mathlib.Core.Bool.{Bool, true, false, true≢false, not, cond}
 use mathlib.Core.List.{List, [], _∷_, _++_}
-use Prim.Native.Nat.{ℕ, zero, suc}
+use Prim.Native.Nat.{ℕ, zero, suc, _≤_}
+use native.Mathlib.Omega.{arith}
 use lib.ListN.{length, getD}
 use borrow.Author.Tests.{not-true, not-false}
-use Rattle.questions.specs.declared.Refusal.{Refusal}
-use Rattle.questions.specs.Questions.{Question, question, ask}
+use Rattle.questions.specs.Questions.{Question, question, ask, askedNumber}
 
 -- what a test that the code negates has told
 pub said-no : {b : Bool} {x : Bool} → b ≡ x → not b ≡ true → x ≡ false
@@ -17,7 +17,7 @@ said-yes {b} e h = sym e ∙ not-false b h
 
 -- question k of a list, counted from 0
 abbrev pub nth : ℕ → List Question → Question
-nth k qs = getD qs k (question true Refusal.Unsound)
+nth k qs = getD qs k (question true 0)
 
 -- the first k questions of a list are answered yes
 abbrev pub FirstYes : ℕ → List Question → Type 0
@@ -33,14 +33,14 @@ abbrev pub AllYes : List Question → Type 0
 AllYes [] = Unit
 AllYes (q ∷ qs) = (q .holds ≡ true) × AllYes qs
 
-module _ {A : Type 0} (done : A) (refused : Refusal → A) where
+module _ {A : Type 0} (done : A) (refused : ℕ → A) where
   -- a yes leaves it to the questions that follow
   answered-yes : (q : Question) (qs : List Question) {a : A} → q .holds ≡ true → a ≡ ask qs done refused → a ≡ ask (q ∷ qs) done refused
   unfolding ask
   answered-yes q qs e h = rw e h
 
   -- the first no is the whole reply
-  pub first-no : (k : ℕ) (qs : List Question) → FirstYes k qs → nth k qs .holds ≡ false → refused (nth k qs .refusal) ≡ ask qs done refused
+  pub first-no : (k : ℕ) (qs : List Question) → FirstYes k qs → nth k qs .holds ≡ false → refused (nth k qs .number) ≡ ask qs done refused
   unfolding ask
   first-no zero [] h e = absurd (true≢false e)
   first-no (suc k) [] h e = absurd (true≢false e)
@@ -67,63 +67,66 @@ module _ {A : Type 0} (done : A) (refused : Refusal → A) where
   yes-between (p ∷ qs) q rest e = rw (yes-between qs q rest e)
 
 -- what is made of the outcome is made of each case of it
-pub ask-map : {A B : Type 0} (f : A → B) (qs : List Question) (done : A) (refused : Refusal → A)
-    → f (ask qs done refused) ≡ ask qs (f done) (λ r. f (refused r))
+pub ask-map : {A B : Type 0} (f : A → B) (qs : List Question) (done : A) (refused : ℕ → A)
+    → f (ask qs done refused) ≡ ask qs (f done) (λ n. f (refused n))
 unfolding ask
 ask-map f [] done refused = refl
 ask-map f (q ∷ qs) done refused = go (q .holds) (ask-map f qs done refused)
   where
-    go : (b : Bool) → f (ask qs done refused) ≡ ask qs (f done) (λ r. f (refused r))
-        → f (cond b (ask qs done refused) (refused (q .refusal))) ≡ cond b (ask qs (f done) (λ r. f (refused r))) (f (refused (q .refusal)))
+    go : (b : Bool) → f (ask qs done refused) ≡ ask qs (f done) (λ n. f (refused n))
+        → f (cond b (ask qs done refused) (refused (q .number))) ≡ cond b (ask qs (f done) (λ n. f (refused n))) (f (refused (q .number)))
     go true e = e
     go false e = refl
 
 -- what holds of every refusal, and of what follows where every answer is yes, holds of the outcome
-pub ask-elim : {A : Type 0} (P : A → Type 0) (qs : List Question) (done : A) (refused : Refusal → A)
-    → ((r : Refusal) → P (refused r)) → (AllYes qs → P done) → P (ask qs done refused)
+pub ask-elim : {A : Type 0} (P : A → Type 0) (qs : List Question) (done : A) (refused : ℕ → A)
+    → ((n : ℕ) → P (refused n)) → (AllYes qs → P done) → P (ask qs done refused)
 unfolding ask
 ask-elim P [] done refused f g = g tt
 ask-elim P (q ∷ qs) done refused f g = go (λ e. ask-elim P qs done refused f (λ h. g (e, h))) (q .holds) refl
   where
-    go : (q .holds ≡ true → P (ask qs done refused)) → (b : Bool) → q .holds ≡ b → P (cond b (ask qs done refused) (refused (q .refusal)))
+    go : (q .holds ≡ true → P (ask qs done refused)) → (b : Bool) → q .holds ≡ b → P (cond b (ask qs done refused) (refused (q .number)))
     go rest true e = rest e
-    go rest false e = f (q .refusal)
+    go rest false e = f (q .number)
 
 -- two outcomes of one list: what holds of both refusals, and of both that follow where every answer is yes, holds of both outcomes
-pub ask-both : {A B : Type 0} (P : A → B → Type 0) (qs : List Question) (a : A) (f : Refusal → A) (b : B) (g : Refusal → B)
-    → ((r : Refusal) → P (f r) (g r)) → (AllYes qs → P a b) → P (ask qs a f) (ask qs b g)
+pub ask-both : {A B : Type 0} (P : A → B → Type 0) (qs : List Question) (a : A) (f : ℕ → A) (b : B) (g : ℕ → B)
+    → ((n : ℕ) → P (f n) (g n)) → (AllYes qs → P a b) → P (ask qs a f) (ask qs b g)
 unfolding ask
 ask-both P [] a f b g bad fine = fine tt
 ask-both P (q ∷ qs) a f b g bad fine = go (λ e. ask-both P qs a f b g bad (λ h. fine (e, h))) (q .holds) refl
   where
     go : (q .holds ≡ true → P (ask qs a f) (ask qs b g)) → (c : Bool) → q .holds ≡ c
-        → P (cond c (ask qs a f) (f (q .refusal))) (cond c (ask qs b g) (g (q .refusal)))
+        → P (cond c (ask qs a f) (f (q .number))) (cond c (ask qs b g) (g (q .number)))
     go rest true e = rest e
-    go rest false e = bad (q .refusal)
+    go rest false e = bad (q .number)
 
--- ---- some of a call's questions, asked apart: answers of any kind, one for a yes to all and one for each refusal
+-- ---- some of a call's questions, asked apart
 
-module _ {B : Type 0} (passed : B) (no : Refusal → B) where
-  -- where they passed, each is answered yes
-  pub asked-yes : ((r : Refusal) → no r ≡ passed → ⊥) → (qs : List Question) → ask qs passed no ≡ passed → AllYes qs
-  unfolding ask
-  asked-yes apart [] e = tt
-  asked-yes apart (q ∷ qs) e = go (asked-yes apart qs) (q .holds) refl e
-    where
-      go : (ask qs passed no ≡ passed → AllYes qs) → (b : Bool) → q .holds ≡ b → cond b (ask qs passed no) (no (q .refusal)) ≡ passed
-          → (q .holds ≡ true) × AllYes qs
-      go later true y h = (y, later h)
-      go later false y h = absurd (apart (q .refusal) h)
+-- no question of a list has the number 0
+abbrev pub Positive : List Question → Type 0
+Positive [] = Unit
+Positive (q ∷ qs) = (1 ≤ q .number) × Positive qs
 
-  -- where they did not, what holds of each refusal and its answer holds of a call that asks these questions first
-  pub asked-no : {A : Type 0} (P : B → A → Type 0) (done : A) (refused : Refusal → A) → ((r : Refusal) → P (no r) (refused r))
-      → (qs rest : List Question) → (ask qs passed no ≡ passed → ⊥) → P (ask qs passed no) (ask (qs ++ rest) done refused)
-  unfolding ask
-  asked-no P done refused each [] rest h = absurd (h refl)
-  asked-no P done refused each (q ∷ qs) rest h = go (asked-no P done refused each qs rest) (q .holds) h
-    where
-      go : ((ask qs passed no ≡ passed → ⊥) → P (ask qs passed no) (ask (qs ++ rest) done refused)) → (b : Bool)
-          → (cond b (ask qs passed no) (no (q .refusal)) ≡ passed → ⊥)
-          → P (cond b (ask qs passed no) (no (q .refusal))) (cond b (ask (qs ++ rest) done refused) (refused (q .refusal)))
-      go later true k = later k
-      go later false k = each (q .refusal)
+-- where the number is 0, each is answered yes
+pub number-yes : (qs : List Question) → Positive qs → askedNumber qs ≡ 0 → AllYes qs
+unfolding ask
+number-yes [] p e = tt
+number-yes (q ∷ qs) p e = go (number-yes qs (p .1)) (q .holds) refl e
+  where
+    go : (askedNumber qs ≡ 0 → AllYes qs) → (b : Bool) → q .holds ≡ b → cond b (askedNumber qs) (q .number) ≡ 0 → (q .holds ≡ true) × AllYes qs
+    go later true y h = (y, later h)
+    go later false y h = absurd (omega (arith, h, p .0))
+
+-- where it is not, what holds of each number and its answer holds of a call that asks these questions first
+pub number-no : {A : Type 0} (P : ℕ → A → Type 0) (done : A) (refused : ℕ → A) → ((n : ℕ) → 1 ≤ n → P n (refused n))
+    → (qs rest : List Question) → Positive qs → (askedNumber qs ≡ 0 → ⊥) → P (askedNumber qs) (ask (qs ++ rest) done refused)
+unfolding ask
+number-no P done refused each [] rest p h = absurd (h refl)
+number-no P done refused each (q ∷ qs) rest p h = go (number-no P done refused each qs rest (p .1)) (q .holds) h
+  where
+    go : ((askedNumber qs ≡ 0 → ⊥) → P (askedNumber qs) (ask (qs ++ rest) done refused)) → (b : Bool)
+        → (cond b (askedNumber qs) (q .number) ≡ 0 → ⊥)
+        → P (cond b (askedNumber qs) (q .number)) (cond b (ask (qs ++ rest) done refused) (refused (q .number)))
+    go later true k = later k
+    go later false k = each (q .number) (p .0)

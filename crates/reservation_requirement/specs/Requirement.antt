@@ -25,7 +25,7 @@ use Rattle.reservation_requirement.specs.declared.ReservationRequirement
 }
 use Rattle.reservation_requirement.specs.declared.RequirementRead as requirement
 
--- "Requirement codes 0–15: one half-slot; [the counts]; over 68"; clause 21.5.4
+-- "Requirement codes 0–15: one half-slot; [..] over 68"; clause 21.5.4
 abbrev pub requirementCode : ReservationRequirement → ℕ
 requirementCode Req1Subslot = 0
 requirementCode Req1Slot = 1

@@ -25,9 +25,9 @@ use Rattle.dl_build.specs.Build.{builtFrom, builtOf, CanBuild, BuiltIn}
 use Rattle.dl_build.proofs.ArrangeLaws.{paste-rest}
 use Rattle.dl_build.proofs.BuildLaws.{built-few, built-own}
 use Rattle.sched_core.specs.declared.Station.{Station}
-use Rattle.sched_core.specs.declared.BuildReply.{BuildReply}
 use Rattle.sched_core.specs.Station.{withQueued}
 use Rattle.sched_core.specs.Questions.{Memory, memory, soundCount, soundStation, memoryQuestions, buildLent}
+use Rattle.sched_core.specs.Replies.{Numbered}
 use Rattle.sched_core.specs.Calls.{BuildOutcome, notBuilt, current, buildsNow, builtNow, blockBuilt, buildCall}
 use Rattle.questions.proofs.AskLaws.{every-yes}
 use Rattle.sched_core.proofs.QuestionLaws.{right-lengths}
@@ -138,13 +138,13 @@ module _ (m : Memory) (station : soundStation (m .station) ≡ true) (places : l
 
   -- and every other question answered yes
   module _ (block : List ℕ) (size : length block ≡ blockOctets) where
-    all-yes : cond (buildsNow (m .station)) (blockBuilt m t (builtNow m)) (notBuilt BuildReply.NoBlock m block) ≡ buildCall m block
+    all-yes : cond (buildsNow (m .station)) (blockBuilt m t (builtNow m)) (notBuilt Numbered.noBlock m block) ≡ buildCall m block
     unfolding buildCall
     all-yes =
-        every-yes _ (λ r. notBuilt (BuildReply.Refused r) m block) (memoryQuestions m (buildLent block))
+        every-yes _ (λ n. notBuilt (Numbered.refused n) m block) (memoryQuestions m (buildLent block))
         ((((tt, station), right-lengths m places cells), eq-eqb _ _ size), queue)
 
-    pub none-called : buildsNow (m .station) ≡ false → notBuilt BuildReply.NoBlock m block ≡ buildCall m block
+    pub none-called : buildsNow (m .station) ≡ false → notBuilt Numbered.noBlock m block ≡ buildCall m block
     none-called idle = rw idle at all-yes
 
     -- the plan stored is the call's outcome
@@ -152,7 +152,7 @@ module _ (m : Memory) (station : soundStation (m .station) ≡ true) (places : l
         → (p : Progress) (next : Station) (z : List Record) (store' block' : List ℕ)
         → BuiltIn (builtNow m) blockOctets (m .store) (perTimeslot * t) p store' block' → next ≡ withQueued (m .station) (set (m .station .queued) t (p .left))
         → z ≡ paste (m .records) (perTimeslot * t) (p .records) n
-        → _≡_ {A = BuildOutcome} (record { reply = BuildReply.Built; tags = builtNow m .tags; memory = memory next z store'; block = block' })
+        → _≡_ {A = BuildOutcome} (record { reply = Numbered.block block' (builtNow m .tags); memory = memory next z store'; block = block' })
         (buildCall m block)
     plan-called builds four p next z store' block' h en ez =
         rw (en, ez ∙ rest-stored four (p .records) (h .records), h .count, h .records, h .cells, h .block) (rw builds at all-yes)

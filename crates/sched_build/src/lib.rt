@@ -8,11 +8,12 @@ use sizes::TIMESLOTS;
 use tdma_time::TdmaTime;
 ghost use mathlib.Core.Path.{_≡_};
 ghost use mathlib.Core.List.{List};
-ghost use mathlib.Core.Bool.{true, _&&_, not};
-ghost use lib.Dec.{eqb, ltb};
+ghost use mathlib.Core.Bool.{true, _&&_};
+ghost use lib.Dec.{ltb};
 ghost use Prim.Native.Nat.{_+_, _-_, _*_, _≤_};
 ghost use lib.ListN.{length, getD, set, take, drop};
 ghost use Rattle.sizes.specs.Sizes.{timeslots, perTimeslot, queuePlaces, cellOctets, storeOctets, blockWidth, blockOctets};
+ghost use Rattle.tdma_time.specs.Time.{usableTime};
 ghost use Rattle.dl_record.specs.declared.Record.{Record};
 ghost use Rattle.dl_queue.specs.Questions.{soundPlaces};
 ghost use Rattle.dl_build.specs.Build.{builtFrom, CanBuild, BuiltIn};
@@ -23,7 +24,7 @@ ghost use Rattle.sched_core.specs.Calls.{current, buildsNow, builtNow};
 // Is there a block to build: a usable slot, and something queued for its timeslot?
 pub fn builds_at(time: TdmaTime, queued: [u8; TIMESLOTS]) -> bool
     requires { ⌜ (1 ≤ time .t) × (time .t ≤ timeslots) ⌝ }
-    ensures { λ r. ⌜ r ≡ not (eqb (time .f) 18) && ltb 0 (getD queued (time .t - 1) 0) ⌝ }
+    ensures { λ r. ⌜ r ≡ usableTime time && ltb 0 (getD queued (time .t - 1) 0) ⌝ }
 {
     let t = (time.t - 1) as usize;
     let n = queued[t];

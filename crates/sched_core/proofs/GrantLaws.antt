@@ -20,9 +20,8 @@ use Rattle.uplink.specs.HalfSlot.{firstHalf, vacant}
 use Rattle.uplink.specs.Search.{Run}
 use Rattle.uplink.specs.UplinkEntry.{Table, tableView}
 use Rattle.uplink.specs.Request.{Request, Verdict, tooLate, grant, earliestRun, settle, verdict, capacity, markerOf, replyTo, given, answer}
-use Rattle.questions.specs.declared.Refusal.{Refusal}
-use Rattle.sched_core.specs.declared.RequestReply.{RequestReply}
 use Rattle.sched_core.specs.Questions.{Memory}
+use Rattle.sched_core.specs.Replies.{Numbered}
 use Rattle.sched_core.specs.Calls.{outcome, grantQueued, requestAnswered}
 
 -- a granted capacity and delay fit in four bits each, and the marker is that drawn
@@ -71,11 +70,11 @@ module _ (u : Uplink) (r : Request) (cap delay : ℕ) (m : OptU8) where
 
 module _ (m : Memory) (t code kind n : ℕ) (a : CapAnswer)
     (is : a ≡ answer (m .station .uplink) (record { timeslot = t; code = code; number = n })) where
-  pub answered-no-run : a .reply ≡ CapReply.NoRun → outcome (RequestReply.Refused Refusal.NoRun) m ≡ requestAnswered m t code kind n
+  pub answered-no-run : a .reply ≡ CapReply.NoRun → outcome (Numbered.refused 9) m ≡ requestAnswered m t code kind n
   unfolding requestAnswered grantQueued
   answered-no-run e = rw (← is, e)
 
-  pub answered-too-late : a .reply ≡ CapReply.TooLate → outcome (RequestReply.Refused Refusal.TooLate) m ≡ requestAnswered m t code kind n
+  pub answered-too-late : a .reply ≡ CapReply.TooLate → outcome (Numbered.refused 10) m ≡ requestAnswered m t code kind n
   unfolding requestAnswered grantQueued
   answered-too-late e = rw (← is, e)
 

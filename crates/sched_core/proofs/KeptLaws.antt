@@ -46,12 +46,10 @@ use Rattle.dl_merge.proofs.SoundMerge.{OneCell, each-cells}
 use Rattle.dl_send.proofs.KeptLaws.{Staying}
 use Rattle.dl_build.specs.Build.{builtOf}
 use Rattle.dl_build.proofs.AfterBuild.{build-stays, build-holds}
-use Rattle.sched_core.specs.declared.Reply.{Reply}
-use Rattle.sched_core.specs.declared.RequestReply.{RequestReply}
-use Rattle.sched_core.specs.declared.BuildReply.{BuildReply}
 use Rattle.sched_core.specs.Station.{stationOf}
 use Rattle.sched_core.specs.Questions.{Memory, memory, soundCount, asksStation, queuedFor, memoryQuestions, requestQuestions, ackQuestions, tmaQuestions}
 use Rattle.sched_core.specs.Questions.{buildLent}
+use Rattle.sched_core.specs.Replies.{Numbered}
 use Rattle.sched_core.specs.Calls.{Outcome, StationOutcome, BuildOutcome, withRecord, withSdu, grantQueued, requestAnswered}
 use Rattle.sched_core.specs.Calls.{requestCall, ackCall, tmaCall}
 use Rattle.sched_core.specs.Calls.{notBuilt, current, buildsNow, builtNow, withLeft, blockBuilt, buildCall, advanceCall, newMemory, advanceMemory}
@@ -263,7 +261,7 @@ module _ (ms : List ℕ) (r : Request) where
 pub ack-keeps : (m : Memory) (t kind n : ℕ) → SoundMemory m → SoundMemory (ackCall m t kind n .memory)
 unfolding ackCall
 ack-keeps m t kind n h =
-    ask-elim (λ (o : Outcome Reply). SoundMemory (o .memory)) (memoryQuestions m [] ++ ackQuestions (queuedFor (m .station .queued) t) t kind n) _ _ (λ r. h)
+    ask-elim (λ (o : Outcome). SoundMemory (o .memory)) (memoryQuestions m [] ++ ackQuestions (queuedFor (m .station .queued) t) t kind n) _ _ (λ r. h)
     (λ yes.
     let ts = timeslot-range t (yes .1 .1 .1 .0) in
     ack-joined m t h (ts .0) (ts .1) (room-left (queuedFor (m .station .queued) t) (yes .1 .1 .1 .1 .1 .0)) kind n (yes .1 .1 .1 .1 .0))
@@ -272,7 +270,7 @@ pub tma-keeps : (m : Memory) (t kind n : ℕ) (tag : OptU16) (header : QueuedHea
     → SoundMemory (tmaCall m t kind n tag header bits sdu .memory)
 unfolding tmaCall
 tma-keeps m t kind n tag header bits sdu h =
-    ask-elim (λ (o : Outcome Reply). SoundMemory (o .memory))
+    ask-elim (λ (o : Outcome). SoundMemory (o .memory))
     (memoryQuestions m [] ++ tmaQuestions (queuedFor (m .station .queued) t) t (offeredRecord kind n tag header bits) sdu) _ _ (λ r. h)
     (λ yes.
     let ts = timeslot-range t (yes .1 .1 .1 .0) in
@@ -282,7 +280,7 @@ tma-keeps m t kind n tag header bits sdu h =
 pub request-keeps : (m : Memory) (t code kind n : ℕ) → SoundMemory m → SoundMemory (requestCall m t code kind n .memory)
 unfolding requestCall requestAnswered
 request-keeps m t code kind n h =
-    ask-elim (λ (o : Outcome RequestReply). SoundMemory (o .memory))
+    ask-elim (λ (o : Outcome). SoundMemory (o .memory))
     (memoryQuestions m [] ++ requestQuestions (queuedFor (m .station .queued) t) t code kind n) _ _ (λ r. h)
     (λ yes.
     let ts = timeslot-range t (yes .1 .1 .1 .0) in
@@ -342,7 +340,7 @@ unfolding buildCall
 build-keeps m block h =
     ask-elim (λ (o : BuildOutcome). SoundMemory (o .memory)) (memoryQuestions m (buildLent block)) _ _ (λ r. h) (λ yes. go (buildsNow (m .station)))
   where
-    go : (b : Bool) → SoundMemory (cond b (blockBuilt m (current (m .station)) (builtNow m)) (notBuilt BuildReply.NoBlock m block) .memory)
+    go : (b : Bool) → SoundMemory (cond b (blockBuilt m (current (m .station)) (builtNow m)) (notBuilt Numbered.noBlock m block) .memory)
     go true = left-sound m h
     go false = h
 

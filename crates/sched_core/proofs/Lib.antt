@@ -3,3 +3,5 @@ pub mod QuestionLaws
 pub mod GrantLaws
 pub mod QueuesLaws
 pub mod KeptLaws
+pub mod ReplyLaws
+pub mod RequestGranted

@@ -1,15 +1,15 @@
 -- What each question tells where it is answered yes. Assumes nothing.
 use mathlib.Core.Path.{_≡_}
 use mathlib.Core.Bool.{true, false}
-use mathlib.Core.List.{List, [], _++_}
+use mathlib.Core.List.{List, [], _∷_, _++_}
 use Prim.Native.Nat.{ℕ, _-_, _*_, _^_, _≤_, _<_}
+use native.Mathlib.Omega.{arith}
 use lib.Dec.{leb, ltb, eqb}
 use lib.ListN.{length}
 use borrow.Author.Tests.{leb-true, ltb-true, eqb-true, eq-eqb, ne-eqb}
 use Rattle.sizes.specs.Sizes.{timeslots, perTimeslot, queuePlaces, storeOctets, sduBits}
-use Rattle.questions.specs.declared.Refusal.{Refusal}
 use Rattle.questions.specs.Questions.{Question, ask}
-use Rattle.questions.proofs.AskLaws.{AllYes, yes-between}
+use Rattle.questions.proofs.AskLaws.{AllYes, Positive, yes-between}
 use Rattle.optional.proofs.Tests.{and-left, and-right}
 use Rattle.dl_record.specs.Questions.{legalAddress, presentSdu}
 use Rattle.sched_core.specs.Questions.{Memory, asksLengths, asksQueue, memoryQuestions, legalTimeslot, hasRoom}
@@ -53,7 +53,15 @@ room-left queued h = ltb-true _ _ h
 -- ---- a memory that questions 1 and 2 let pass
 
 -- What is asked of the memory is answered yes: the further lengths, and what is the call's own, decide.
-pub memory-passes : {A : Type 0} (m : Memory) (lent own : List Question) (done : A) (refused : Refusal → A) → AllYes (memoryQuestions m [])
+pub memory-passes : {A : Type 0} (m : Memory) (lent own : List Question) (done : A) (refused : ℕ → A) → AllYes (memoryQuestions m [])
     → ask (memoryQuestions m lent ++ own) done refused ≡ ask (lent ++ own) done refused
 unfolding ask
 memory-passes m lent own done refused h = rw (h .0, h .1 .0) (yes-between done refused lent (asksQueue m) own (h .1 .1 .0))
+
+-- their numbers are 1 and 2
+pub memory-positive : (m : Memory) (lent : List Question) → Positive lent → Positive (memoryQuestions m lent)
+memory-positive m lent p = (omega arith, (omega arith, go lent p))
+  where
+    go : (qs : List Question) → Positive qs → Positive (qs ++ asksQueue m ∷ [])
+    go [] h = (omega arith, tt)
+    go (q ∷ qs) h = (h .0, go qs (h .1))

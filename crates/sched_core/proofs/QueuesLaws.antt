@@ -17,11 +17,9 @@ use Rattle.dl_record.specs.Record.{ackRecord, offeredRecord}
 use Rattle.dl_sdu_store.specs.Cells.{cellOf}
 use Rattle.dl_sdu_store.proofs.CellBits.{length-cellOf}
 use Rattle.dl_queue.specs.Queue.{nextPlace}
-use Rattle.sched_core.specs.declared.Reply.{Reply}
-use Rattle.sched_core.specs.declared.RequestReply.{RequestReply}
 use Rattle.sched_core.specs.Questions.{Memory, queuedFor, memoryQuestions, requestQuestions, ackQuestions, tmaQuestions}
 use Rattle.sched_core.specs.Calls.{Outcome, withRecord, withSdu, grantQueued, requestAnswered, requestCall, ackCall, tmaCall}
-use Rattle.sched_core.specs.Invariant.{isDone, isGranted, CountRises, EveryCountRises}
+use Rattle.sched_core.specs.Invariant.{isDone, CountRises, EveryCountRises}
 use Rattle.questions.proofs.AskLaws.{ask-elim}
 use Rattle.sched_core.proofs.QuestionLaws.{lengths-right, timeslot-range, room-left}
 
@@ -48,8 +46,8 @@ module _ (m : Memory) (t : ℕ) (r : Record) where
       }
 
 module _ (m : Memory) (t code kind n : ℕ) where
-  abbrev Requested : Outcome RequestReply → Type 0
-  Requested o = CountRises m t (o .memory) (isGranted (o .reply))
+  abbrev Requested : Outcome → Type 0
+  Requested o = CountRises m t (o .memory) (isDone (o .reply))
 
   grant-queues : (a : CapAnswer) (x : CapReply) → Requested (grantQueued m t kind n a x)
   unfolding grantQueued
@@ -65,7 +63,7 @@ module _ (m : Memory) (t code kind n : ℕ) where
       (λ yes. grant-queues _ _)
 
 module _ (m : Memory) (t kind n : ℕ) where
-  abbrev Done : Outcome Reply → Type 0
+  abbrev Done : Outcome → Type 0
   Done o = CountRises m t (o .memory) (isDone (o .reply))
 
   pub ack-queues : Done (ackCall m t kind n)

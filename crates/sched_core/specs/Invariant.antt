@@ -11,9 +11,8 @@ use Rattle.tdma_time.specs.Time.{Valid}
 use Rattle.uplink.specs.UplinkEntry.{FourRowsOfEighteen}
 use Rattle.dl_record.specs.declared.QueuedHeader.{QueuedHeader}
 use Rattle.dl_queue.specs.Questions.{soundQueue}
-use Rattle.sched_core.specs.declared.Reply.{Reply}
-use Rattle.sched_core.specs.declared.RequestReply.{RequestReply}
 use Rattle.sched_core.specs.Questions.{Memory, soundStation}
+use Rattle.sched_core.specs.Replies.{Numbered}
 use Rattle.sched_core.specs.Calls.{newMemory, advanceMemory, requestCall, ackCall, tmaCall, buildCall}
 
 -- a sound memory, of the lengths that its types and question 2 give it
@@ -38,13 +37,14 @@ pub record EveryCallKeeps : Type 0 where
   pub build : (m : Memory) (block : List ℕ) → SoundMemory m → SoundMemory (buildCall m block .memory)
 
 -- a call was done
-abbrev pub isDone : Reply → Bool
-isDone Reply.Done = true
-isDone (Reply.Refused r) = false
-
-abbrev pub isGranted : RequestReply → Bool
-isGranted (RequestReply.Granted capacity delay marker) = true
-isGranted (RequestReply.Refused r) = false
+abbrev pub isDone : Numbered → Bool
+isDone Numbered.done = true
+isDone (Numbered.refused n) = false
+isDone (Numbered.granted capacity delay marker) = true
+isDone (Numbered.block octets tags) = true
+isDone Numbered.noBlock = true
+isDone (Numbered.owned o) = true
+isDone (Numbered.used n marker) = true
 
 -- the counts with one more for timeslot t
 abbrev pub oneMore : List ℕ → ℕ → List ℕ
@@ -60,7 +60,7 @@ pub record CountRises (m : Memory) (t : ℕ) (after : Memory) (done : Bool) : Ty
 
 -- and so does each of the three
 pub record EveryCountRises : Type 0 where
-  pub request : (m : Memory) (t code kind n : ℕ) → let o = requestCall m t code kind n in CountRises m t (o .memory) (isGranted (o .reply))
+  pub request : (m : Memory) (t code kind n : ℕ) → let o = requestCall m t code kind n in CountRises m t (o .memory) (isDone (o .reply))
   pub ack : (m : Memory) (t kind n : ℕ) → let o = ackCall m t kind n in CountRises m t (o .memory) (isDone (o .reply))
   pub tma : (m : Memory) (t kind n : ℕ) (tag : OptU16) (header : QueuedHeader) (bits : ℕ) (sdu : List ℕ)
       → let o = tmaCall m t kind n tag header bits sdu in CountRises m t (o .memory) (isDone (o .reply))

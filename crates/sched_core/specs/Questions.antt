@@ -6,7 +6,6 @@ use Prim.Native.Nat.{ℕ, _-_}
 use lib.Dec.{leb, ltb, eqb}
 use lib.ListN.{length, getD}
 use Rattle.sizes.specs.Sizes.{timeslots, perTimeslot, queuePlaces, storeOctets, blockOctets}
-use Rattle.questions.specs.declared.Refusal.{Refusal}
 use Rattle.questions.specs.Questions.{Question, question}
 use Rattle.tdma_time.specs.declared.TdmaTime.{TdmaTime}
 use Rattle.tdma_time.specs.Time.{valid}
@@ -37,53 +36,53 @@ unfoldable pub soundStation : Station → Bool
 soundStation s = soundUplink (s .uplink) && all soundCount (s .queued)
 
 abbrev pub asksStation : Station → Question
-asksStation s = question (soundStation s) Refusal.Unsound
+asksStation s = question (soundStation s) 1
 
 -- "a time given to the call is judged here too"
 abbrev pub asksTime : TdmaTime → Question
-asksTime x = question (valid x) Refusal.Unsound
+asksTime x = question (valid x) 1
 
 -- "2. Are the lent lengths those above?": "a lent run of 64 records", "64 cells of 256 octets"
 abbrev pub asksLengths : Memory → Question
-asksLengths m = question (eqb (length (m .records)) queuePlaces && eqb (length (m .store)) storeOctets) Refusal.Lengths
+asksLengths m = question (eqb (length (m .records)) queuePlaces && eqb (length (m .store)) storeOctets) 2
 
 -- and of the block: "268 bits in 34 octets"
 abbrev pub asksBlock : List ℕ → Question
-asksBlock block = question (eqb (length block) blockOctets) Refusal.Lengths
+asksBlock block = question (eqb (length block) blockOctets) 2
 
 -- "Records and cells are looked at only after 2 has passed"
 abbrev pub asksQueue : Memory → Question
-asksQueue m = question (soundQueue (m .station .queued) (m .records) (m .store)) Refusal.Unsound
+asksQueue m = question (soundQueue (m .station .queued) (m .records) (m .store)) 1
 
 -- "3. Timeslot 1–4?"
 abbrev pub legalTimeslot : ℕ → Bool
 legalTimeslot t = leb 1 t && leb t timeslots
 
 abbrev pub asksTimeslot : ℕ → Question
-asksTimeslot t = question (legalTimeslot t) Refusal.Timeslot
+asksTimeslot t = question (legalTimeslot t) 3
 
 -- "4. Requirement code 0–15?"
 abbrev pub asksRequirement : ℕ → Question
-asksRequirement code = question (leb code 15) Refusal.Requirement
+asksRequirement code = question (leb code 15) 4
 
 -- "5. Address kind 0–2 and number below 2^24?"
 abbrev pub asksAddress : ℕ → ℕ → Question
-asksAddress kind n = question (legalAddress kind n) Refusal.Address
+asksAddress kind n = question (legalAddress kind n) 5
 
 -- "6. Header legal? [..] in a queued record an address and no label; in one offered to the queue no grant."
 abbrev pub asksHeader : Record → Question
-asksHeader r = question (legalOffered (resourceOf r 0 0)) Refusal.Header
+asksHeader r = question (legalOffered (resourceOf r 0 0)) 6
 
 -- "7. SDU at most 2,048 bits and present in the lent octets?"
 abbrev pub asksSdu : ℕ → List ℕ → Question
-asksSdu bits sdu = question (presentSdu bits sdu) Refusal.Sdu
+asksSdu bits sdu = question (presentSdu bits sdu) 7
 
 -- "8. Fewer than sixteen queued?": of that many
 abbrev pub hasRoom : ℕ → Bool
 hasRoom queued = ltb queued perTimeslot
 
 abbrev pub asksRoom : ℕ → Question
-asksRoom queued = question (hasRoom queued) Refusal.QueueFull
+asksRoom queued = question (hasRoom queued) 8
 
 -- how many are queued for timeslot t, by the counts
 abbrev pub queuedFor : List ℕ → ℕ → ℕ

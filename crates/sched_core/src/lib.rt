@@ -13,6 +13,7 @@ ghost use Rattle.sizes.specs.Sizes.{timeslots};
 ghost use Rattle.uplink.specs.UplinkEntry.{all};
 ghost use Rattle.sched_core.specs.Station.{withQueued};
 ghost use Rattle.sched_core.specs.Questions.{soundCount, soundStation, legalTimeslot, queuedFor, hasRoom};
+ghost use Rattle.sched_core.specs.Replies.{queueReply, ownerReply, usageReply};
 ghost use Rattle.sched_core.specs.Calls.{stationOutcome, newCall, advanceCall, ownerCall, usageCall};
 
 // The station: its uplink, and how many records are queued for each timeslot.
@@ -91,7 +92,7 @@ pub fn station_is_sound(s: Station) -> bool
 
 // A new station at a time: its uplink, and nothing queued.
 pub fn new(time: TdmaTime) -> Answer
-    ensures { λ r. ⌜ stationOutcome (r .reply) (r .station) ≡ newCall time ⌝ }
+    ensures { λ r. ⌜ stationOutcome (queueReply (r .reply)) (r .station) ≡ newCall time ⌝ }
 {
     let u = uplink::new_uplink(time);
     let station = Station {
@@ -112,7 +113,7 @@ pub fn new(time: TdmaTime) -> Answer
 
 // One slot on.
 pub fn advance(s: Station) -> Answer
-    ensures { λ r. ⌜ stationOutcome (r .reply) (r .station) ≡ advanceCall s ⌝ }
+    ensures { λ r. ⌜ stationOutcome (queueReply (r .reply)) (r .station) ≡ advanceCall s ⌝ }
 {
     if !station_is_sound(s) {
         return Answer {
@@ -132,7 +133,7 @@ pub fn advance(s: Station) -> Answer
 
 // Who holds the first half of the slot at a time, the second, or both.
 pub fn ul_get_slot_owner(s: Station, ts: TdmaTime, slot: PhyBlockNum) -> OwnerReply
-    ensures { λ r. ⌜ r ≡ ownerCall s ts slot ⌝ }
+    ensures { λ r. ⌜ ownerReply r ≡ ownerCall s ts slot ⌝ }
 {
     if !station_is_sound(s) {
         return OwnerReply::Refused(Refusal::Unsound);
@@ -147,7 +148,7 @@ pub fn ul_get_slot_owner(s: Station, ts: TdmaTime, slot: PhyBlockNum) -> OwnerRe
 
 // How the slot at a time is used.
 pub fn ul_get_usage(s: Station, ts: TdmaTime) -> UsageReply
-    ensures { λ r. ⌜ r ≡ usageCall s ts ⌝ }
+    ensures { λ r. ⌜ usageReply r ≡ usageCall s ts ⌝ }
 {
     if !station_is_sound(s) {
         return UsageReply::Refused(Refusal::Unsound);

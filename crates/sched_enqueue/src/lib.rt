@@ -7,20 +7,14 @@ use questions::Refusal;
 use sched_core::Reply;
 use sched_core::Station;
 ghost use mathlib.Core.Path.{_≡_};
-ghost use mathlib.Core.Bool.{true};
 ghost use mathlib.Core.List.{List};
 ghost use Prim.Native.Nat.{ℕ, _-_, _≤_, _<_};
 ghost use lib.ListN.{length, getD};
 ghost use Rattle.sizes.specs.Sizes.{timeslots, perTimeslot, queuePlaces, storeOctets};
-ghost use Rattle.questions.specs.declared.Refusal.{Refusal};
 ghost use Rattle.dl_queue.specs.Queue.{nextPlace};
-ghost use Rattle.sched_core.specs.declared.Reply.{Reply};
-ghost use Rattle.uplink.specs.declared.Uplink.{Uplink};
-ghost use Rattle.sched_core.specs.Station.{stationOf};
-ghost use Rattle.sched_core.specs.Questions.{soundStation};
-ghost use Rattle.sched_core.specs.Calls.{ackCall, tmaCall};
+ghost use Rattle.dl_record.specs.Record.{offeredRecord};
 ghost use Rattle.sched_core.specs.Invariant.{oneMore};
-ghost use Rattle.sched_enqueue.specs.Plan.{refusedJoining, joinedJoining, planOf, QueuePlanned};
+ghost use Rattle.sched_enqueue.specs.Plan.{ackQueued, tmaQueued, joinedQueued, planQueued, refusedJoining, joinedJoining, planOf};
 
 // The reply, the station after the call, and the record that joins the queue with its place; where none joins, the place is past the
 // queue, and the record the empty one.
@@ -105,8 +99,7 @@ fn joined(queued: [u8; 4], timeslot: u8, r: Record) -> Joining
 
 // Queueing an acknowledgement, after questions 1 and 2, by the counts.
 pub fn ack_joins(queued: [u8; 4], timeslot: u8, kind: u8, number: u32) -> Joining
-    ensures { λ r. ⌜ ((u : Uplink) (store : List ℕ) → soundStation (stationOf u queued) ≡ true
-        → QueuePlanned (λ m. ackCall m timeslot kind number) (stationOf u queued) store store (planOf u r)) ⌝ }
+    ensures { λ r. ⌜ ((store : List ℕ) → joinedQueued r store ≡ ackQueued queued store timeslot kind number) ⌝ }
 {
     if !sched_core::timeslot_is_legal(timeslot) {
         return refused(Refusal::Timeslot, queued);
@@ -123,8 +116,8 @@ pub fn ack_joins(queued: [u8; 4], timeslot: u8, kind: u8, number: u32) -> Joinin
 
 // Queueing an acknowledgement, after questions 1 and 2.
 pub fn ack_plan(station: Station, timeslot: u8, kind: u8, number: u32) -> QueuePlan
-    requires { ⌜ soundStation station ≡ true ⌝ }
-    ensures { λ r. ⌜ ((store : List ℕ) → QueuePlanned (λ m. ackCall m timeslot kind number) station store store r) ⌝ }
+    ensures { λ r. ⌜ (r .station .uplink ≡ station .uplink)
+        × ((store : List ℕ) → planQueued r store ≡ ackQueued (station .queued) store timeslot kind number) ⌝ }
 {
     let queued = station.queued;
     let j = ack_joins(queued, timeslot, kind, number);
@@ -144,9 +137,8 @@ pub fn tma_joins(
     sdu: &[u8],
 ) -> Joining
     requires { ⌜ length (now store) ≡ storeOctets ⌝ }
-    ensures { λ r. ⌜ ((u : Uplink) → soundStation (stationOf u queued) ≡ true
-        → QueuePlanned (λ m. tmaCall m timeslot kind number tag header bits (now (sdu .entry)))
-        (stationOf u queued) (now (store .entry)) (now (store .exit)) (planOf u r)) ⌝ }
+    ensures { λ r. ⌜ joinedQueued r (now (store .exit))
+        ≡ tmaQueued queued (now (store .entry)) timeslot (offeredRecord kind number tag header bits) (now (sdu .entry)) ⌝ }
 {
     if !sched_core::timeslot_is_legal(timeslot) {
         return refused(Refusal::Timeslot, queued);
@@ -182,10 +174,9 @@ pub fn tma_plan(
     bits: u16,
     sdu: &[u8],
 ) -> QueuePlan
-    requires { ⌜ soundStation station ≡ true ⌝ }
     requires { ⌜ length (now store) ≡ storeOctets ⌝ }
-    ensures { λ r. ⌜ QueuePlanned (λ m. tmaCall m timeslot kind number tag header bits (now (sdu .entry)))
-        station (now (store .entry)) (now (store .exit)) r ⌝ }
+    ensures { λ r. ⌜ (r .station .uplink ≡ station .uplink) × (planQueued r (now (store .exit))
+        ≡ tmaQueued (station .queued) (now (store .entry)) timeslot (offeredRecord kind number tag header bits) (now (sdu .entry))) ⌝ }
 {
     let queued = station.queued;
     let j = tma_joins(

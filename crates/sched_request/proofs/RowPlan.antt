@@ -5,7 +5,6 @@ use mathlib.Core.Bool.{true}
 use mathlib.Core.List.{List, []}
 use Prim.Native.Nat.{ℕ, _-_, _≤_, _<_}
 use Rattle.sizes.specs.Sizes.{timeslots}
-use Rattle.questions.specs.declared.Refusal.{Refusal}
 use Rattle.questions.specs.Questions.{Question}
 use Rattle.questions.proofs.AskLaws.{ask-both}
 use Rattle.uplink.specs.declared.CapAnswer.{CapAnswer}
@@ -15,11 +14,11 @@ use Rattle.uplink.specs.Request.{Request, answer}
 use Rattle.uplink.specs.Functions.{rowAlone, withRowOf}
 use Rattle.uplink.proofs.RowLaws.{row-alone-sound, with-row-alone, answer-by-row}
 use Rattle.dl_record.specs.declared.Record.{Record}
-use Rattle.sched_core.specs.declared.RequestReply.{RequestReply}
 use Rattle.sched_core.specs.declared.Station.{Station}
 use Rattle.sched_core.specs.Station.{stationOf}
 use Rattle.sched_core.specs.Questions.{Memory, memory, soundStation, legalTimeslot, queuedFor, requestQuestions}
-use Rattle.sched_core.specs.Calls.{Outcome, outcome, requestNumber, grantQueued, requestAnswered, requestCall}
+use Rattle.sched_core.specs.Replies.{Numbered, requestReply}
+use Rattle.sched_core.specs.Calls.{Outcome, outcome, grantQueued, requestAnswered, requestCall}
 use Rattle.sched_core.proofs.QuestionLaws.{timeslot-range, memory-passes}
 use Rattle.sched_core.proofs.StationLaws.{station-parts, parts-sound}
 use Rattle.sched_enqueue.specs.Plan.{SoundQueue, Planned}
@@ -34,7 +33,7 @@ row-station-sound s i h =
     parts-sound _ (record { uplink = row-alone-sound (s .uplink) i (p .uplink); counts = p .counts })
 
 -- what a call leaves, with the row put back into the station's table
-abbrev rowBack : Station → ℕ → Outcome RequestReply → Outcome RequestReply
+abbrev rowBack : Station → ℕ → Outcome → Outcome
 rowBack s i o =
     let m = o .memory in
     outcome (o .reply) (memory (stationOf (withRowOf (s .uplink) i (m .station .uplink)) (m .station .queued)) (m .records) (m .store))
@@ -47,15 +46,15 @@ module _ (s : Station) (i t code kind n : ℕ) (inside : i < timeslots) (rs : Li
   alone = memory (stationOf (rowAlone (s .uplink) i) (s .queued)) rs st
 
   -- a refusal leaves both as they came in
-  refused-back : (x : RequestReply) → outcome x whole ≡ rowBack s i (outcome x alone)
+  refused-back : (x : Numbered) → outcome x whole ≡ rowBack s i (outcome x alone)
   refused-back x = ap (λ (u : Uplink). outcome x (memory (stationOf u (s .queued)) rs st)) (sym (with-row-alone (s .uplink) i inside))
 
   -- an answer with the row put back is queued as the answer itself
   queued-back : (a : CapAnswer) (x : CapReply)
       → grantQueued whole t kind n (record { reply = a .reply; uplink = withRowOf (s .uplink) i (a .uplink) }) x ≡ rowBack s i (grantQueued alone t kind n a x)
   unfolding grantQueued
-  queued-back a CapReply.NoRun = refused-back (RequestReply.Refused Refusal.NoRun)
-  queued-back a CapReply.TooLate = refused-back (RequestReply.Refused Refusal.TooLate)
+  queued-back a CapReply.NoRun = refused-back (Numbered.refused 9)
+  queued-back a CapReply.TooLate = refused-back (Numbered.refused 10)
   queued-back a (CapReply.Granted capacity delay marker) = refl
 
   -- where the questions let the request pass, the search looks at its row alone
@@ -74,14 +73,14 @@ module _ (s : Station) (i t code kind n : ℕ) (inside : i < timeslots) (rs : Li
       let own : List Question = requestQuestions (queuedFor (s .queued) t) t code kind n in
       let same : SoundQueue (alone .station) rs st = record { places = q .places; cells = q .cells; sound = q .sound } in
       memory-passes whole [] own _ _ (queue-yes s rs st sound q)
-      ∙ ask-both (λ a b. a ≡ rowBack s i b) own _ _ _ _ (λ r. refused-back (RequestReply.Refused r))
+      ∙ ask-both (λ a b. a ≡ rowBack s i b) own _ _ _ _ (λ n. refused-back (Numbered.refused n))
       (λ yes. let range = timeslot-range t (yes .0) in answered-back (range .0) (range .1) (at (yes .0)))
       ∙ ap (rowBack s i) (sym (memory-passes alone [] own _ _ (queue-yes (alone .station) rs st (row-station-sound s i sound) same)))
 
 -- a request's plan on the row of its timeslot alone, with the row put back, is its plan; for a timeslot that is refused any row will do
 pub row-planned : (s : Station) (i t code kind n : ℕ) (p : RequestPlan) → i < timeslots → (legalTimeslot t ≡ true → i ≡ t - 1) → soundStation s ≡ true
     → RequestPlanned (λ m. requestCall m t code kind n) (stationOf (rowAlone (s .uplink) i) (s .queued)) p
-    → (store : List ℕ) → Planned requestNumber (λ m. requestCall m t code kind n) s store store (p .reply)
+    → (store : List ℕ) → Planned (λ m. requestCall m t code kind n) s store store (requestReply (p .reply))
     (stationOf (withRowOf (s .uplink) i (p .station .uplink)) (p .station .queued)) (p .place) (p .«record»)
 row-planned s i t code kind n p inside at sound planned store =
     let k = planned store in

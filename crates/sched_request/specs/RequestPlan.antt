@@ -10,7 +10,8 @@ use Rattle.dl_record.specs.Record.{emptyRecord}
 use Rattle.sched_core.specs.declared.Station.{Station}
 use Rattle.sched_core.specs.declared.RequestReply.{RequestReply}
 use Rattle.sched_core.specs.Questions.{Memory, memory}
-use Rattle.sched_core.specs.Calls.{Outcome, outcome, requestNumber}
+use Rattle.sched_core.specs.Replies.{replyNumber, requestReply}
+use Rattle.sched_core.specs.Calls.{Outcome, outcome}
 use Rattle.sched_enqueue.specs.Plan.{Planned}
 use Rattle.sched_request.specs.declared.RequestPlan.{RequestPlan}
 
@@ -19,11 +20,12 @@ abbrev pub refusedRequest : Refusal → Station → RequestPlan
 refusedRequest x s = record { reply = RequestReply.Refused x; station = s; place = queuePlaces; «record» = emptyRecord }
 
 -- the plan of a grant on station s, whatever queue and store: it joins the queue, and is no refusal
-pub record Grants (grant : Memory → Outcome RequestReply) (s : Station) (p : RequestPlan) : Type 0 where
-  pub whole : (rs : List Record) (st : List ℕ) → outcome (p .reply) (memory (p .station) (set rs (p .place) (p .«record»)) st) ≡ grant (memory s rs st)
-  pub granted : requestNumber (p .reply) ≡ 0
+pub record Grants (grant : Memory → Outcome) (s : Station) (p : RequestPlan) : Type 0 where
+  pub whole : (rs : List Record) (st : List ℕ)
+      → outcome (requestReply (p .reply)) (memory (p .station) (set rs (p .place) (p .«record»)) st) ≡ grant (memory s rs st)
+  pub granted : replyNumber (requestReply (p .reply)) ≡ 0
   pub joins : p .place < queuePlaces
 
 -- The plan of a request, whatever the store: a request leaves it.
-abbrev pub RequestPlanned : (Memory → Outcome RequestReply) → Station → RequestPlan → Type 0
-RequestPlanned call s p = (store : List ℕ) → Planned requestNumber call s store store (p .reply) (p .station) (p .place) (p .«record»)
+abbrev pub RequestPlanned : (Memory → Outcome) → Station → RequestPlan → Type 0
+RequestPlanned call s p = (store : List ℕ) → Planned call s store store (requestReply (p .reply)) (p .station) (p .place) (p .«record»)

@@ -16,8 +16,10 @@ use Rattle.dl_record.specs.Record.{emptyRecord}
 use Rattle.dl_record.specs.Questions.{isEmpty, holdsGrantOnly, headerHoldsGrantOnly}
 use Rattle.mac_pdus.specs.declared.OptChanAlloc.{OptChanAlloc}
 use Rattle.dl_sdu_store.specs.Cells.{allZero}
-use Rattle.sched_words.specs.Words.{recordWordCount, optU8, optU16, kindFrom, sameWords, allocWords, allocFields, allocFrom, recordWords, recordRead}
-use Rattle.sched_words.proofs.WordLaws.{ten-long, record-size, alloc-present}
+use Rattle.sched_words.specs.Words.{recordWordCount, optU8, optU16, kindFrom, sameWords, allocWords, allocFields, allocFrom}
+use Rattle.sched_words.specs.Words.{queuedHeaderWords, recordWords}
+use Rattle.sched_words.specs.Words.{headerFrom, recordRead, headerFits}
+use Rattle.sched_words.proofs.WordLaws.{header-size, record-size, alloc-present}
 use Rattle.sched_words.proofs.RoundTrip.{same-equal}
 use Rattle.sched_words.specs.Front.{begins}
 use Rattle.sched_words.proofs.FitLaws.{eqb-sym, low-fits, opt8-fits, opt16-fits, kind-fits, run, spelled, begins-append, begins-whole, zero-begins}
@@ -54,35 +56,45 @@ module _ (ws : List ℕ) (size : length ws ≡ recordWordCount) where
 
 -- ---- the record
 
-nested13 : (a b c d e f g h i j k l m : Bool)
-    → a && b && c && d && e && f && g && h && i && j && k && l && m ≡ a
-    && (b && (c && (d && (e && (f && (g && (h && (i && (j && (k && (l && (m && true))))))))))))
-nested13 a b c d e f g h i j k l m = simp (and-assoc, and-true)
+nested9 : (a b c d e f g h i : Bool) → a && b && c && d && e && f && g && h && i ≡ a && (b && (c && (d && (e && (f && (g && (h && i)))))))
+nested9 a b c d e f g h i = simp and-assoc
+
+-- tag and header
+pub header-fits : (ws : List ℕ) (alloc : Bool) → length ws ≡ recordWordCount → alloc ≡ begins (allocWords (allocFrom (getD ws 11 0) ws)) (drop 11 ws)
+    → leb (getD ws 3 0) 65536 && ltb (getD ws 4 0) 256 && ltb (getD ws 5 0) 256 && ltb (getD ws 6 0) 256 && leb (getD ws 7 0) 65536 && leb (getD ws 8 0) 256
+    && leb (getD ws 9 0) 256 && leb (getD ws 10 0) 256 && alloc
+    ≡ headerFits ws
+unfolding begins
+header-fits ws alloc size e =
+    let w : ℕ → ℕ = λ i. getD ws i 0 in
+    let low : (i : ℕ) → ltb (w i) 256 ≡ eqb (w i % 256) (w i) = λ i. low-fits 256 (w i) (omega arith) in
+    nested9 (leb (w 3) 65536) (ltb (w 4) 256) (ltb (w 5) 256) (ltb (w 6) 256) (leb (w 7) 65536) (leb (w 8) 256) (leb (w 9) 256) (leb (w 10) 256) alloc
+    ∙ (λ i. opt16-fits (w 3) i && (low 4 i && (low 5 i && (low 6 i
+    && (opt16-fits (w 7) i && (opt8-fits (w 8) i && (opt8-fits (w 9) i && (opt8-fits (w 10) i && e i))))))))
+    ∙ ap (begins (queuedHeaderWords (optU16 (w 3)) (headerFrom ws))) (sym (spelled 8 3 ws (omega arith)))
+
+nested5 : (a b c d e : Bool) → a && b && c && d && e ≡ a && (b && (c && (d && (e && true))))
+nested5 a b c d e = simp (and-assoc, and-true)
 
 -- the words but for the number, which any word is
-pub record-fits : (ws : List ℕ) (alloc : Bool) → length ws ≡ recordWordCount → alloc ≡ begins (allocWords (allocFrom (getD ws 11 0) ws)) (drop 11 ws)
-    → ltb (getD ws 0 0) 5 && ltb (getD ws 1 0) 256 && leb (getD ws 3 0) 65536 && ltb (getD ws 4 0) 256 && ltb (getD ws 5 0) 256 && ltb (getD ws 6 0) 256
-    && leb (getD ws 7 0) 65536 && leb (getD ws 8 0) 256 && leb (getD ws 9 0) 256 && leb (getD ws 10 0) 256 && alloc && ltb (getD ws 21 0) 65536
-    && ltb (getD ws 22 0) 65536
+pub record-fits : (ws : List ℕ) (header : Bool) → length ws ≡ recordWordCount → header ≡ headerFits ws
+    → ltb (getD ws 0 0) 5 && ltb (getD ws 1 0) 256 && header && ltb (getD ws 21 0) 65536 && ltb (getD ws 22 0) 65536
     ≡ sameWords (recordWords (recordRead ws)) ws
 unfolding begins recordWords recordRead
-record-fits ws alloc size e =
+record-fits ws header size e =
     let w : ℕ → ℕ = λ i. getD ws i 0 in
-    let o : OptChanAlloc = allocFrom (w 11) ws in
+    let head : List ℕ = queuedHeaderWords (optU16 (w 3)) (headerFrom ws) in
     let last : List ℕ = w 21 % 65536 ∷ w 22 % 65536 ∷ [] in
-    let low : (i : ℕ) → ltb (w i) 256 ≡ eqb (w i % 256) (w i) = λ i. low-fits 256 (w i) (omega arith) in
     let half : (i : ℕ) → ltb (w i) 65536 ≡ eqb (w i % 65536) (w i) = λ i. low-fits 65536 (w i) (omega arith) in
     let number : true ≡ eqb (w 2) (w 2) = sym (eq-eqb (w 2) (w 2) refl) in
-    let from-21 : eqb (w 21 % 65536) (w 21) && (eqb (w 22 % 65536) (w 22) && true) ≡ begins last (drop 10 (drop 11 ws)) =
-    ap (begins last) (sym (drop-drop 10 11 ws ∙ spelled 2 21 ws (omega arith))) in
-    let from-11 : begins (allocWords o) (drop 11 ws) && begins last (drop 10 (drop 11 ws)) ≡ begins (allocWords o ++ last) (drop 11 ws) =
-    sym (begins-append (allocWords o) last (drop 11 ws) 10 (ten-long o)) in
-    nested13 (ltb (w 0) 5) (ltb (w 1) 256) (leb (w 3) 65536) (ltb (w 4) 256) (ltb (w 5) 256) (ltb (w 6) 256) (leb (w 7) 65536) (leb (w 8) 256) (leb (w 9) 256)
-    (leb (w 10) 256) alloc (ltb (w 21) 65536) (ltb (w 22) 65536)
-    ∙ (λ i. kind-fits (w 0) i && (low 1 i && (number i && (opt16-fits (w 3) i
-    && (low 4 i && (low 5 i && (low 6 i && (opt16-fits (w 7) i && (opt8-fits (w 8) i && (opt8-fits (w 9) i && (opt8-fits (w 10) i
-    && ((ap₂ _&&_ e ((λ j. half 21 j && (half 22 j && true)) ∙ from-21) ∙ from-11) i))))))))))))
-    ∙ ap (begins (recordWords (recordRead ws))) (sym (spelled 11 0 ws (omega arith)))
+    let from-21 : eqb (w 21 % 65536) (w 21) && (eqb (w 22 % 65536) (w 22) && true) ≡ begins last (drop 18 (drop 3 ws)) =
+    ap (begins last) (sym (drop-drop 18 3 ws ∙ spelled 2 21 ws (omega arith))) in
+    let from-3 : begins head (drop 3 ws) && begins last (drop 18 (drop 3 ws)) ≡ begins (head ++ last) (drop 3 ws) =
+    sym (begins-append head last (drop 3 ws) 18 (header-size (optU16 (w 3)) (headerFrom ws))) in
+    nested5 (ltb (w 0) 5) (ltb (w 1) 256) header (ltb (w 21) 65536) (ltb (w 22) 65536)
+    ∙ (λ i. kind-fits (w 0) i && (low-fits 256 (w 1) (omega arith) i && (number i
+    && ((ap₂ _&&_ e ((λ j. half 21 j && (half 22 j && true)) ∙ from-21) ∙ from-3) i))))
+    ∙ ap (begins (recordWords (recordRead ws))) (sym (spelled 3 0 ws (omega arith)))
     ∙ begins-whole (recordWords (recordRead ws)) ws (record-size (recordRead ws) ∙ sym size)
 
 -- ---- the record of a place that is not filled

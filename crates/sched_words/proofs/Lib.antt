@@ -9,3 +9,4 @@ pub mod FitRecord
 pub mod QueueRoundTrip
 pub mod WordsQueue
 pub mod TimeslotWords
+pub mod OfferedLaws

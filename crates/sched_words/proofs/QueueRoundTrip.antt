@@ -29,7 +29,7 @@ use Rattle.dl_queue.specs.Questions.{soundPlace, soundPlaces, soundQueue}
 use Rattle.sched_core.specs.Questions.{Memory}
 use Rattle.sched_core.specs.Invariant.{SoundMemory}
 use Rattle.sched_words.specs.Words.{recordWordCount, queueWordCount, stationWords, stationFrom, wordOf8, wordOf16, optU8, optU16, kindWord, kindFrom}
-use Rattle.sched_words.specs.Words.{allocWords, allocFrom, recordWords, recordRead, recordFrom, noRecord, queueWords, recordsRead, queueFrom}
+use Rattle.sched_words.specs.Words.{allocWords, allocFrom, recordWords, recordRead, noRecord, queueWords, recordsRead, queueFrom}
 use Rattle.sched_words.specs.Words.{recordsFrom}
 use Rattle.sched_words.proofs.WordLaws.{record-size, length-joined}
 use Rattle.sched_words.proofs.RoundTrip.{small8, small16, read-back, words-of, parts-back, station-back}
@@ -146,12 +146,7 @@ record-read-back r f rest =
       sent = (ap (λ (n : ℕ). n % 65536) (sent-at (r .bits) (r .sent) rest o) ∙ small16 (r .sent) (f .sent)) i;
     }
 
--- a record is the one that its words stand for
-pub record-back : (r : Record) → RecordFits r → recordFrom (recordWords r) ≡ r
-unfolding recordFrom
-record-back r f = read-back recordWords recordRead noRecord r (ap recordRead (sym (append-nil (recordWords r))) ∙ record-read-back r f [])
-
--- and 64 records those that theirs stand for
+-- 64 records are those that their words stand for
 pub queue-back : (rs : List Record) → length rs ≡ queuePlaces → All RecordFits rs → recordsFrom (queueWords rs) ≡ rs
 unfolding recordsFrom queueFrom
 queue-back rs e f =
@@ -349,10 +344,6 @@ not-sound = refl
 not-empty : isEmpty noRecord ≡ false
 unfolding isEmpty holdsGrantOnly
 not-empty = refl
-
-pub record-words-back : (ws : List ℕ) → soundRecord (recordFrom ws) ≡ true → recordWords (recordFrom ws) ≡ ws
-unfolding recordFrom
-record-words-back ws = words-of recordWords recordRead noRecord (λ (r : Record). soundRecord r ≡ true) (λ h. not-both (soundRecord noRecord) h not-sound) ws
 
 no-place : (n : ℕ) (s : List ℕ) → soundPlaces perTimeslot n (replicate queuePlaces noRecord) s ≡ false
 unfolding soundPlaces soundPlace

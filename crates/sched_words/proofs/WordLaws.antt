@@ -8,16 +8,17 @@ use native.Mathlib.Numerals.{add-one, sub-one}
 use native.Mathlib.Omega.{arith}
 use lib.ListN.{length, getD, set, take, drop, length-append, drop-of-length-le}
 use lib.Seq.{sets, sets-eq, drop-cons, drop-drop, take-all, paste-suc}
-use borrow.Author.Tests.{not-true, not-false}
+use borrow.Author.Tests.{not-true, not-false, le-leb, lt-leb}
 use Rattle.optional.specs.declared.OptU8.{OptU8}
 use Rattle.optional.specs.declared.OptU16.{OptU16}
 use Rattle.optional.specs.declared.OptU32.{OptU32}
 use Rattle.uplink.specs.declared.Entry.{Entry}
 use Rattle.mac_pdus.specs.declared.OptChanAlloc.{OptChanAlloc}
 use Rattle.dl_record.specs.declared.Kind.{Kind}
+use Rattle.dl_record.specs.declared.QueuedHeader.{QueuedHeader}
 use Rattle.dl_record.specs.declared.Record.{Record}
 use Rattle.sched_words.specs.Words.{recordWordCount, Stored, optU8, optU16, optU32, kindFrom, wordsOfAll, readAll, sameWords, allocWords, allocFields}
-use Rattle.sched_words.specs.Words.{allocFrom, recordWords, entryWords, rowWords}
+use Rattle.sched_words.specs.Words.{allocFrom, queuedHeaderWords, recordWords, entryWords, rowWords, saturated}
 
 -- ---- single words
 
@@ -40,6 +41,13 @@ started-kind (suc (suc zero)) a b c d = absurd (c refl)
 started-kind (suc (suc (suc zero))) a b c d = absurd (d refl)
 started-kind (suc (suc (suc (suc w)))) a b c d = refl
 
+-- a word that its field holds, and one that it does not
+pub saturated-low : (most w : ℕ) → w ≤ most → w ≡ saturated most w
+saturated-low most w h = rw (le-leb w most h)
+
+pub saturated-high : (most w : ℕ) → most < w → most ≡ saturated most w
+saturated-high most w h = rw (lt-leb w most h)
+
 -- the words of a channel allocation, one by one
 pub ten-words : (a : List ℕ) (o : OptChanAlloc) (bits sent : ℕ) → a ≡ allocWords o
     → getD a 0 0 ∷ getD a 1 0 ∷ getD a 2 0 ∷ getD a 3 0 ∷ getD a 4 0 ∷ getD a 5 0 ∷ getD a 6 0 ∷ getD a 7 0 ∷ getD a 8 0 ∷ getD a 9 0 ∷ bits ∷ sent ∷ []
@@ -51,12 +59,15 @@ pub ten-long : (o : OptChanAlloc) → length (allocWords o) ≡ 10
 ten-long OptChanAlloc.Absent = refl
 ten-long (OptChanAlloc.Of c) = refl
 
+pub header-size : (tag : OptU16) (h : QueuedHeader) → length (queuedHeaderWords tag h) ≡ 18
+header-size tag h = ap (λ (n : ℕ). suc (suc (suc (suc (suc (suc (suc (suc n)))))))) (ten-long (h .«chan_alloc_element»))
+
 pub record-size : (r : Record) → length (recordWords r) ≡ recordWordCount
 unfolding recordWords
 record-size r =
-    let e : length (allocWords (r .header .«chan_alloc_element») ++ r .bits ∷ r .sent ∷ [])
-    ≡ 12 = length-append (allocWords (r .header .«chan_alloc_element»)) (r .bits ∷ r .sent ∷ []) ∙ omega (arith, ten-long (r .header .«chan_alloc_element»)) in
-    ap (λ (n : ℕ). suc (suc (suc (suc (suc (suc (suc (suc (suc (suc (suc n))))))))))) e
+    let e : length (queuedHeaderWords (r .tag) (r .header) ++ r .bits ∷ r .sent ∷ []) ≡ 20 =
+    length-append (queuedHeaderWords (r .tag) (r .header)) (r .bits ∷ r .sent ∷ []) ∙ omega (arith, header-size (r .tag) (r .header)) in
+    ap (λ (n : ℕ). suc (suc (suc n))) e
 
 pub no-alloc : (w : ℕ) (ws : List ℕ) → w ≡ 0 → OptChanAlloc.Absent ≡ allocFrom w ws
 no-alloc w ws e = rw e

@@ -3,7 +3,7 @@ use mathlib.Core.Path.{_≡_}
 use mathlib.Core.Bool.{Bool, true, false, _&&_, cond}
 use mathlib.Core.List.{List, [], _∷_, _++_}
 use Prim.Native.Nat.{ℕ, zero, suc, _+_, _*_, _%_, _^_}
-use lib.Dec.{eqb}
+use lib.Dec.{eqb, leb}
 use lib.ListN.{length, getD, drop, replicate}
 use lib.Seq.{sets}
 use Rattle.sizes.specs.Sizes.{timeslots, queuePlaces}
@@ -19,9 +19,10 @@ use Rattle.mac_pdus.specs.declared.OptChanAlloc.{OptChanAlloc}
 use Rattle.dl_record.specs.declared.Kind.{Kind}
 use Rattle.dl_record.specs.declared.QueuedHeader.{QueuedHeader}
 use Rattle.dl_record.specs.declared.Record.{Record}
-use Rattle.dl_record.specs.Record.{emptyHeader}
+use Rattle.dl_record.specs.Record.{emptyHeader, offeredRecord}
 use Rattle.sched_core.specs.declared.Station.{Station}
 use Rattle.sched_core.specs.Station.{stationOf}
+use Rattle.sched_words.specs.Front.{begins}
 
 -- ---- how many words
 
@@ -171,13 +172,15 @@ abbrev pub allocFrom : ℕ → List ℕ → OptChanAlloc
 allocFrom zero ws = OptChanAlloc.Absent
 allocFrom (suc n) ws = OptChanAlloc.Of (allocFields ws)
 
--- words 0 to 3: kind, address kind, number, tag; 4 to 10: the header but for the allocation; 11 to 20: that; 21 and 22: bits, sent
+-- word 3: the tag; 4 to 10: the header but for the allocation; 11 to 20: that
+abbrev pub queuedHeaderWords : OptU16 → QueuedHeader → List ℕ
+queuedHeaderWords tag h =
+    wordOf16 tag ∷ h .«pos_of_grant» ∷ h .«encryption_mode» ∷ h .«random_access_flag» ∷ wordOf16 (h .«event_label») ∷ wordOf8 (h .«usage_marker»)
+    ∷ wordOf8 (h .«power_control_element») ∷ wordOf8 (h .«slot_granting_element») ∷ allocWords (h .«chan_alloc_element»)
+
+-- words 0 to 2: kind, address kind, number; 3 to 20: tag and header; 21 and 22: bits, sent
 unfoldable pub recordWords : Record → List ℕ
-recordWords r =
-    kindWord (r .kind) ∷ r .«address_kind» ∷ r .number ∷ wordOf16
-    (r .tag) ∷ r .header .«pos_of_grant» ∷ r .header .«encryption_mode» ∷ r .header .«random_access_flag»
-    ∷ wordOf16 (r .header .«event_label») ∷ wordOf8 (r .header .«usage_marker») ∷ wordOf8 (r .header .«power_control_element»)
-    ∷ wordOf8 (r .header .«slot_granting_element») ∷ (allocWords (r .header .«chan_alloc_element») ++ r .bits ∷ r .sent ∷ [])
+recordWords r = kindWord (r .kind) ∷ r .«address_kind» ∷ r .number ∷ (queuedHeaderWords (r .tag) (r .header) ++ r .bits ∷ r .sent ∷ [])
 
 abbrev pub headerFrom : List ℕ → QueuedHeader
 headerFrom ws =
@@ -240,6 +243,35 @@ queueFrom ws = cond (sameWords (queueWords (recordsRead ws)) ws) (recordsRead ws
 unfoldable pub recordsFrom : List ℕ → List Record
 recordsFrom ws = cond (eqb (length ws) queueWordCount) (queueFrom ws) []
 
--- the record that words stand for
-unfoldable pub recordFrom : List ℕ → Record
-recordFrom ws = cond (sameWords (recordWords (recordRead ws)) ws) (recordRead ws) noRecord
+-- ---- a record that is offered: its words of kind and sent do not count, and each other word is judged by the question of its field
+
+-- a number that its field does not hold is the greatest that it holds
+abbrev pub saturated : ℕ → ℕ → ℕ
+saturated most w = cond (leb w most) w most
+
+-- are words 3 to 20 those of the tag and the header that are read from them
+abbrev pub headerFits : List ℕ → Bool
+headerFits ws = begins (queuedHeaderWords (optU16 (wordAt ws 3)) (headerFrom ws)) (drop 3 ws)
+
+-- "6. Header legal? Every field within its width; encryption 0 with an address": a header that is refused
+abbrev pub illegalHeader : QueuedHeader
+illegalHeader =
+    record {
+      «pos_of_grant» = 0;
+      «encryption_mode» = 255;
+      «random_access_flag» = 0;
+      «event_label» = OptU16.Absent;
+      «usage_marker» = OptU8.Absent;
+      «power_control_element» = OptU8.Absent;
+      «slot_granting_element» = OptU8.Absent;
+      «chan_alloc_element» = OptChanAlloc.Absent;
+    }
+
+-- Words that no header has get 6. Document 01 has no question for a tag of over 16 bits: it goes with the fields of the header.
+abbrev pub offeredHeader : List ℕ → QueuedHeader
+offeredHeader ws = cond (headerFits ws) (headerFrom ws) illegalHeader
+
+-- An address kind above 255 gets 5, like 255, and bits above 65,535 get 7, like 65,535.
+unfoldable pub offeredFrom : List ℕ → Record
+offeredFrom ws =
+    offeredRecord (saturated 255 (wordAt ws 1)) (wordAt ws 2) (optU16 (wordAt ws 3)) (offeredHeader ws) (saturated 65535 (wordAt ws 21))

@@ -1,11 +1,11 @@
 // The queue as words, RECORD_WORDS for each record.
 use crate::RECORD_WORDS;
 use crate::word;
-use dl_record::Kind;
 use dl_record::QueuedHeader;
 use dl_record::Record;
 use mac_pdus::ChanAllocElement;
 use mac_pdus::OptChanAlloc;
+use optional::OptU8;
 use optional::OptU16;
 use sizes::CELL_OCTETS;
 use sizes::PER_TIMESLOT;
@@ -20,10 +20,10 @@ ghost use Rattle.sizes.specs.Sizes.{perTimeslot, queuePlaces, storeOctets};
 ghost use Rattle.dl_record.specs.Record.{emptyRecord};
 ghost use Rattle.dl_queue.specs.Questions.{soundPlace, soundQueue};
 ghost use Rattle.sched_words.specs.Words.{recordWordCount, queueWordCount, sameWords, wordAt, allocWords, allocFrom, headerFrom, recordWords};
-ghost use Rattle.sched_words.specs.Words.{recordRead, noRecord, recordFrom, queueWords, recordsRead, queueFrom};
+ghost use Rattle.sched_words.specs.Words.{recordRead, queueWords, recordsRead, queueFrom, headerFits, illegalHeader, offeredHeader, offeredFrom};
 ghost use Rattle.sched_words.specs.Front.{begins};
 
-fn alloc_words(o: OptChanAlloc) -> [u32; 10]
+pub fn alloc_words(o: OptChanAlloc) -> [u32; 10]
     ensures { λ r. ⌜ r ≡ allocWords o ⌝ }
 {
     let OptChanAlloc::Of(c) = o else {
@@ -179,23 +179,6 @@ pub fn records_read(words: &[u32], first: usize, n: usize) -> [Record; PER_TIMES
     records
 }
 
-// A record that no place may hold.
-fn no_record() -> Record
-    ensures { λ r. ⌜ r ≡ noRecord ⌝ }
-{
-    let empty = Record::EMPTY;
-    let header = empty.header;
-    Record {
-        kind: Kind::Grant,
-        address_kind: 255,
-        number: 0,
-        tag: OptU16::Absent,
-        header: header,
-        bits: 0,
-        sent: 0,
-    }
-}
-
 // ---- words that are a record's: each fits its field
 
 fn alloc_fits(words: &[u32]) -> bool
@@ -203,8 +186,7 @@ fn alloc_fits(words: &[u32]) -> bool
     ensures { λ r. ⌜ r ≡ begins (allocWords (allocFrom (wordAt (now (words .entry)) 11) (now (words .entry)))) (drop 11 (now (words .entry))) ⌝ }
 {
     if words[11] == 0 {
-        let any = word::any_word(&words[12..21]);
-        return any == 0;
+        return word::all_zero(&words[12..21]);
     }
     (words[11] == 1)
         & (words[12] < 256)
@@ -218,14 +200,12 @@ fn alloc_fits(words: &[u32]) -> bool
         & (words[20] <= 256)
 }
 
-// Are the words those of the record that is read from them? For a number any word will do.
-fn record_fits(words: &[u32]) -> bool
+// Are words 3 to 20 those of the tag and the header that are read from them?
+fn header_fits(words: &[u32]) -> bool
     requires { ⌜ length (now words) ≡ recordWordCount ⌝ }
-    ensures { λ r. ⌜ r ≡ sameWords (recordWords (recordRead (now (words .entry)))) (now (words .entry)) ⌝ }
+    ensures { λ r. ⌜ r ≡ headerFits (now (words .entry)) ⌝ }
 {
-    (words[0] < 5)
-        & (words[1] < 256)
-        & (words[3] <= 65536)
+    (words[3] <= 65536)
         & (words[4] < 256)
         & (words[5] < 256)
         & (words[6] < 256)
@@ -234,19 +214,59 @@ fn record_fits(words: &[u32]) -> bool
         & (words[9] <= 256)
         & (words[10] <= 256)
         & alloc_fits(words)
+}
+
+// Are the words those of the record that is read from them? For a number any word will do.
+fn record_fits(words: &[u32]) -> bool
+    requires { ⌜ length (now words) ≡ recordWordCount ⌝ }
+    ensures { λ r. ⌜ r ≡ sameWords (recordWords (recordRead (now (words .entry)))) (now (words .entry)) ⌝ }
+{
+    (words[0] < 5)
+        & (words[1] < 256)
+        & header_fits(words)
         & (words[21] < 65536)
         & (words[22] < 65536)
 }
 
-// The record that words stand for.
-pub fn record_from(words: &[u32]) -> Record
-    requires { ⌜ length (now words) ≡ recordWordCount ⌝ }
-    ensures { λ r. ⌜ r ≡ recordFrom (now (words .entry)) ⌝ }
+// ---- a record that is offered
+
+// A header that question 6 refuses.
+fn no_header() -> QueuedHeader
+    ensures { λ r. ⌜ r ≡ illegalHeader ⌝ }
 {
-    if !record_fits(words) {
-        return no_record();
+    QueuedHeader {
+        pos_of_grant: 0,
+        encryption_mode: 255,
+        random_access_flag: 0,
+        event_label: OptU16::Absent,
+        usage_marker: OptU8::Absent,
+        power_control_element: OptU8::Absent,
+        slot_granting_element: OptU8::Absent,
+        chan_alloc_element: OptChanAlloc::Absent,
     }
-    record_read(words)
+}
+
+// The header of a record that is offered: words that no header has, and a tag that is too wide, make one that question 6 refuses.
+fn offered_header(words: &[u32]) -> QueuedHeader
+    requires { ⌜ length (now words) ≡ recordWordCount ⌝ }
+    ensures { λ r. ⌜ r ≡ offeredHeader (now (words .entry)) ⌝ }
+{
+    if !header_fits(words) {
+        return no_header();
+    }
+    header_from(words)
+}
+
+// A record that is offered. The words of kind and sent do not count.
+pub fn offered_from(words: &[u32]) -> Record
+    requires { ⌜ length (now words) ≡ recordWordCount ⌝ }
+    ensures { λ r. ⌜ r ≡ offeredFrom (now (words .entry)) ⌝ }
+{
+    let address_kind = word::saturated8(words[1]);
+    let tag = word::opt_u16(words[3]);
+    let header = offered_header(words);
+    let bits = word::saturated16(words[21]);
+    dl_record::offered_record(address_kind, words[2], tag, header, bits)
 }
 
 // ---- question 1 for the words of the queue and the cells
@@ -269,8 +289,7 @@ fn unfilled_is_sound(words: &[u32], cell: &[u8]) -> bool
     ensures { λ b. ⌜ b ≡ sameWords (recordWords (recordRead (now (words .entry)))) (now (words .entry))
         && soundPlace false (recordRead (now (words .entry))) (now (cell .entry)) ⌝ }
 {
-    let any = word::any_word(words);
-    (any == 0) & dl_sdu_store::cell_is_zero(cell)
+    word::all_zero(words) & dl_sdu_store::cell_is_zero(cell)
 }
 
 // The filled places of a timeslot and the others in two loops, each with one test.

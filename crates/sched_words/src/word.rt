@@ -6,11 +6,10 @@ use optional::OptU16;
 use optional::OptU32;
 ghost use mathlib.Core.Path.{_≡_};
 ghost use Prim.Native.Nat.{_+_, _%_, _≤_};
-ghost use lib.Dec.{eqb};
 ghost use lib.ListN.{length};
 ghost use lib.Seq.{sets};
 ghost use Rattle.dl_sdu_store.specs.Cells.{allZero};
-ghost use Rattle.sched_words.specs.Words.{wordOf8, wordOf16, wordOf32, optU8, optU16, optU32, kindWord, kindFrom};
+ghost use Rattle.sched_words.specs.Words.{wordOf8, wordOf16, wordOf32, optU8, optU16, optU32, kindWord, kindFrom, saturated};
 
 // The low 8 bits of a word.
 pub fn low8(w: u32) -> u8
@@ -24,6 +23,26 @@ pub fn low16(w: u32) -> u16
     ensures { λ r. ⌜ r ≡ w % 65536 ⌝ }
 {
     (w % 65536) as u16
+}
+
+// A word, or the greatest number of 8 bits.
+pub fn saturated8(w: u32) -> u8
+    ensures { λ r. ⌜ r ≡ saturated 255 w ⌝ }
+{
+    if 255 < w {
+        return 255;
+    }
+    w as u8
+}
+
+// A word, or the greatest number of 16 bits.
+pub fn saturated16(w: u32) -> u16
+    ensures { λ r. ⌜ r ≡ saturated 65535 w ⌝ }
+{
+    if 65535 < w {
+        return 65535;
+    }
+    w as u16
 }
 
 pub fn opt_u8(w: u32) -> OptU8
@@ -112,15 +131,15 @@ pub fn kind_of(w: u32) -> Kind
 
 // ---- words
 
-// The words, one or-ed to another: 0 exactly if each is 0.
-pub fn any_word(words: &[u32]) -> u32
-    ensures { λ r. ⌜ eqb r 0 ≡ allZero (now (words .entry)) ⌝ }
+// Whether each word is 0: they are or-ed, with no branch for a word.
+pub fn all_zero(words: &[u32]) -> bool
+    ensures { λ r. ⌜ r ≡ allZero (now (words .entry)) ⌝ }
 {
     let mut acc: u32 = 0;
     for i in 0..words.len() {
         acc = acc | words[i];
     }
-    acc
+    acc == 0
 }
 
 // Stores the words of src from at on.

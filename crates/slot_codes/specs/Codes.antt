@@ -10,7 +10,7 @@ use lib.ListN.{getD}
 abbrev pub slotCounts : List ℕ
 slotCounts = 1 ∷ 2 ∷ 3 ∷ 4 ∷ 5 ∷ 6 ∷ 8 ∷ 10 ∷ 13 ∷ 17 ∷ 24 ∷ 34 ∷ 51 ∷ 68 ∷ []
 
--- "Requirement codes 0–15: one half-slot; [the counts]; over 68, taken as 68": the slots that a requirement code asks for; code 0
+-- "Requirement codes 0–15: one half-slot; [..] over 68, taken as 68.": the slots that a requirement code asks for; code 0
 -- asks for (half of) one
 abbrev pub slotsWanted : ℕ → ℕ
 slotsWanted zero = 1
@@ -36,7 +36,7 @@ abbrev pub firstHolding : List ℕ → ℕ → ℕ
 firstHolding [] n = 0
 firstHolding (c ∷ cs) n = cond (ltb c n) (suc (firstHolding cs n)) 0
 
--- "one half-slot; [the counts]; over 68": the code of a need of n slots is that of the least count that holds them; 0 stands for
+-- "one half-slot; [..] over 68": the code of a need of n slots is that of the least count that holds them; 0 stands for
 -- half a slot, and past 68 comes code 15
 abbrev pub codeFor : ℕ → ℕ
 codeFor zero = 0

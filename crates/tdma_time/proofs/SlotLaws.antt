@@ -10,7 +10,7 @@ use lib.Dec.{eqb}
 use borrow.Author.Tests.{eqb-true, eqb-false, ne-eqb, not-true, not-false}
 use Rattle.lists.proofs.Every.{All, all-weaken}
 use Rattle.tdma_time.specs.declared.TdmaTime.{TdmaTime}
-use Rattle.tdma_time.specs.Time.{Valid, slotOf, clock, timeslot, frame, usable, firstOf, framesOn, usableOf}
+use Rattle.tdma_time.specs.Time.{Valid, slotOf, clock, timeslot, frame, usable, usableTime, firstOf, framesOn, usableOf}
 use Rattle.tdma_time.proofs.TimeLaws.{slotOf-frame, clock-add, clock-timeslot}
 
 -- ---- usable slots
@@ -36,7 +36,7 @@ unfolding usable
 usable-cong a b h = rw h
 
 -- `is_usable` tells of a valid time whether its slot is usable
-pub usable-time : (x : TdmaTime) → Valid x → usable (slotOf x) ≡ not (eqb (x .f) 18)
+pub usable-time : (x : TdmaTime) → Valid x → usable (slotOf x) ≡ usableTime x
 unfolding usable
 usable-time x v = rw (slotOf-frame x v)
 

@@ -55,6 +55,10 @@ clock n = n % cycle
 unfoldable pub usable : ℕ → Bool
 usable n = not (eqb (frame n) 18)
 
+-- the same of a time, whatever its fields; where they are in range it is that of its slot (`usable-time`)
+abbrev pub usableTime : TdmaTime → Bool
+usableTime x = not (eqb (x .f) 18)
+
 -- the first slot of timeslot t at or after slot n
 unfoldable pub firstOf : ℕ → ℕ → ℕ
 firstOf t n = n + (t + 3 - n % 4) % 4

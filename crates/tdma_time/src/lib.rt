@@ -1,10 +1,8 @@
 // TDMA time (document 01, "Time"): timeslot, frame, multiframe and hyperframe, counted in that order of speed.
 ghost use mathlib.Core.Path.{_≡_};
-ghost use mathlib.Core.Bool.{not};
 ghost use Prim.Native.Nat.{_+_, _-_, _≤_};
-ghost use lib.Dec.{eqb};
 ghost use Rattle.sizes.specs.Sizes.{timeslots};
-ghost use Rattle.tdma_time.specs.Time.{Valid, valid, slotOf, timeOf, nextTime, fourEarlier, forwardTime};
+ghost use Rattle.tdma_time.specs.Time.{Valid, valid, slotOf, timeOf, usable, usableTime, nextTime, fourEarlier, forwardTime};
 
 pub struct TdmaTime {
     pub t: u8,
@@ -28,7 +26,7 @@ impl TdmaTime {
 
     // Is this a slot that signalling may use?
     pub fn is_usable(self) -> bool
-        ensures { λ r. ⌜ r ≡ not (eqb (self .f) 18) ⌝ }
+        ensures { λ r. ⌜ (r ≡ usableTime self) × (Valid self → r ≡ usable (slotOf self)) ⌝ }
     {
         self.f != 18
     }

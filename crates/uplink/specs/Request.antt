@@ -7,8 +7,6 @@ use Prim.Native.Nat.{ℕ, _+_, _-_}
 use lib.ListN.{take, drop, getD, set}
 use lib.Dec.{eqb, leb}
 use Rattle.sizes.specs.Sizes.{framesSearched, latestDelay}
-use Rattle.questions.specs.declared.Refusal.{Refusal}
-use Rattle.questions.specs.Questions.{refusalNumber}
 use Rattle.optional.specs.declared.OptU8.{OptU8}
 use Rattle.tdma_time.specs.Time.{slotOf, firstOf, framesOn, usableOf, usables}
 use Rattle.slot_codes.specs.Codes.{slotsWanted, wantsHalf, slotsGranted, capacityFor}
@@ -110,11 +108,11 @@ replyTo v ms r noRun = CapReply.NoRun
 replyTo v ms r tooLate = CapReply.TooLate
 replyTo v ms r (grant g) = CapReply.Granted (capacity v (r .code) (g .slots)) (g .delay) (markerOf ms r)
 
--- document 01's number of a reply: 0 done, else the question answered no
+-- "number (0 done)", "Does the run exist? No: 9.", "At most 13 before it? No: 10."
 abbrev pub capNumber : CapReply → ℕ
 capNumber (CapReply.Granted cap delay m) = 0
-capNumber CapReply.NoRun = refusalNumber Refusal.NoRun
-capNumber CapReply.TooLate = refusalNumber Refusal.TooLate
+capNumber CapReply.NoRun = 9
+capNumber CapReply.TooLate = 10
 
 -- "a refusal draws none": only a grant alters table and counters
 unfoldable pub tableAfter : Table → List ℕ → Request → Verdict → Table

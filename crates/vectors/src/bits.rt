@@ -44,7 +44,7 @@ fn copied() {
     show::end();
 }
 
-pub fn run() {
+pub(crate) fn run() {
     eleven_bits();
     sixty_four_bits();
     no_bits_and_low_bits();

@@ -14,7 +14,7 @@ fn with_marker_and_grant() -> Record
 }
 
 // Its PDU in the last 60 bits of a block.
-pub fn run() {
+pub(crate) fn run() {
     let r = with_marker_and_grant();
     if !dl_record::header_is_legal(r) {
         return;

@@ -46,7 +46,7 @@ fn octet(x: u8) {
     show::end();
 }
 
-pub fn run() {
+pub(crate) fn run() {
     for code in 0..17 {
         requirement(code);
     }

@@ -38,7 +38,7 @@ fn written_and_removed() {
     removed(&s, 0, 48);
 }
 
-pub fn run() {
+pub(crate) fn run() {
     wanted(43, 268);
     wanted(48, 268);
     wanted(264, 268);

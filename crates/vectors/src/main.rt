@@ -1,5 +1,6 @@
 // Runs examples of each crate and prints what they answer, a line each; the file `stdout` holds what must be printed.
 mod bits;
+mod blocks;
 mod chunks;
 mod codes;
 mod fill;
@@ -15,4 +16,5 @@ fn main() {
     uplink_requests::run();
     pdus::run();
     chunks::run();
+    blocks::run();
 }

@@ -123,7 +123,7 @@ fn header(h: PduHeader) {
 }
 
 // A block as the reader lists it: the number, and the headers with their bit positions.
-fn read(block: &[u8]) {
+pub(crate) fn read(block: &[u8]) {
     show::word(b"block");
     show::octets(block);
     let b = mac_reader::read_block(block);
@@ -210,6 +210,34 @@ fn longest() -> MacResource {
     }
 }
 
+// A header with a channel allocation of 25 bits, as the Rust wrote it in a block.
+fn allocated() -> MacResource {
+    MacResource {
+        fill_bits: 1,
+        pos_of_grant: 0,
+        encryption_mode: 0,
+        random_access_flag: 0,
+        length_ind: 9,
+        address_kind: AddressKind::Ssi,
+        number: 1,
+        event_label: OptU16::Absent,
+        usage_marker: OptU8::Absent,
+        power_control_element: OptU8::Absent,
+        slot_granting_element: OptU8::Absent,
+        chan_alloc_element: OptChanAlloc::Of(ChanAllocElement {
+            alloc_type: 2,
+            ts_assigned: 5,
+            ul_dl_assigned: 3,
+            clch_permission: 1,
+            cell_change_flag: 0,
+            carrier_num: 0xabc,
+            ext_carrier_num_flag: 0,
+            mon_pattern: 1,
+            frame18_mon_pattern: OptU8::Absent,
+        }),
+    }
+}
+
 // The example block of document 01, the null PDU published in the source, a first fragment, and what is refused.
 fn blocks() {
     let mut block = [0u8; 34];
@@ -221,6 +249,8 @@ fn blocks() {
     block[8] = 0x10;
     read(&block);
     block[33] = 0x01;
+    read(&block);
+    block[33] = 0x08;
     read(&block);
     let mut null = [0u8; 34];
     null[1] = 0x10;
@@ -241,12 +271,13 @@ fn blocks() {
     read(&parts);
 }
 
-pub fn run() {
+pub(crate) fn run() {
     blocks();
     written(0, plain(63, 1));
     written(3, plain(7, 0xffffff));
     written(0, longest());
     written(9, longest());
+    written(0, allocated());
     written(0, plain(0, 1));
     written(0, plain(7, 0x1000000));
     written(54, plain(7, 1));

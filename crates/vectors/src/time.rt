@@ -58,7 +58,7 @@ fn usable(x: TdmaTime) {
     }
 }
 
-pub fn run() {
+pub(crate) fn run() {
     next(TdmaTime {
         t: 1,
         f: 1,

@@ -203,7 +203,7 @@ fn wraps() {
     entry(uplink::advanced(at(b, before)), frame1);
 }
 
-pub fn run() {
+pub(crate) fn run() {
     halves();
     refusals();
     wraps();

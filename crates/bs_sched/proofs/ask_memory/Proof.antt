@@ -18,11 +18,10 @@ use Rattle.dl_queue.specs.Questions.{soundPlace, soundPlaces, soundQueue}
 use Rattle.dl_queue.proofs.PlaceLaws.{queue-many, queue-fail, queue-pass, queue-done, queue-seen}
 use Rattle.dl_queue.proofs.PlaceLaws.{places-start, places-pass, places-fail, places-done, place-seen}
 use Rattle.questions.specs.declared.Refusal.{Refusal}
-use Rattle.questions.specs.Questions.{Question, question, ask}
+use Rattle.questions.specs.Questions.{Question, question, refusalNumber, askedNumber}
 use Rattle.sched_core.specs.Questions.{Memory, memory, memoryQuestions}
 use Rattle.questions.proofs.AskLaws.{said-no, said-yes, FirstYes, first-no, every-yes}
 use Rattle.sched_core.proofs.QuestionLaws.{right-lengths, other-places, other-octets}
-use Rattle.bs_sched.specs.declared.Passage.{Passage}
 use Rattle.bs_sched.proofs.ask_memory.Statement.{statement}
 use Rattle.bs_sched.proofs.ask_memory.Proof.Tie as tie
 
@@ -109,7 +108,7 @@ module _ (s : tie.Start Inv-loop2 μ-loop2 Inv-loop3 μ-loop3 Inv-loop μ-loop) 
   all = memory (s .args .s) (s .args .queue .now) (s .args .store .now)
 
   abbrev questions : List Question
-  questions = memoryQuestions all (question (s .args .lent) Refusal.Lengths ∷ [])
+  questions = memoryQuestions all (question (s .args .lent) 2 ∷ [])
 
 -- what they have told where the timeslots are walked
 abbrev start : tie.Else4 Inv-loop2 μ-loop2 Inv-loop3 μ-loop3 Inv-loop μ-loop → tie.Start Inv-loop2 μ-loop2 Inv-loop3 μ-loop3 Inv-loop μ-loop
@@ -125,27 +124,27 @@ yes c =
 -- records or cells that are not sound
 unsound : (c : tie.Else4 Inv-loop2 μ-loop2 Inv-loop3 μ-loop3 Inv-loop μ-loop)
     → let s = start c in false ≡ soundQueue (s .args .s .queued) (s .args .queue .now) (s .args .store .now)
-    → Passage.No Refusal.Unsound ≡ ask (questions s) Passage.Passed Passage.No
-unsound c e = first-no Passage.Passed Passage.No 3 (questions (start c)) (yes c) (sym e)
+    → refusalNumber Refusal.Unsound ≡ askedNumber (questions s)
+unsound c e = first-no 0 (λ n. n) 3 (questions (start c)) (yes c) (sym e)
 
 returns : tie.Need-returns Inv-loop2 μ-loop2 Inv-loop3 μ-loop3 Inv-loop μ-loop
 returns c =
     let k = c .before in
     let s = k .before .before in
-    first-no Passage.Passed Passage.No 0 (questions s) tt (said-no (k .station-is-sound .ensures) (c .if1 .taken))
+    first-no 0 (λ n. n) 0 (questions s) tt (said-no (k .station-is-sound .ensures) (c .if1 .taken))
 
 returns-2 : tie.Need-returns-2 Inv-loop2 μ-loop2 Inv-loop3 μ-loop3 Inv-loop μ-loop
 returns-2 c =
     let k = c .before .before in
     let s = k .before .before in
-    first-no Passage.Passed Passage.No 1 (questions s) (tt, said-yes (k .station-is-sound .ensures) (c .before .if1 .left))
+    first-no 0 (λ n. n) 1 (questions s) (tt, said-yes (k .station-is-sound .ensures) (c .before .if1 .left))
     (other-places (all s) (c .if2 .taken))
 
 returns-3 : tie.Need-returns-3 Inv-loop2 μ-loop2 Inv-loop3 μ-loop3 Inv-loop μ-loop
 returns-3 c =
     let k = c .before .before .before in
     let s = k .before .before in
-    first-no Passage.Passed Passage.No 1 (questions s) (tt, said-yes (k .station-is-sound .ensures) (c .before .before .if1 .left))
+    first-no 0 (λ n. n) 1 (questions s) (tt, said-yes (k .station-is-sound .ensures) (c .before .before .if1 .left))
     (other-octets (all s) (c .before .if2 .left) (c .if3 .taken))
 
 returns-4 : tie.Need-returns-4 Inv-loop2 μ-loop2 Inv-loop3 μ-loop3 Inv-loop μ-loop
@@ -153,7 +152,7 @@ returns-4 c =
     let e = c .before in
     let k = e .before .before .before in
     let s = k .before .before in
-    first-no Passage.Passed Passage.No 2 (questions s)
+    first-no 0 (λ n. n) 2 (questions s)
     ((tt, said-yes (k .station-is-sound .ensures) (e .before .before .if1 .left)), right-lengths (all s) (e .before .if2 .left) (e .if3 .left))
     (not-true _ (c .if4 .taken))
 
@@ -276,7 +275,7 @@ returns-8 : tie.Need-returns-8 Inv-loop2 μ-loop2 Inv-loop3 μ-loop3 Inv-loop μ
 returns-8 c =
     let l = c .before in
     let a = start (l .before .before) .args in
-    every-yes Passage.Passed Passage.No (questions (start (l .before .before)))
+    every-yes 0 (λ n. n) (questions (start (l .before .before)))
     (yes (l .before .before), sym (queue-done (a .s .queued) _ _ (l .loop .t) (omega (arith, l .loop .inv .1 .0)) ∙ l .loop .inv .1 .2))
 
 pub ask-memory-spec : {M : Type 1} → statement M

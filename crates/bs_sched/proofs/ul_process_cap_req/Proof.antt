@@ -3,7 +3,6 @@ mod Lts
 mod Tie
 use mathlib.Core.Bool.{true}
 use borrow.Author.Needs.{needs}
-use Rattle.sched_core.specs.declared.RequestReply.{RequestReply}
 use Rattle.sched_core.specs.Calls.{requestCall}
 use Rattle.sched_enqueue.proofs.PlanLaws.{Told}
 use Rattle.bs_sched.proofs.EntryLaws.{told, plan-refused, plan-stored}
@@ -19,7 +18,7 @@ returns c =
     let k = c .before in
     let q = k .before .before in
     let a = start q .args in
-    plan-refused (a .s) (a .queue .now) (a .store .now) RequestReply.Refused _ _ (q .ask-memory .ensures) (k .passage .given .1)
+    plan-refused (a .s) (a .queue .now) (a .store .now) _ _ (q .ask-memory .ensures) (k .passage .given .1)
 
 -- the questions are answered yes
 passed : (c : tie.After-enum-told) → let a = start (c .before .before) .args in Told (a .s) (a .queue .now) (a .store .now) true

@@ -1,10 +1,10 @@
 -- Exit by exit. Assumes nothing.
 use borrow.Author.Needs.{needs}
-use borrow.Author.Tests.{ne-eqb, eqb-true}
+use borrow.Author.Tests.{eqb-true}
 use native.Mathlib.Omega.{arith}
 use mathlib.Core.Path.{_≡_, sym, ap, subst, _∙_}
 use mathlib.Core.Bool.{true, not, _&&_}
-use mathlib.Core.List.{List, _++_}
+use mathlib.Core.List.{List, [], _++_}
 use Prim.Native.Nat.{ℕ, _+_, _-_, _*_, _<_, _≤_}
 use lib.Dec.{eqb, ltb}
 use lib.ListN.{length, getD, set, take, drop, replicate}
@@ -26,8 +26,9 @@ use Rattle.sched_core.proofs.StationLaws.{sound-time}
 use Rattle.sched_enqueue.proofs.PlanLaws.{Told}
 use Rattle.sched_build.proofs.BuildCallLaws.{builds-now, current-is, count-few, can-build, plan-now, records-sound, records-behind}
 use Rattle.sched_words.specs.Words.{recordWordCount, stationWords, stationFrom, queueWords, recordsFrom}
-use Rattle.bs_sched_c.specs.Exports.{builtLeft}
+use Rattle.bs_sched_c.specs.Exports.{notBuiltStruct, buildWordsLeft, builtLeft}
 use Rattle.bs_sched_c.proofs.AskedLaws.{all-words, asked-yes, four-counts, as-read}
+use Rattle.bs_sched_c.proofs.LeftLaws.{no-station}
 use Rattle.bs_sched_c.proofs.BuildLeftLaws.{build-no, build-none, build-built}
 use Rattle.bs_sched_c.proofs.bs_sched_build.Statement.{statement}
 use Rattle.bs_sched_c.proofs.bs_sched_build.Tie as tie
@@ -57,7 +58,12 @@ valid c = sound-time (station c) (passed c .station)
 
 returns : tie.Need-returns
 unfolding builtLeft
-returns c = rw (c .not-built .ensures, c .before .other-length .ensures, ne-eqb _ _ (c .before .before .if1 .taken))
+returns c =
+    let t = c .before .before in
+    let a = t .before .before .before .before .before .args in
+    let ws = a .station .now in
+    rw (c .not-built .ensures, c .before .other-length .ensures)
+    (no-station ws _ (λ (n : ℕ). buildWordsLeft (notBuiltStruct n) ws (a .queue .now) (a .store .now) (a .block .now)) [] (t .if1 .taken))
 
 returns-2 : tie.Need-returns-2
 unfolding builtLeft

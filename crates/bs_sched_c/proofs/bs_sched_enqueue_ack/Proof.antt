@@ -1,17 +1,17 @@
 -- Exit by exit. Assumes nothing.
 use borrow.Author.Needs.{needs}
-use borrow.Author.Tests.{ne-eqb}
-use mathlib.Core.Path.{refl, sym, _∙_}
+use mathlib.Core.Path.{refl, sym, ap, _∙_}
 use mathlib.Core.Bool.{true}
-use Rattle.sched_core.specs.declared.Reply.{Reply}
+use mathlib.Core.List.{List, []}
+use Prim.Native.Nat.{ℕ}
 use Rattle.sched_core.specs.Questions.{Memory}
 use Rattle.sched_core.specs.Calls.{Outcome, ackCall}
-use Rattle.sched_enqueue.specs.Plan.{planOf, QueuePlanned}
-use Rattle.sched_enqueue.proofs.PlanLaws.{Told}
+use Rattle.sched_enqueue.specs.Plan.{QueuePlanned, ackQueued, planOf}
+use Rattle.sched_enqueue.proofs.PlanLaws.{Told, ack-planned}
 use Rattle.sched_words.specs.Words.{stationFrom, recordsFrom}
-use Rattle.bs_sched_c.specs.Exports.{ackLeft}
+use Rattle.bs_sched_c.specs.Exports.{left, ackLeft}
 use Rattle.bs_sched_c.proofs.AskedLaws.{all-words, asked-yes}
-use Rattle.bs_sched_c.proofs.LeftLaws.{queueReplies, by-counts, exit-no, exit-refused, exit-done}
+use Rattle.bs_sched_c.proofs.LeftLaws.{no-station, queueReplies, exit-no, exit-refused, exit-done}
 use Rattle.bs_sched_c.proofs.bs_sched_enqueue_ack.Statement.{statement}
 use Rattle.bs_sched_c.proofs.bs_sched_enqueue_ack.Tie as tie
 
@@ -30,7 +30,7 @@ passed c = asked-yes _ _ _ true _ (c .before .memory-number .ensures) (c .if2 .l
 abbrev asked : tie.After-ack-joins → tie.Else2
 asked p = p .before .before .before
 
-abbrev called : tie.After-ack-joins → Memory → Outcome Reply
+abbrev called : tie.After-ack-joins → Memory → Outcome
 called p m = let a = start (asked p .before) .args in ackCall m (a .timeslot) (a .kind) (a .number)
 
 -- the plan is that of the station that the words stand for
@@ -41,12 +41,17 @@ planned : (p : tie.After-ack-joins)
 planned p =
     let a = start (asked p .before) .args in
     let s = stationFrom (a .station .now) in
-    by-counts s _ (p .before .queued-of .ensures) (called p) (a .store .now) (a .store .now) (planOf (s .uplink) (p .ack-joins .result))
-    (p .ack-joins .ensures (s .uplink) (a .store .now)) (passed (asked p) .station)
+    ack-planned s (a .store .now) (a .timeslot) (a .kind) (a .number) (planOf (s .uplink) (p .ack-joins .result)) (passed (asked p) .station) refl
+    (p .ack-joins .ensures (a .store .now)
+    ∙ ap (λ (l : List ℕ). ackQueued l (a .store .now) (a .timeslot) (a .kind) (a .number)) (p .before .queued-of .ensures))
 
 returns : tie.Need-returns
 unfolding ackLeft
-returns c = rw (c .other-length .ensures, ne-eqb _ _ (c .before .if1 .taken))
+returns c =
+    let t = c .before in
+    let a = t .before .before .before .before .args in
+    rw (c .other-length .ensures)
+    (no-station (a .station .now) _ (λ (n : ℕ). left n (a .station .now) (a .queue .now) (a .store .now)) [] (t .if1 .taken))
 
 returns-2 : tie.Need-returns-2
 unfolding ackLeft ackCall

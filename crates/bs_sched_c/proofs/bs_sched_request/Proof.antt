@@ -1,9 +1,8 @@
 -- Exit by exit. Assumes nothing.
 use borrow.Author.Needs.{needs}
-use borrow.Author.Tests.{ne-eqb}
 use mathlib.Core.Path.{refl, ap, subst}
 use mathlib.Core.Bool.{true}
-use mathlib.Core.List.{List}
+use mathlib.Core.List.{List, []}
 use Prim.Native.Nat.{ℕ}
 use native.Mathlib.Omega.{arith}
 use Rattle.questions.proofs.NumberLaws.{number-positive}
@@ -11,16 +10,17 @@ use Rattle.uplink.specs.Functions.{withRowOf}
 use Rattle.sched_core.specs.declared.Station.{Station}
 use Rattle.sched_core.specs.Station.{stationOf}
 use Rattle.sched_core.specs.Questions.{Memory}
-use Rattle.sched_core.specs.Calls.{Outcome, requestNumber, requestCall}
+use Rattle.sched_core.specs.Replies.{replyNumber, requestReply}
+use Rattle.sched_core.specs.Calls.{Outcome, requestCall}
 use Rattle.sched_core.specs.declared.RequestReply.{RequestReply}
 use Rattle.sched_enqueue.specs.Plan.{Planned}
 use Rattle.sched_enqueue.proofs.PlanLaws.{Told}
 use Rattle.sched_request.specs.RequestPlan.{RequestPlanned}
 use Rattle.sched_request.proofs.RowPlan.{row-station-sound, row-planned}
 use Rattle.sched_words.specs.Words.{stationFrom, recordsFrom}
-use Rattle.bs_sched_c.specs.Exports.{requestLeft}
+use Rattle.bs_sched_c.specs.Exports.{notGrantedStruct, left, requestLeft}
 use Rattle.bs_sched_c.proofs.AskedLaws.{all-words, asked-yes}
-use Rattle.bs_sched_c.proofs.LeftLaws.{grantReplies, exit-no, exit-refused, exit-done}
+use Rattle.bs_sched_c.proofs.LeftLaws.{no-station, grantReplies, exit-no, exit-refused, exit-done}
 use Rattle.bs_sched_c.proofs.bs_sched_request.Statement.{statement}
 use Rattle.bs_sched_c.proofs.bs_sched_request.Tie as tie
 
@@ -39,12 +39,15 @@ passed c = asked-yes _ _ _ true _ (c .before .memory-number .ensures) (c .if2 .l
 abbrev asked : tie.After-request-plan → tie.Else2
 asked p = p .before .before .before .before
 
-abbrev called : tie.After-request-plan → Memory → Outcome RequestReply
+abbrev called : tie.After-request-plan → Memory → Outcome
 called p m = let a = start (asked p .before) .args in requestCall m (a .timeslot) (a .code) (a .kind) (a .number)
 
 -- the number of the plan's reply
+abbrev numbered : RequestReply → ℕ
+numbered y = replyNumber (requestReply y)
+
 abbrev number : tie.After-request-plan → ℕ
-number p = requestNumber (p .request-plan .result .reply)
+number p = numbered (p .request-plan .result .reply)
 
 -- the station that the words stand for, and the row that is read of it
 abbrev whole : tie.After-request-plan → Station
@@ -56,7 +59,7 @@ row p = p .before .before .before .row-of .result
 -- the plan on that row, with the row put back, is the plan on the station
 planned : (p : tie.After-request-plan) (st : List ℕ)
     → let q = p .request-plan .result in
-    Planned requestNumber (called p) (whole p) st st (q .reply) (stationOf (withRowOf (whole p .uplink) (row p) (q .station .uplink)) (q .station .queued))
+    Planned (called p) (whole p) st st (requestReply (q .reply)) (stationOf (withRowOf (whole p .uplink) (row p) (q .station .uplink)) (q .station .queued))
     (q .place) (q .«record»)
 planned p =
     let a = start (asked p .before) .args in
@@ -66,7 +69,11 @@ planned p =
 
 returns : tie.Need-returns
 unfolding requestLeft
-returns c = rw (c .not-granted .ensures, c .before .other-length .ensures, ne-eqb _ _ (c .before .before .if1 .taken))
+returns c =
+    let t = c .before .before in
+    let a = t .before .before .before .before .args in
+    rw (c .not-granted .ensures, c .before .other-length .ensures)
+    (no-station (a .station .now) _ (λ (n : ℕ). left (notGrantedStruct n) (a .station .now) (a .queue .now) (a .store .now)) [] (t .if1 .taken))
 
 returns-2 : tie.Need-returns-2
 unfolding requestLeft requestCall
@@ -91,7 +98,7 @@ returns-3 c =
     let p = g .before in
     let t = asked p in
     let a = start (t .before) .args in
-    let n = ap requestNumber (c .enum-told2 .given .1) in
+    let n = ap numbered (c .enum-told2 .given .1) in
     exit-refused grantReplies (a .station .now) (a .queue .now) (a .store .now) (sized (t .before) .if1 .left) (passed t .queue) (called p) _ _ _ _ _
     (planned p (a .store .now)) (number p) refl _ (g .grant-of .ensures) (λ z. omega (arith, z, n, number-positive (c .enum-told2 .given .0 .0)))
 
@@ -106,7 +113,7 @@ put-record-requires c κs =
     let p = n .before .before .before in
     let t = asked p in
     let a = start (t .before) .args in
-    (planned p (a .store .now) .joins (ap requestNumber (n .enum-told .given .1)), all-words (a .queue .now) (passed t .queue .places))
+    (planned p (a .store .now) .joins (ap numbered (n .enum-told .given .1)), all-words (a .queue .now) (passed t .queue .places))
 
 returns-4 : tie.Need-returns-4
 unfolding requestLeft
@@ -119,7 +126,7 @@ returns-4 c =
     let t = asked p in
     let a = start (t .before) .args in
     exit-done grantReplies (a .station .now) (a .queue .now) (a .store .now) (sized (t .before) .if1 .left) (passed t .queue) (called p) _ _ _ _ _
-    (planned p (a .store .now)) (number p) refl _ (g .grant-of .ensures) (ap requestNumber (n .enum-told .given .1)) _ _
+    (planned p (a .store .now)) (number p) refl _ (g .grant-of .ensures) (ap numbered (n .enum-told .given .1)) _ _
     (v .put-row-of .ensures) (w .put-record .ensures)
 
 pub bs-sched-request-spec : {M : Type 1} → statement M

@@ -3,8 +3,7 @@ use borrow.Author.Needs.{needs}
 use borrow.Author.Tests.{not-true, not-false}
 use mathlib.Core.Path.{_≡_, _∙_}
 use mathlib.Core.List.{List, [], _∷_}
-use Rattle.questions.specs.declared.Refusal.{Refusal}
-use Rattle.questions.specs.Questions.{Question, question, refusalNumber}
+use Rattle.questions.specs.Questions.{Question, question}
 use Rattle.questions.proofs.AskLaws.{said-no, said-yes, FirstYes, first-no, every-yes}
 use Rattle.dl_queue.specs.Questions.{soundQueue}
 use Rattle.sched_core.specs.Questions.{Memory, memory, memoryQuestions}
@@ -21,12 +20,12 @@ abbrev all : tie.Start → Memory
 all s = memory (stationFrom (s .args .station .now)) (recordsFrom (s .args .queue .now)) (s .args .store .now)
 
 abbrev asked : tie.Start → List Question
-asked s = memoryQuestions (all s) (question (s .args .lent) Refusal.Lengths ∷ [])
+asked s = memoryQuestions (all s) (question (s .args .lent) 2 ∷ [])
 
 returns : tie.Need-returns
 returns c =
     let k = c .before .before in
-    c .number .ensures ∙ first-no 0 refusalNumber 0 (asked (start k)) tt (said-no (k .station-is-sound .ensures) (c .before .if1 .taken))
+    c .number .ensures ∙ first-no 0 (λ n. n) 0 (asked (start k)) tt (said-no (k .station-is-sound .ensures) (c .before .if1 .taken))
 
 yes1 : (c : tie.Else1) → FirstYes 1 (asked (start (c .before)))
 yes1 c = (tt, said-yes (c .before .station-is-sound .ensures) (c .if1 .left))
@@ -35,14 +34,14 @@ returns-2 : tie.Need-returns-2
 returns-2 c =
     let e = c .before .before in
     let s = start (e .before) in
-    c .number2 .ensures ∙ first-no 0 refusalNumber 1 (asked s) (yes1 e) (other-places (all s) (no-records (s .args .queue .now) (c .before .if2 .taken)))
+    c .number2 .ensures ∙ first-no 0 (λ n. n) 1 (asked s) (yes1 e) (other-places (all s) (no-records (s .args .queue .now) (c .before .if2 .taken)))
 
 returns-3 : tie.Need-returns-3
 returns-3 c =
     let e = c .before .before in
     let s = start (e .before .before) in
     c .number3 .ensures
-    ∙ first-no 0 refusalNumber 1 (asked s) (yes1 (e .before)) (other-octets (all s) (all-places (s .args .queue .now) (e .if2 .left)) (c .before .if3 .taken))
+    ∙ first-no 0 (λ n. n) 1 (asked s) (yes1 (e .before)) (other-octets (all s) (all-places (s .args .queue .now) (e .if2 .left)) (c .before .if3 .taken))
 
 yes2 : (c : tie.Else3) → FirstYes 2 (asked (start (c .before .before .before)))
 yes2 c =
@@ -52,7 +51,7 @@ yes2 c =
 returns-4 : tie.Need-returns-4
 returns-4 c =
     let e = c .before .before in
-    c .number4 .ensures ∙ first-no 0 refusalNumber 2 (asked (start (e .before .before .before))) (yes2 e) (not-true _ (c .before .if4 .taken))
+    c .number4 .ensures ∙ first-no 0 (λ n. n) 2 (asked (start (e .before .before .before))) (yes2 e) (not-true _ (c .before .if4 .taken))
 
 yes3 : (c : tie.Else4) → FirstYes 3 (asked (start (c .before .before .before .before)))
 yes3 c = (yes2 (c .before), not-false _ (c .if4 .left))
@@ -74,13 +73,13 @@ returns-5 : tie.Need-returns-5
 returns-5 c =
     let q = c .before .before in
     let e = q .before .before in
-    c .number5 .ensures ∙ first-no 0 refusalNumber 3 (asked (start (e .before .before .before .before))) (yes3 e) (said-no (told q) (c .before .if5 .taken))
+    c .number5 .ensures ∙ first-no 0 (λ n. n) 3 (asked (start (e .before .before .before .before))) (yes3 e) (said-no (told q) (c .before .if5 .taken))
 
 returns-6 : tie.Need-returns-6
 returns-6 c =
     let q = c .before in
     let e = q .before .before in
-    every-yes 0 refusalNumber (asked (start (e .before .before .before .before))) (yes3 e, said-yes (told q) (c .if5 .left))
+    every-yes 0 (λ n. n) (asked (start (e .before .before .before .before))) (yes3 e, said-yes (told q) (c .if5 .left))
 
 pub memory-number-spec : {M : Type 1} → statement M
 memory-number-spec =

@@ -18,7 +18,7 @@ returns-2 c =
     let a = c .before .before .before .before in
     let s : List ℕ = a .args .cell .now in
     let n : ℕ = a .args .bits in
-    ap (λ (t : Bool). eqb (getD s (n / 8) 0 * 2 ^ (n % 8) % 2 ^ 8) 0 && t) (c .any-bit-from .ensures)
+    ap (λ (t : Bool). eqb (getD s (n / 8) 0 * 2 ^ (n % 8) % 2 ^ 8) 0 && t) (c .all-zero-from .ensures)
     ∙ clean-split s n (λ i. c .before .before .before .shared-slice-known .given i .fits) (c .before .before .if1 .left)
 
 pub cell-is-clean-spec : {M : Type 1} → statement M

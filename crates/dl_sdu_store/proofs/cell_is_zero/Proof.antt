@@ -8,7 +8,7 @@ use Rattle.dl_sdu_store.proofs.cell_is_zero.Tie as tie
 
 returns : tie.Need-returns
 unfolding cleanPast
-returns c = c .any-bit .ensures ∙ sym (zero-bitsOf _ (λ i. c .before .shared-slice-known .given i .fits))
+returns c = c .all-zero .ensures ∙ sym (zero-bitsOf _ (λ i. c .before .shared-slice-known .given i .fits))
 
 pub cell-is-zero-spec : {M : Type 1} → statement M
 cell-is-zero-spec = tie.close (tie.spec (λ c κs. search needs) returns)

@@ -1,8 +1,12 @@
 -- The state and the time are judged, then the table is read. Assumes nothing.
+use mathlib.Core.Path.{_∙_}
 use borrow.Author.Needs.{needs}
+use Rattle.tdma_time.specs.Time.{slotOf}
 use Rattle.tdma_time.proofs.TimeLaws.{true-valid}
+use Rattle.uplink.specs.UplinkEntry.{entryAt}
 use Rattle.sched_core.specs.Calls.{usageCall}
 use Rattle.questions.proofs.AskLaws.{said-no, said-yes, first-no, every-yes}
+use Rattle.sched_core.proofs.ReplyLaws.{usage-numbered}
 use Rattle.sched_core.proofs.ul_get_usage.Statement.{statement}
 use Rattle.sched_core.proofs.ul_get_usage.Tie as tie
 
@@ -23,8 +27,9 @@ returns-3 : tie.Need-returns-3
 unfolding usageCall
 returns-3 c =
     let k = c .before .before in
+    let a = k .before .before .before .before .args in
     rw (c .ul-get-usage .ensures)
-    (every-yes _ _ _ (
+    (usage-numbered (entryAt (a .s .uplink .rows) (slotOf (a .ts))) ∙ every-yes _ _ _ (
       (tt, said-yes (k .before .before .before .station-is-sound .ensures) (k .before .before .if1 .left)),
       said-yes
           (k .before .is-valid .ensures) (k .if2 .left),

@@ -1,25 +1,19 @@
 -- Its own questions in order, then the place behind those queued, and its cell. Assumes nothing.
-use mathlib.Core.Path.{_≡_, refl, sym, ap, _∙_, subst}
+use mathlib.Core.Path.{_≡_, ap, _∙_}
 use mathlib.Core.List.{List}
 use Prim.Native.Nat.{ℕ, _*_, _≤_}
 use native.Mathlib.Omega.{arith}
 use lib.Seq.{paste}
 use Rattle.sizes.specs.Sizes.{timeslots, cellOctets}
 use Rattle.questions.specs.Questions.{Question}
-use Rattle.questions.proofs.AskLaws.{said-no, said-yes, FirstYes}
-use Rattle.uplink.specs.declared.Uplink.{Uplink}
+use Rattle.questions.proofs.AskLaws.{said-no, said-yes, FirstYes, first-no, every-yes}
 use Rattle.dl_record.specs.declared.Record.{Record}
 use Rattle.dl_record.specs.Record.{offeredRecord}
 use Rattle.dl_sdu_store.specs.Cells.{cellOf}
-use Rattle.sched_core.specs.declared.Station.{Station}
-use Rattle.sched_core.specs.declared.Reply.{Reply}
-use Rattle.sched_core.specs.Station.{stationOf}
 use Rattle.sched_core.specs.Questions.{queuedFor, tmaQuestions}
-use Rattle.sched_core.specs.Calls.{replyNumber, tmaCall}
 use Rattle.sched_core.proofs.QuestionLaws.{timeslot-range, sdu-range, room-left}
 use Rattle.sched_enqueue.specs.declared.Joining.{Joining}
-use Rattle.sched_enqueue.specs.Plan.{joinedJoining, planOf, QueuePlanned}
-use Rattle.sched_enqueue.proofs.PlanLaws.{next-place-below, no-planned, yes-planned, joined-planned}
+use Rattle.sched_enqueue.specs.Plan.{tmaQueued, joinedQueued, joinedJoining}
 use borrow.Author.Needs.{needs}
 use Rattle.sched_enqueue.proofs.tma_joins.Statement.{statement}
 use Rattle.sched_enqueue.proofs.tma_joins.Tie as tie
@@ -27,21 +21,15 @@ use Rattle.sched_enqueue.proofs.tma_joins.Tie as tie
 abbrev offered : tie.Start → Record
 offered s = offeredRecord (s .args .kind) (s .args .number) (s .args .tag) (s .args .header) (s .args .bits)
 
-abbrev own : tie.Start → Station → List Question
-own s x = tmaQuestions (queuedFor (x .queued) (s .args .timeslot)) (s .args .timeslot) (offered s) (s .args .sdu .now)
-
--- a station with these counts
-abbrev at : tie.Start → Uplink → Station
-at s u = stationOf u (s .args .queued)
-
-abbrev Plans : tie.Start → Uplink → List ℕ → Joining → Type 0
-Plans s u after j =
-    QueuePlanned (λ m. tmaCall m (s .args .timeslot) (s .args .kind) (s .args .number) (s .args .tag) (s .args .header) (s .args .bits) (s .args .sdu .now))
-    (at s u) (s .args .store .now) after (planOf u j)
+abbrev own : tie.Start → List Question
+own s = tmaQuestions (queuedFor (s .args .queued) (s .args .timeslot)) (s .args .timeslot) (offered s) (s .args .sdu .now)
 
 -- the first k of its own questions are answered yes
 abbrev Yes : ℕ → tie.Start → Type 0
-Yes k s = FirstYes k (tmaQuestions (queuedFor (s .args .queued) (s .args .timeslot)) (s .args .timeslot) (offered s) (s .args .sdu .now))
+Yes k s = FirstYes k (own s)
+
+same-queued : {p q : Joining} {st st' : List ℕ} → p ≡ q → st ≡ st' → joinedQueued p st ≡ joinedQueued q st'
+same-queued e h = λ i. joinedQueued (e i) (h i)
 
 yes1 : (c : tie.Else1) → Yes 1 (c .before .before .before .before)
 yes1 c = (tt, said-yes (c .before .timeslot-is-legal .ensures) (c .if1 .left))
@@ -63,40 +51,37 @@ yes5 : (c : tie.Else5) → Yes 5 (c .before .before .before .before .before .bef
 yes5 c = (yes4 (c .before .before), said-yes (c .before .has-room .ensures) (c .if5 .left))
 
 returns : tie.Need-returns
-unfolding tmaCall
-returns c u good =
+unfolding tmaQueued
+returns c =
     let k = c .before .before in
     let s = k .before .before .before in
-    subst (Plans s u _) (sym (c .refused .ensures))
-    (no-planned replyNumber (at s u) (s .args .store .now) Reply.Refused (own s) _ good 0 (λ r. refl) tt
-    (said-no (k .timeslot-is-legal .ensures) (c .before .if1 .taken)))
+    ap (λ (j : Joining). joinedQueued j (s .args .store .now)) (c .refused .ensures)
+    ∙ first-no _ _ 0 (own s) tt (said-no (k .timeslot-is-legal .ensures) (c .before .if1 .taken))
 
 returns-2 : tie.Need-returns-2
-unfolding tmaCall
-returns-2 c u good =
+unfolding tmaQueued
+returns-2 c =
     let k = c .before .before in
     let s = k .before .before .before .before .before in
-    subst (Plans s u _) (sym (c .refused2 .ensures))
-    (no-planned replyNumber (at s u) (s .args .store .now) Reply.Refused (own s) _ good 1 (λ r. refl) (yes1 (k .before))
-    (said-no (k .address-is-legal .ensures) (c .before .if2 .taken)))
+    ap (λ (j : Joining). joinedQueued j (s .args .store .now)) (c .refused2 .ensures)
+    ∙ first-no _ _ 1 (own s) (yes1 (k .before)) (said-no (k .address-is-legal .ensures) (c .before .if2 .taken))
 
 returns-3 : tie.Need-returns-3
-unfolding tmaCall
-returns-3 c u good =
+unfolding tmaQueued
+returns-3 c =
     let k = c .before .before in
     let s = k .before .before .before .before .before .before .before .before in
     let illegal = said-no (rw (k .before .offered-record .ensures) at (k .offered-header-is-legal .ensures)) (c .before .if3 .taken) in
-    subst (Plans s u _) (sym (c .refused3 .ensures))
-    (no-planned replyNumber (at s u) (s .args .store .now) Reply.Refused (own s) _ good 2 (λ r. refl) (yes2 (k .before .before)) illegal)
+    ap (λ (j : Joining). joinedQueued j (s .args .store .now)) (c .refused3 .ensures)
+    ∙ first-no _ _ 2 (own s) (yes2 (k .before .before)) illegal
 
 returns-4 : tie.Need-returns-4
-unfolding tmaCall
-returns-4 c u good =
+unfolding tmaQueued
+returns-4 c =
     let k = c .before .before in
     let s = k .before .before .before .before .before .before .before .before .before .before in
-    subst (Plans s u _) (sym (c .refused4 .ensures))
-    (no-planned replyNumber (at s u) (s .args .store .now) Reply.Refused (own s) _ good 3 (λ r. refl) (yes3 (k .before))
-    (said-no (k .sdu-is-present .ensures) (c .before .if4 .taken)))
+    ap (λ (j : Joining). joinedQueued j (s .args .store .now)) (c .refused4 .ensures)
+    ∙ first-no _ _ 3 (own s) (yes3 (k .before)) (said-no (k .sdu-is-present .ensures) (c .before .if4 .taken))
 
 range : (c : tie.Else1) → let s = c .before .before .before .before in (1 ≤ s .args .timeslot) × (s .args .timeslot ≤ timeslots)
 range c = timeslot-range _ (said-yes (c .before .timeslot-is-legal .ensures) (c .if1 .left))
@@ -105,13 +90,12 @@ has-room-requires : tie.Need-has-room-requires
 has-room-requires c κs = range (c .before .before .before .before .before .before .before)
 
 returns-5 : tie.Need-returns-5
-unfolding tmaCall
-returns-5 c u good =
+unfolding tmaQueued
+returns-5 c =
     let k = c .before .before in
     let s = k .before .before .before .before .before .before .before .before .before .before .before .before in
-    subst (Plans s u _) (sym (c .refused5 .ensures))
-    (no-planned replyNumber (at s u) (s .args .store .now) Reply.Refused (own s) _ good 4 (λ r. refl) (yes4 (k .before))
-    (said-no (k .has-room .ensures) (c .before .if5 .taken)))
+    ap (λ (j : Joining). joinedQueued j (s .args .store .now)) (c .refused5 .ensures)
+    ∙ first-no _ _ 4 (own s) (yes4 (k .before)) (said-no (k .has-room .ensures) (c .before .if5 .taken))
 
 joined-requires : tie.Need-joined-requires
 joined-requires c κs =
@@ -127,22 +111,17 @@ write-cell-requires c κs =
     (omega (arith, c .before .joined .ensures .1, s .pre), p .0, p .1)
 
 returns-6 : tie.Need-returns-6
-unfolding tmaCall
-returns-6 c u good =
+unfolding tmaQueued
+returns-6 c =
     let w = c .before .before in
     let j = w .before .before in
     let e = j .before in
     let s = e .before .before .before .before .before .before .before .before .before .before .before .before .before in
     let a = s .args in
-    let r = joined-requires e _ in
     let is : j .joined .result ≡ joinedJoining (a .queued) (a .timeslot) (offered s) =
     j .joined .ensures .0 ∙ ap (joinedJoining (a .queued) (a .timeslot)) (e .before .before .before .before .before .before .offered-record .ensures) in
     let cell = w .write-cell .ensures ∙ ap (λ (p : Joining). paste (a .store .now) (cellOctets * p .place) (cellOf (a .bits) (a .sdu .now)) cellOctets) is in
-    subst (Plans s u _) (sym is)
-    (subst (λ (st : List ℕ). Plans s u st (joinedJoining (a .queued) (a .timeslot) (offered s))) (sym cell)
-    (yes-planned replyNumber (at s u) (a .store .now) Reply.Refused (own s) _ good _ _ _ _ _ (yes5 e)
-    (joined-planned replyNumber (at s u) (a .store .now) _ _ Reply.Done _ _ _ refl (next-place-below (a .queued) (a .timeslot) (r .0) (r .1) (r .2))
-    (λ rs. refl))))
+    same-queued is cell ∙ every-yes _ _ (own s) (yes5 e)
 
 pub tma-joins-spec : {M : Type 1} → statement M
 tma-joins-spec =

@@ -1,11 +1,10 @@
 -- No run, a run too late, or a grant that is queued. Assumes nothing.
-use mathlib.Core.Path.{refl, sym, _∙_, subst}
+use mathlib.Core.Path.{sym, _∙_, subst}
 use Rattle.questions.specs.declared.Refusal.{Refusal}
 use Rattle.reservation_requirement.specs.Requirement.{requirementCode}
 use Rattle.uplink.specs.Request.{Request}
-use Rattle.sched_core.specs.declared.RequestReply.{RequestReply}
 use Rattle.sched_core.specs.Questions.{Memory, memory}
-use Rattle.sched_core.specs.Calls.{Outcome, requestNumber, requestAnswered}
+use Rattle.sched_core.specs.Calls.{Outcome, requestAnswered}
 use Rattle.sched_core.proofs.GrantLaws.{answered-no-run, answered-too-late, answered-grant, grant-fits}
 use Rattle.sched_enqueue.proofs.PlanLaws.{refused-planned, joined-planned}
 use Rattle.sched_request.specs.declared.RequestPlan.{RequestPlan}
@@ -20,7 +19,7 @@ begun k = k .before .before
 abbrev asked : tie.Start → Request
 asked s = record { timeslot = s .args .timeslot; code = requirementCode (s .args .requirement); number = s .args .number }
 
-abbrev leaves : tie.Start → Memory → Outcome RequestReply
+abbrev leaves : tie.Start → Memory → Outcome
 leaves s m = requestAnswered m (s .args .timeslot) (asked s .code) (s .args .kind) (s .args .number)
 
 abbrev Plans : tie.Start → RequestPlan → Type 0
@@ -39,7 +38,7 @@ returns c =
     let s = begun k in
     let a = s .args in
     subst (Plans s) (sym (c .request-refused .ensures))
-    (λ st. refused-planned requestNumber (a .station) st (leaves s) RequestReply.Refused Refusal.NoRun refl
+    (λ st. refused-planned (a .station) st (leaves s) Refusal.NoRun
     (λ rs q. answered-no-run (memory (a .station) rs st) (a .timeslot) (asked s .code) (a .kind) (a .number) _ (k .ul-process-cap-req .ensures)
     (c .before .enum-told .given .1)))
 
@@ -49,7 +48,7 @@ returns-2 c =
     let s = begun k in
     let a = s .args in
     subst (Plans s) (sym (c .request-refused2 .ensures))
-    (λ st. refused-planned requestNumber (a .station) st (leaves s) RequestReply.Refused Refusal.TooLate refl
+    (λ st. refused-planned (a .station) st (leaves s) Refusal.TooLate
     (λ rs q. answered-too-late (memory (a .station) rs st) (a .timeslot) (asked s .code) (a .kind) (a .number) _ (k .ul-process-cap-req .ensures)
     (c .before .enum-told2 .given .1)))
 
@@ -59,7 +58,7 @@ returns-3 c =
     let s = begun k in
     let a = s .args in
     let g = c .queue-grant .ensures in
-    λ st. joined-planned requestNumber (a .station) st (leaves s) st _ _ _ _ (g .granted) (g .joins)
+    λ st. joined-planned (a .station) st (leaves s) st _ _ _ _ (g .granted) (g .joins)
     (λ rs. g .whole rs st ∙ answered-grant (memory (a .station) rs st) (a .timeslot) (asked s .code) (a .kind) (a .number) _
     (k .ul-process-cap-req .ensures) _ _ _ (c .before .before .reply .given .1))
 

@@ -5,14 +5,14 @@ use mathlib.Core.List.{List}
 use Prim.Native.Nat.{ℕ, _≤_}
 use lib.Dec.{leb}
 use Rattle.sizes.specs.Sizes.{timeslots}
+use Rattle.questions.specs.declared.Refusal.{Refusal}
 use Rattle.questions.specs.Questions.{Question}
 use Rattle.questions.proofs.AskLaws.{said-no, said-yes, FirstYes}
 use Rattle.reservation_requirement.specs.Requirement.{requirementCode}
 use Rattle.reservation_requirement.proofs.RequirementLaws.{requirement-reads, requirement-unread}
 use Rattle.sched_core.specs.declared.Station.{Station}
-use Rattle.sched_core.specs.declared.RequestReply.{RequestReply}
 use Rattle.sched_core.specs.Questions.{queuedFor, requestQuestions}
-use Rattle.sched_core.specs.Calls.{requestNumber, requestCall}
+use Rattle.sched_core.specs.Calls.{requestCall}
 use Rattle.sched_core.proofs.QuestionLaws.{timeslot-range, room-left}
 use Rattle.sched_core.proofs.StationLaws.{sound-time}
 use Rattle.sched_enqueue.proofs.PlanLaws.{no-planned, yes-planned}
@@ -55,7 +55,7 @@ returns c =
     let k = c .before .before in
     let s = k .before in
     subst (Plans s) (sym (c .request-refused .ensures))
-    (λ st. no-planned requestNumber (s .args .station) st RequestReply.Refused (own s) _ (s .pre) 0 (λ r. refl) tt
+    (λ st. no-planned (s .args .station) st (own s) _ (s .pre) 0 Refusal.Timeslot refl tt
     (said-no (k .timeslot-is-legal .ensures) (c .before .if1 .taken)))
 
 returns-2 : tie.Need-returns-2
@@ -64,7 +64,7 @@ returns-2 c =
     let k = c .before .before .before in
     let s = k .before .before .before in
     subst (Plans s) (sym (c .request-refused2 .ensures))
-    (λ st. no-planned requestNumber (s .args .station) st RequestReply.Refused (own s) _ (s .pre) 1 (λ r. refl) (yes1 (k .before))
+    (λ st. no-planned (s .args .station) st (own s) _ (s .pre) 1 Refusal.Requirement refl (yes1 (k .before))
     (requirement-unread (s .args .code) (sym (k .try-from .ensures) ∙ c .before .enum-told .given .1)))
 
 returns-3 : tie.Need-returns-3
@@ -74,7 +74,7 @@ returns-3 c =
     let f = k .before .before in
     let s = f .before .before .before .before .before in
     subst (Plans s) (sym (c .request-refused3 .ensures))
-    (λ st. no-planned requestNumber (s .args .station) st RequestReply.Refused (own s) _ (s .pre) 2 (λ r. refl) (yes2 f)
+    (λ st. no-planned (s .args .station) st (own s) _ (s .pre) 2 Refusal.Address refl (yes2 f)
     (said-no (k .address-is-legal .ensures) (c .before .if2 .taken)))
 
 range : (c : tie.Else1) → let s = c .before .before in (1 ≤ s .args .timeslot) × (s .args .timeslot ≤ timeslots)
@@ -93,7 +93,7 @@ returns-4 c =
     let e = k .before .before in
     let s = passed e .before .before in
     subst (Plans s) (sym (c .request-refused4 .ensures))
-    (λ st. no-planned requestNumber (s .args .station) st RequestReply.Refused (own s) _ (s .pre) 3 (λ r. refl) (yes3 e)
+    (λ st. no-planned (s .args .station) st (own s) _ (s .pre) 3 Refusal.QueueFull refl (yes3 e)
     (said-no (k .has-room .ensures) (c .before .if3 .taken)))
 
 request-answered-requires : tie.Need-request-answered-requires
@@ -110,7 +110,7 @@ returns-5 c =
     let e = c .before .before .before .before in
     let s = passed e .before .before in
     let same = coded (e .before .before .before) .1 in
-    λ st. yes-planned requestNumber (s .args .station) st RequestReply.Refused (own s) _ (s .pre) _ _ _ _ _ (yes4 (c .before))
+    λ st. yes-planned (s .args .station) st (own s) _ (s .pre) _ _ _ _ _ (yes4 (c .before))
     (rw same at (c .request-answered .ensures st))
 
 pub request-plan-spec : {M : Type 1} → statement M

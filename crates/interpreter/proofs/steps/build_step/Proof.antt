@@ -20,8 +20,7 @@ returns : tie.Need-returns
 returns c =
     let p = c .before .before in
     let b = p .before .before .before .before .before .before .before .before .before in
-    let s = b .before .before .before .before .before in
-    built _ _ _ _ _ (b .build .result) (p .put-build .result) (four s) (b .build .ensures) (p .put-build .ensures .0) (p .put-build .ensures .1)
+    built _ _ _ _ _ (b .build .result) (p .put-build .result) (b .build .ensures) (p .put-build .ensures .0) (p .put-build .ensures .1)
 
 pub build-step-spec : {M : Type 1} → statement M
 build-step-spec =

@@ -6,7 +6,7 @@ use Rattle.sched_words.proofs.queue.alloc_fits.Statement.{statement}
 use Rattle.sched_words.proofs.queue.alloc_fits.Tie as tie
 
 returns : tie.Need-returns
-returns c = c .any-word .ensures ∙ no-alloc-fits (c .before .before .before .before .before .args .words .now) (search needs) (c .before .before .if1 .taken)
+returns c = c .all-zero .ensures ∙ no-alloc-fits (c .before .before .before .before .before .args .words .now) (search needs) (c .before .before .if1 .taken)
 
 returns-2 : tie.Need-returns-2
 returns-2 c = let e = c .before .before .before .before .before .before .before .before .before .before in alloc-fits

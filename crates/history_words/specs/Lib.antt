@@ -1,0 +1,2 @@
+pub mod WordCalls
+pub mod WordHistory
