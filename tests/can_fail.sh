@@ -130,6 +130,54 @@ refuses "a wrong program that is not refused" 'not all are refused' tests/beside
 ENDS=0 STORED=$PWD/tests/logs/unfit/pattern.log
 refuses "a wrong program that is not refused by a fact" 'not by a fact: ' tests/beside/wrong_programs.sh questions
 
+# Answers to streams: one stream, in line 14 of which W-201's rule arises, a program that prints a stored answer and one that says where.
+find tests/oracle -type f ! -name 'two_started.*' ! -name '*.sh' -delete
+rust=tests/oracle/two_started.out
+new=tests/oracle/w201/two_started.out
+printf '#!/bin/sh\ncat got\n' > bin/slotrun
+printf '#!/bin/sh\ncat before\n' > bin/as_document_01
+chmod +x bin/slotrun bin/as_document_01
+answers="tests/after/oracle_answers.sh bin/slotrun bin/as_document_01"
+# stored: everything right.
+stored() {
+    restore $rust
+    restore $new
+    cp $new got
+    echo 13 > before
+}
+stored
+passes "the stored answer" $answers
+sed -i '12s/.*/A 0/' got
+cp got $new
+refuses "a wrong line before the rule arises" "before W-201's rule arises: another answer" $answers
+stored
+sed -i '15s/.*/A 0/' got
+refuses "a wrong line behind" 'two_started.hex: another answer' $answers
+stored
+sed -i 14q got
+refuses "an answer that ends there" 'two_started.hex: another answer' $answers
+stored
+cp $rust got
+cp $rust $new
+refuses "the Rust's block where the rule arises" 'arises in line 14, which is the Rust' $answers
+stored
+rm $new
+refuses "a stream without the new rule's answer" "$new is not there" $answers
+stored
+cp $rust got
+echo all > before
+refuses "a new answer of a stream in which the rule never arises" "never arises, and $new is there" $answers
+rm $new
+passes "the Rust's answer where the rule never arises" $answers
+sed -i '15s/.*/A 0/' got
+refuses "another answer where the rule never arises" 'two_started.hex: another answer' $answers
+stored
+cp $new tests/oracle/w201/other.out
+refuses "a new answer without a stream" 'other.out has no stream' $answers
+rm tests/oracle/w201/other.out
+: > before
+refuses "a program that does not say where the rule arises" "says ''" $answers
+
 # Quotations, of a paper that says something else.
 if command -v python3 > /dev/null; then
     mkdir papers

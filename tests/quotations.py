@@ -1,8 +1,8 @@
 #!/usr/bin/env python3
 """Every quotation is verbatim. A quotation is a text in double quotation marks in a comment of crates/*/specs and crates/*/src, or in the
 first column of a table of docs/. `..` and `[..]` stand for what is left out; the pieces between stand in
-document 01 (or in a file of the Rust), one behind the other. What marks words up (* ` \\) and line ends are passed over.
-usage: quotations.py PAPERS     PAPERS: the folder with document 01 (01-*.md) and the Rust (src/**/*.rs)"""
+document 01 or 02 (or in a file of the Rust), one behind the other. What marks words up (* ` \\) and line ends are passed over.
+usage: quotations.py PAPERS     PAPERS: the folder with the documents (01-*.md, 02-*.md) and the Rust (src/**/*.rs)"""
 import glob
 import re
 import sys
@@ -56,7 +56,7 @@ def stands(quotation, paper):
 
 def main():
     papers = sys.argv[1]
-    files = glob.glob(papers + '/01-*.md') + sorted(glob.glob(papers + '/src/**/*.rs', recursive=True))
+    files = sorted(glob.glob(papers + '/0[12]-*.md')) + sorted(glob.glob(papers + '/src/**/*.rs', recursive=True))
     texts = [plain(open(f, encoding='utf8').read()) for f in files]
     sources = [(f, comments(f, '--')) for f in sorted(glob.glob('crates/*/specs/**/*.antt', recursive=True))]
     sources += [(f, comments(f, '//')) for f in sorted(glob.glob('crates/*/src/**/*.rt', recursive=True))]

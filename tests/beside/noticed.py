@@ -2,7 +2,7 @@
 """Beside the gate: what would notice a wrong definition? A proof says that code equals its definition, so a definition that is wrong, and code
 that is wrong with it, is noticed only by results from outside. For each row of noticed.txt a wrong version of the code (an edit of
 crates/*/must-fail or tests/wrong) is built without proof and run by the program of the row, which must print something else than it should.
-`streams` is slotrun on the streams of tests/oracle, one after another, with the Rust's answers.
+`streams` is slotrun on the streams of tests/oracle, one after another, with the Rust's answers, or those of tests/oracle/w201.
 usage: noticed.py [NAME..]     the rows whose edit has one of these names (all)
 """
 import glob
@@ -21,7 +21,8 @@ def streams():
     """One input of all streams that do not end with E, each on a new station with the stage cleared, and what must be printed."""
     given, printed = b'', b''
     for name in sorted(glob.glob(root + '/tests/oracle/*.hex') + glob.glob(root + '/tests/oracle/differences/*.hex')):
-        out = open(name[:-4] + '.out', 'rb').read()
+        by_w201 = f'{root}/tests/oracle/w201/{os.path.basename(name)[:-4]}.out'
+        out = open(by_w201 if os.path.exists(by_w201) else name[:-4] + '.out', 'rb').read()
         if out.endswith(b'E\n'):
             continue
         octets = bytes.fromhex(''.join(re.sub('#.*', '', line) for line in open(name)))

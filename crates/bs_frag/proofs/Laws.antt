@@ -1,6 +1,6 @@
 -- A record's turn: what it comes to in each case, and the bits written for it. Assumes nothing.
 use mathlib.Core.Path.{_≡_, refl, sym, ap, _∙_, subst}
-use mathlib.Core.Bool.{true, false, or-true}
+use mathlib.Core.Bool.{Bool, true, false, or-true}
 use mathlib.Core.Logic.{_⊎_, inl, inr}
 use mathlib.Core.List.{List, [], _∷_, _++_, append-nil}
 use Prim.Native.Nat.{ℕ, zero, suc, _+_, _-_, _*_, _/_, _≤_, _<_, min}
@@ -118,21 +118,23 @@ chunk-none {l} {at} {w} {room} {o} {x} d k =
 
 -- ---- what a turn comes to
 
-module _ (room : ℕ) (r : Record) (sdu : List ℕ) (h : ℕ) (e : h ≡ headerSize r) where
+module _ (may : Bool) (room : ℕ) (r : Record) (sdu : List ℕ) (h : ℕ) (e : h ≡ headerSize r) where
   pub begin-whole : (fill : ℕ) → fill ≡ fillWanted room (h + r .bits) → h + r .bits ≤ room
-      → begin room r sdu ≡ record { pdus = wholePdu r sdu fill ∷ []; room = room - (h + r .bits + fill); outcome = Finished }
+      → begin may room r sdu ≡ record { pdus = wholePdu r sdu fill ∷ []; room = room - (h + r .bits + fill); outcome = Finished }
   unfolding begin beginWith
   begin-whole fill f k = rw (← e, ← f, le-leb (h + r .bits) room k)
 
-  pub begin-waits : room < h + r .bits → (room < 32) ⊎ (room < h) → begin room r sdu ≡ record { pdus = []; room = room; outcome = Waiting }
+  pub begin-waits : room < h + r .bits → (may ≡ false) ⊎ (room < 32) ⊎ (room < h)
+      → begin may room r sdu ≡ record { pdus = []; room = room; outcome = Waiting }
   unfolding begin beginWith
-  begin-waits k (inl i) = rw (← e, lt-leb (h + r .bits) room k, lt-ltb room 32 i)
-  begin-waits k (inr i) = rw (← e, lt-leb (h + r .bits) room k, lt-ltb room h i, or-true)
+  begin-waits k (inl i) = rw (← e, lt-leb (h + r .bits) room k, i)
+  begin-waits k (inr (inl i)) = rw (← e, lt-leb (h + r .bits) room k, lt-ltb room 32 i, or-true)
+  begin-waits k (inr (inr i)) = rw (← e, lt-leb (h + r .bits) room k, lt-ltb room h i, or-true)
 
-  pub begin-starts : room < h + r .bits → 32 ≤ room → h ≤ room
-      → begin room r sdu ≡ record { pdus = firstPdu r (take (room - h) sdu) ∷ []; room = 0; outcome = Started (room - h) }
+  pub begin-starts : may ≡ true → room < h + r .bits → 32 ≤ room → h ≤ room
+      → begin may room r sdu ≡ record { pdus = firstPdu r (take (room - h) sdu) ∷ []; room = 0; outcome = Started (room - h) }
   unfolding begin beginWith
-  begin-starts k i j = rw (← e, lt-leb (h + r .bits) room k, le-ltb room 32 i, le-ltb room h j)
+  begin-starts m k i j = rw (← e, m, lt-leb (h + r .bits) room k, le-ltb room 32 i, le-ltb room h j)
 
 module _ (room : ℕ) (r : Record) (sdu : List ℕ) (rest : ℕ) (e : rest ≡ r .bits - r .sent) where
   pub continue-ends : endOctets rest * 8 ≤ room
@@ -155,10 +157,10 @@ module _ (room : ℕ) (r : Record) (sdu : List ℕ) (rest : ℕ) (e : rest ≡ r
   unfolding continue
   continue-frags n f k i = rw (← e, ← f, lt-leb (endOctets rest * 8) room k, le-ltb room 16 i)
 
-pub next-later : (room : ℕ) (r : Record) (sdu : List ℕ) → isStarted (r .kind) ≡ true → next room r sdu ≡ continue room r sdu
+pub next-later : (may : Bool) (room : ℕ) (r : Record) (sdu : List ℕ) → isStarted (r .kind) ≡ true → next may room r sdu ≡ continue room r sdu
 unfolding next
-next-later room r sdu h = rw h
+next-later may room r sdu h = rw h
 
-pub next-first : (room : ℕ) (r : Record) (sdu : List ℕ) → isStarted (r .kind) ≡ false → next room r sdu ≡ begin room r sdu
+pub next-first : (may : Bool) (room : ℕ) (r : Record) (sdu : List ℕ) → isStarted (r .kind) ≡ false → next may room r sdu ≡ begin may room r sdu
 unfolding next
-next-first room r sdu h = rw h
+next-first may room r sdu h = rw h

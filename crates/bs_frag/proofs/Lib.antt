@@ -1,2 +1,3 @@
 pub mod HeaderLaws
 pub mod Laws
+pub mod LengthLaws

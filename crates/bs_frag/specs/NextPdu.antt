@@ -1,6 +1,6 @@
--- A record's next PDU in the room that is left in a block: document 01, section "Block". Assumes nothing.
+-- A record's next PDU in the room that is left in a block: document 01, section "Block", and document 02, W-201. Assumes nothing.
 use mathlib.Core.Path.{_≡_}
-use mathlib.Core.Bool.{true, _||_, cond}
+use mathlib.Core.Bool.{Bool, true, _||_, not, cond}
 use mathlib.Core.List.{List, [], _∷_, _++_}
 use Prim.Native.Nat.{ℕ, zero, suc, _+_, _-_, _*_, _/_, _^_, _<_, _≤_, min}
 use lib.Dec.{leb, ltb}
@@ -63,17 +63,17 @@ pub record Next : Type 0 where
   pub outcome : ChunkOutcome
 
 -- The first PDU: whole, "filled .. to the octet, or to the block's end if that is nearer"; nothing, for "A record that does not fit, with fewer than 32
--- bits left or fewer than its header"; or the first fragment, which fills the block.
-unfoldable pub beginWith : ℕ → ℕ → Record → List ℕ → Next
-beginWith h room r sdu =
+-- bits left or fewer than its header", and for one that may not start fragments in this block; or the first fragment, which fills the block.
+unfoldable pub beginWith : Bool → ℕ → ℕ → Record → List ℕ → Next
+beginWith may h room r sdu =
     let n : ℕ = h + r .bits in
     let fill : ℕ = fillWanted room n in
     cond (leb n room) (record { pdus = wholePdu r sdu fill ∷ []; room = room - (n + fill); outcome = Finished })
-    (cond (ltb room 32 || ltb room h) (record { pdus = []; room = room; outcome = Waiting })
+    (cond (not may || ltb room 32 || ltb room h) (record { pdus = []; room = room; outcome = Waiting })
     (record { pdus = firstPdu r (take (room - h) sdu) ∷ []; room = 0; outcome = Started (room - h) }))
 
-unfoldable pub begin : ℕ → Record → List ℕ → Next
-begin room r sdu = beginWith (headerSize r) room r sdu
+unfoldable pub begin : Bool → ℕ → Record → List ℕ → Next
+begin may room r sdu = beginWith may (headerSize r) room r sdu
 
 -- A later one: MAC-END, "used if its octets fit"; nothing, "Continuations need 16"; or a MAC-FRAG with as many SDU bits as fit behind its four, filled to
 -- the block's end.
@@ -86,8 +86,9 @@ continue room r sdu =
     (cond (ltb room 16) (record { pdus = []; room = room; outcome = Started (r .sent) })
     (record { pdus = fragPdu (part sdu (r .sent) n) (room - 4 - n) ∷ []; room = 0; outcome = Started (r .sent + n) }))
 
-unfoldable pub next : ℕ → Record → List ℕ → Next
-next room r sdu = cond (isStarted (r .kind)) (continue room r sdu) (begin room r sdu)
+-- may: W-201, whether a record may start fragments in this block. "The fragmenter must be told this by the builder"; what is started goes on.
+unfoldable pub next : Bool → ℕ → Record → List ℕ → Next
+next may room r sdu = cond (isStarted (r .kind)) (continue room r sdu) (begin may room r sdu)
 
 -- ---- what the code works on
 

@@ -10,7 +10,7 @@ ghost use Rattle.bitbuffer.specs.Bits.{bitsOf};
 ghost use Rattle.dl_record.specs.Kind.{isStarted};
 ghost use Rattle.bs_frag.specs.NextPdu.{begin, continue, next, sduAt, Ready, Chunked};
 
-// The first PDU of a record: MAC-RESOURCE, whole or the first fragment, or none.
+// The first PDU of a record: MAC-RESOURCE, whole or, if it may start, the first fragment, or none.
 fn get_resource_chunk(
     block: &mut [u8],
     at: usize,
@@ -18,10 +18,11 @@ fn get_resource_chunk(
     store: &[u8],
     cell: usize,
     r: Record,
+    may_start: bool,
 ) -> Chunk
     requires { ⌜ Ready (now block) at w (now store) cell r ⌝ }
     ensures { λ c. ⌜ Chunked (bitsOf (now (block .entry))) at w (bitsOf (now (block .exit))) c
-        (begin (w - at) r (sduAt (now (store .entry)) cell (r .bits))) ⌝ }
+        (begin «may_start» (w - at) r (sduAt (now (store .entry)) cell (r .bits))) ⌝ }
 {
     let room = w - at;
     let from = SDU_BITS * cell;
@@ -36,6 +37,12 @@ fn get_resource_chunk(
         return Chunk {
             next,
             outcome: ChunkOutcome::Finished,
+        };
+    }
+    if !may_start {
+        return Chunk {
+            next: at,
+            outcome: ChunkOutcome::Waiting,
         };
     }
     if room < 32 {
@@ -107,7 +114,7 @@ fn get_frag_or_end_chunk(
     }
 }
 
-fn is_started(kind: Kind) -> bool
+pub fn is_started(kind: Kind) -> bool
     ensures { λ b. ⌜ b ≡ isStarted kind ⌝ }
 {
     match kind {
@@ -119,7 +126,7 @@ fn is_started(kind: Kind) -> bool
     }
 }
 
-// The next PDU of a record, if there is room for one.
+// The next PDU of a record, if there is room for one. One that is not started may start fragments or not.
 pub fn get_next_chunk(
     block: &mut [u8],
     at: usize,
@@ -127,13 +134,15 @@ pub fn get_next_chunk(
     store: &[u8],
     cell: usize,
     r: Record,
+    may_start: bool,
 ) -> Chunk
     requires { ⌜ Ready (now block) at w (now store) cell r ⌝ }
-    ensures { λ c. ⌜ Chunked (bitsOf (now (block .entry))) at w (bitsOf (now (block .exit))) c (next (w - at) r (sduAt (now (store .entry)) cell (r .bits))) ⌝ }
+    ensures { λ c. ⌜ Chunked (bitsOf (now (block .entry))) at w (bitsOf (now (block .exit))) c
+        (next «may_start» (w - at) r (sduAt (now (store .entry)) cell (r .bits))) ⌝ }
 {
     let kind = r.kind;
     if is_started(kind) {
         return get_frag_or_end_chunk(block, at, w, store, cell, r);
     }
-    get_resource_chunk(block, at, w, store, cell, r)
+    get_resource_chunk(block, at, w, store, cell, r, may_start)
 }

@@ -23,9 +23,8 @@ fn queued(text: &[u8], station: &mut [u32], queue: &mut [u32], store: &mut [u8],
     show::end();
 }
 
-// The address of a header, and whether it has a channel allocation.
-fn resource(r: ResourceHeader) {
-    let a = r.address;
+// The address of a header.
+pub(crate) fn address(a: Address) {
     match a {
         Address::Ssi(n) => {
             show::word(b" SSI");
@@ -34,6 +33,12 @@ fn resource(r: ResourceHeader) {
         Address::Null => show::word(b" null"),
         _ => show::word(b" another address"),
     }
+}
+
+// The address of a header, and whether it has a channel allocation.
+fn resource(r: ResourceHeader) {
+    let a = r.address;
+    address(a);
     let c = r.chan_alloc_element;
     match c {
         OptChanAlloc::Of(_) => show::word(b" with channel allocation\n"),

@@ -6,10 +6,12 @@ mod lengths;
 mod memory;
 mod offers;
 mod reading;
+mod starting;
 mod values;
 
 fn main() {
     calls::run();
+    starting::run();
     lengths::run();
     offers::run();
     alone::run();

@@ -22,7 +22,7 @@ use Rattle.dl_merge.proofs.MergeLaws.{merge-all, reload}
 use Rattle.dl_merge.proofs.SoundMerge.{SoundItem, each-items, OneCell, each-cells, OctetItem, queue-octets, zero-octets, octets-cells}
 use Rattle.dl_send.specs.Send.{sendAll, cellSdu, blockOf}
 use Rattle.dl_send.proofs.BlockLaws.{built-read}
-use Rattle.dl_send.proofs.KeptLaws.{StoredItem, Staying, all-loaded, left-stays, left-few, left-loads}
+use Rattle.dl_send.proofs.KeptLaws.{StoredItem, Staying, all-loaded, left-stays, left-few, left-all}
 use Rattle.dl_send.proofs.MapLaws.{Steady, SameSdu, reloadSent, sendAll-map}
 use Rattle.dl_build.specs.Build.{builtFrom, inOrder, buildList, builtOf}
 use Rattle.dl_build.proofs.OrderLaws.{order-length, order-all, order-map}
@@ -34,7 +34,8 @@ pub build-map : {C D : Type 0} (f : Record → C → D) (steady : Steady f) (sc 
     → All (SameSdu f sc sd) xs
     → buildList sd w (map (reload f) xs) ≡ reloadSent f steady (buildList sc w xs)
 unfolding buildList
-build-map f steady sc sd w xs h = ap (sendAll sd w) (sym (order-map f xs)) ∙ sendAll-map f steady sc sd w (inOrder xs) (order-all (SameSdu f sc sd) xs h)
+build-map f steady sc sd w xs h =
+    ap (sendAll sd true w) (sym (order-map f xs)) ∙ sendAll-map f steady sc sd true w (inOrder xs) (order-all (SameSdu f sc sd) xs h)
 
 module _ (ns : List ℕ) (rs : List Record) (s : List ℕ) (t : ℕ) (inside : t < length ns)
     (places : length rs ≡ perTimeslot * length ns) (size : length s ≡ timeslotOctets * length ns) (sound : soundQueue ns rs s ≡ true) where
@@ -44,12 +45,12 @@ module _ (ns : List ℕ) (rs : List Record) (s : List ℕ) (t : ℕ) (inside : t
   -- "What did not finish stays .. as waiting or started."
   pub build-stays : All Staying (builtOf ns rs s t .left)
   unfolding builtOf builtFrom buildList mergedQueue
-  build-stays = left-stays blockWidth (inOrder (mergedQueue ns rs s t)) (omega arith) taken
+  build-stays = left-stays true blockWidth (inOrder (mergedQueue ns rs s t)) (omega arith) taken
 
   -- a build raises no count
   pub build-few : length (builtOf ns rs s t .left) ≤ length (mergedQueue ns rs s t)
   unfolding builtOf builtFrom buildList mergedQueue
-  build-few = omega (arith, left-few cellSdu blockWidth (inOrder (mergedQueue ns rs s t)), order-length (mergedQueue ns rs s t))
+  build-few = omega (arith, left-few cellSdu true blockWidth (inOrder (mergedQueue ns rs s t)), order-length (mergedQueue ns rs s t))
 
   few : length (builtOf ns rs s t .left) ≤ perTimeslot
   few = omega (arith, build-few, merged-most ns rs s t inside places size sound)
@@ -65,7 +66,7 @@ module _ (ns : List ℕ) (rs : List Record) (s : List ℕ) (t : ℕ) (inside : t
   octets h =
       let own = queueOf (getD ns t 0) (drop (perTimeslot * t) rs) (drop (cellOctets * (perTimeslot * t)) s) in
       octets-cells perTimeslot (builtOf ns rs s t .left)
-      (left-loads Octets cellSdu blockWidth (inOrder (mergeCells own))
+      (left-all OctetItem (λ k n x q. q) cellSdu true blockWidth (inOrder (mergeCells own))
       (order-all OctetItem (mergeCells own)
       (merge-all (always zeroCell) keep OctetItem (λ g x k t p q. q) (λ g k p. zero-octets) own
       (queue-octets (getD ns t 0) (drop (perTimeslot * t) rs) (drop (cellOctets * (perTimeslot * t)) s) (octets-drop (cellOctets * (perTimeslot * t)) s h)))))
@@ -83,4 +84,5 @@ module _ (ns : List ℕ) (rs : List Record) (s : List ℕ) (t : ℕ) (inside : t
   -- the block reads as the headers of the PDUs that were written, at their positions
   pub build-read : readBlock blockOctets (blockOf blockOctets (blockBits (builtOf ns rs s t .pdus))) ≡ replyOf (headers (placed 0 (builtOf ns rs s t .pdus)))
   unfolding builtOf builtFrom buildList mergedQueue
-  build-read = built-read cellSdu blockOctets (inOrder (mergedQueue ns rs s t)) (omega arith) (omega arith) (all-loaded (inOrder (mergedQueue ns rs s t)) taken)
+  build-read =
+      built-read cellSdu blockOctets true (inOrder (mergedQueue ns rs s t)) (omega arith) (omega arith) (all-loaded (inOrder (mergedQueue ns rs s t)) taken)

@@ -31,7 +31,7 @@ use Rattle.dl_send.specs.Send.{Sent, sendAll, cellSdu, blockOf}
 use Rattle.dl_send.specs.Arrays.{listed, recordsAt, placeSdu, sentOf, tagRow, progressOf, CanSend, BuiltAs}
 use Rattle.dl_send.proofs.ArrayLaws.{length-listed}
 use Rattle.dl_send.proofs.MapLaws.{SameSdu, reloadSent, sendAll-map}
-use Rattle.dl_send.proofs.KeptLaws.{StoredItem, stored-loaded, left-few, left-loads}
+use Rattle.dl_send.proofs.KeptLaws.{StoredItem, stored-loaded, left-few, left-all}
 use Rattle.dl_build.specs.Moved.{cellsAt, arranged, moved}
 use Rattle.dl_build.specs.Build.{inOrder, buildList, builtFrom, builtOf, Takes, CanBuild, BuiltIn}
 use Rattle.dl_build.specs.declared.Order.{Order}
@@ -96,7 +96,7 @@ module _ (n : ℕ) (rs : List Record) (s : List ℕ) (few : n ≤ perTimeslot) (
   built-few w =
       omega (
         arith,
-        left-few cellSdu w (inOrder (mergeCells (queueOf n rs s))),
+        left-few cellSdu true w (inOrder (mergeCells (queueOf n rs s))),
         order-length (mergeCells (queueOf n rs s)),
         merge-few (always zeroCell) keep (queueOf n rs s),
         length-queue n rs s,
@@ -106,7 +106,7 @@ module _ (n : ℕ) (rs : List Record) (s : List ℕ) (few : n ≤ perTimeslot) (
   unfolding builtFrom buildList
   built-cells w =
       each-cells (builtFrom w n rs s .left)
-      (left-loads (λ (c : List ℕ). length c ≡ cellOctets) cellSdu w (inOrder (mergeCells (queueOf n rs s)))
+      (left-all OneCell (λ k n x q. q) cellSdu true w (inOrder (mergeCells (queueOf n rs s)))
       (order-all OneCell (mergeCells (queueOf n rs s)) (cells-each (mergeCells (queueOf n rs s)) own-cells)))
 
   -- behind the first n places there is nothing before a build and nothing after it
@@ -160,14 +160,14 @@ module _ (octets w : ℕ) (store : List ℕ) (first n : ℕ) (rs : List Record) 
   same-sdu x h = ⊎-elim (λ l. place-sdu store first (x .load) (x .rec .bits) l (h .0 .bits)) (λ z. no-sdu store _ first (x .load) (x .rec .bits) z) (h .1)
 
   sent : Sent ℕ
-  sent = sendAll (placeSdu store first) w taken
+  sent = sendAll (placeSdu store first) true w taken
 
   -- merging, ordering and sending by places is merging, ordering and sending by cells
   sent-same : builtFrom w n rs s ≡ reloadSent (cellFrom cells) (λ k n r c. refl) sent
   unfolding builtFrom buildList sent
   sent-same =
-      ap (sendAll cellSdu w) (sym (order-map (cellFrom cells) merged ∙ ap inOrder by-cells))
-      ∙ sendAll-map (cellFrom cells) (λ k n r c. refl) (placeSdu store first) cellSdu w taken
+      ap (sendAll cellSdu true w) (sym (order-map (cellFrom cells) merged ∙ ap inOrder by-cells))
+      ∙ sendAll-map (cellFrom cells) (λ k n r c. refl) (placeSdu store first) cellSdu true w taken
       (order-all (SameSdu (cellFrom cells) (placeSdu store first) cellSdu) merged
       (all-weaken _ (SameSdu (cellFrom cells) (placeSdu store first) cellSdu) same-sdu merged
       (all-both (λ (x : Item ℕ). Sendable (x .rec)) Sourced merged sendable sourced)))
@@ -194,7 +194,7 @@ module _ (octets w : ℕ) (store : List ℕ) (first n : ℕ) (rs : List Record) 
 
       sent-is : sentOf store first w chosen (o .from) (o .count) ≡ sent
       unfolding sentOf sent
-      sent-is = ap (sendAll (placeSdu store first) w) listed-as
+      sent-is = ap (sendAll (placeSdu store first) true w) listed-as
 
       module _ (p : Progress) (b : List ℕ) (builds : BuiltAs octets b p (sentOf store first w chosen (o .from) (o .count))) where
         x : Sent (List ℕ)

@@ -91,28 +91,30 @@ either : (b : Bool) (x y : Next) → Begins (x .pdus) → Begins (y .pdus) → B
 either true x y h k = h
 either false x y h k = k
 
-begin-writes : (h : ℕ) (r : Record) (sdu : List ℕ) → h ≤ blockWidth → Begins (beginWith h blockWidth r sdu .pdus)
+begin-writes : (w h : ℕ) (r : Record) (sdu : List ℕ) → 32 ≤ w → h ≤ w → Begins (beginWith true h w r sdu .pdus)
 unfolding beginWith
-begin-writes h r sdu small = either (leb (h + r .bits) blockWidth) _ _ (one _ refl) (rw (le-ltb blockWidth h small) (one _ refl))
+begin-writes w h r sdu wide small = either (leb (h + r .bits) w) _ _ (one _ refl) (rw (le-ltb w 32 wide, le-ltb w h small) (one _ refl))
 
-continue-writes : (r : Record) (sdu : List ℕ) → Begins (continue blockWidth r sdu .pdus)
+continue-writes : (w : ℕ) (r : Record) (sdu : List ℕ) → 16 ≤ w → Begins (continue w r sdu .pdus)
 unfolding continue
-continue-writes r sdu = either (leb (endOctets (r .bits - r .sent) * 8) blockWidth) _ _ (one _ refl) (one _ refl)
+continue-writes w r sdu wide = either (leb (endOctets (r .bits - r .sent) * 8) w) _ _ (one _ refl) (rw (le-ltb w 16 wide) (one _ refl))
 
-next-writes : (r : Record) (sdu : List ℕ) → headerSize r ≤ blockWidth → Begins (next blockWidth r sdu .pdus)
+next-writes : (w : ℕ) (r : Record) (sdu : List ℕ) → 32 ≤ w → headerSize r ≤ w → Begins (next true w r sdu .pdus)
 unfolding next begin
-next-writes r sdu small = either (isStarted (r .kind)) _ _ (continue-writes r sdu) (begin-writes (headerSize r) r sdu small)
+next-writes w r sdu wide small =
+    either (isStarted (r .kind)) _ _ (continue-writes w r sdu (omega arith)) (begin-writes w (headerSize r) r sdu wide small)
 
 -- ---- a build
 
 longer : (l m : List Pdu) → Begins l → Begins (l ++ m)
 longer l m b = record { pdu = b .pdu; rest = b .rest ++ m; parts = ap (λ (x : List Pdu). x ++ m) (b .parts); real = b .real }
 
-send-writes : (xs : List (Item (List ℕ))) → All StoredItem xs → 0 < length xs → Begins (sendAll cellSdu blockWidth xs .pdus)
+send-writes : (w : ℕ) (xs : List (Item (List ℕ))) → 88 ≤ w → All StoredItem xs → 0 < length xs → Begins (sendAll cellSdu true w xs .pdus)
 unfolding sendAll turns readOff roomAfter
-send-writes [] h n = absurd (omega arith)
-send-writes (x ∷ xs) h n =
-    longer _ _ (next-writes (x .rec) (cellSdu (x .load) (x .rec .bits)) (omega (arith, header-bounds (x .rec) (sendables (x ∷ xs) h .0 .legal) .1)))
+send-writes w [] wide h n = absurd (omega arith)
+send-writes w (x ∷ xs) wide h n =
+    longer _ _
+    (next-writes w (x .rec) (cellSdu (x .load) (x .rec .bits)) (omega arith) (omega (arith, header-bounds (x .rec) (sendables (x ∷ xs) h .0 .legal) .1)))
 
 -- with something queued for a timeslot, a build of a sound memory writes a PDU of a record first
 pub build-writes : (ns : List ℕ) (rs : List Record) (s : List ℕ) (t : ℕ) → t < length ns → length rs ≡ perTimeslot * length ns
@@ -124,4 +126,4 @@ build-writes ns rs s t inside places size sound some =
     let stored = merged-stored ns rs s t inside places size sound in
     let many =
     merge-some (always zeroCell) keep own (omega (arith, length-queue (getD ns t 0) (drop (perTimeslot * t) rs) (drop (cellOctets * (perTimeslot * t)) s))) in
-    send-writes (inOrder (mergeCells own)) (order-all StoredItem (mergeCells own) stored) (order-some (mergeCells own) stored many)
+    send-writes blockWidth (inOrder (mergeCells own)) (omega arith) (order-all StoredItem (mergeCells own) stored) (order-some (mergeCells own) stored many)

@@ -5,3 +5,6 @@ pub mod PlaceLaws
 pub mod BuildLaws
 pub mod FirstLaws
 pub mod AfterBuild
+pub mod Document01
+pub mod OpenLaws
+pub mod LengthLaws

@@ -21,9 +21,9 @@ use Rattle.dl_send.specs.Arrays.{listed, recordsAt, tagRow}
 unfoldable pub inOrder : {C : Type 0} → List (Item C) → List (Item C)
 inOrder xs = only isUnderway xs ++ only isRecord xs
 
--- a merged list built into a block of w bits; sdu c n is the SDU, of n bits, that a load c stands for
+-- a merged list built into an empty block of w bits, where the first record may start fragments; sdu c n is the SDU, of n bits, that a load c stands for
 unfoldable pub buildList : {C : Type 0} → (C → ℕ → List ℕ) → ℕ → List (Item C) → Sent C
-buildList sdu w xs = sendAll sdu w (inOrder xs)
+buildList sdu w xs = sendAll sdu true w (inOrder xs)
 
 -- what a build makes of a timeslot's first n records and their cells
 unfoldable pub builtFrom : ℕ → ℕ → List Record → List ℕ → Sent (List ℕ)

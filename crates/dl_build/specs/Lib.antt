@@ -1,2 +1,3 @@
 pub mod Moved
 pub mod Build
+pub mod Document01

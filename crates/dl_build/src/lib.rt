@@ -44,7 +44,7 @@ fn own_places() -> [u8; PER_TIMESLOT]
 }
 
 // A timeslot's first `n` records merged, with the places that they come from. Where there is neither grant nor ack they stay as they are.
-fn merged_records(records: [Record; PER_TIMESLOT], n: usize) -> Merged
+pub fn merged_records(records: [Record; PER_TIMESLOT], n: usize) -> Merged
     requires { ⌜ n ≤ perTimeslot ⌝ }
     ensures { λ r. ⌜ (listed (r .count) (r .records) (r .from) ≡ mergePlaces (counted 0 n records)) × (r .count ≤ perTimeslot) ⌝ }
 {
@@ -60,10 +60,10 @@ fn merged_records(records: [Record; PER_TIMESLOT], n: usize) -> Merged
 }
 
 // Records in the order in which they are taken: where each stands among those at hand, and the place that it comes from.
-struct Order {
-    at: [u8; PER_TIMESLOT],
-    from: [u8; PER_TIMESLOT],
-    count: usize,
+pub struct Order {
+    pub at: [u8; PER_TIMESLOT],
+    pub from: [u8; PER_TIMESLOT],
+    pub count: usize,
 }
 
 // The waiting and started ones of the first `n` records.
@@ -92,7 +92,7 @@ fn dl_take_underway_sched_items(
 }
 
 // The first `n` records in the order in which they are taken.
-fn dl_take_prioritized_sched_items(
+pub fn dl_take_prioritized_sched_items(
     records: [Record; PER_TIMESLOT],
     places: [u8; PER_TIMESLOT],
     n: usize,

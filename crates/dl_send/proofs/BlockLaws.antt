@@ -1,7 +1,7 @@
 -- A built block: its bits are its PDUs' and zeros, its PDUs fit, and a reader lists exactly their headers at their positions. Assumes nothing.
 use mathlib.Core.Path.{_≡_, refl, sym, ap, ap₂, _∙_, subst}
-use mathlib.Core.Bool.{Bool, true, false, cond}
-use mathlib.Core.Logic.{inl}
+use mathlib.Core.Bool.{Bool, true, false, _&&_, cond}
+use mathlib.Core.Logic.{inl, inr}
 use mathlib.Core.List.{List, [], _∷_, _++_}
 use Prim.Native.Nat.{ℕ, _+_, _-_, _*_, _<_, _≤_}
 use native.Mathlib.Omega.{arith}
@@ -22,10 +22,10 @@ use Rattle.dl_record.specs.Kind.{isStarted}
 use Rattle.bs_frag.specs.NextPdu.{headerSize, Next, next, Sendable}
 use Rattle.bs_frag.proofs.HeaderLaws.{header-bounds}
 use Rattle.bs_frag.proofs.Laws.{begin-waits, continue-waits, next-later, next-first}
-use Rattle.dl_send.specs.Send.{Sent, nullIn, sendAll, blockOf, turns, readOff, roomAfter}
+use Rattle.dl_send.specs.Send.{Turn, turn, wrote, turns, readOff, roomAfter, Sent, sentIn, nullIn, sendAll, blockOf}
 use Rattle.dl_send.proofs.BitLaws.{no-bit, one-is-bits}
 use Rattle.dl_send.proofs.SendLaws.{block-append, null-fits}
-use Rattle.dl_send.proofs.TurnLaws.{Aligned, next-turn}
+use Rattle.dl_send.proofs.TurnLaws.{Aligned, SoundTurn, sentBefore, next-turn}
 
 -- a record that can be sent, whose load stands for as many bits as it says
 pub record Loaded {C : Type 0} (sdu : C → ℕ → List ℕ) (x : Item C) : Type 0 where
@@ -39,25 +39,39 @@ pub record Nothing (x : Next) : Type 0 where
   pub pdus : x .pdus ≡ []
   pub room : x .room ≡ 0
 
-no-room : (r : Record) (sdu : List ℕ) → Sendable r → Nothing (next 0 r sdu)
-no-room r sdu s = go (isStarted (r .kind)) refl
+no-room : (may : Bool) (r : Record) (sdu : List ℕ) → Sendable r → Nothing (next may 0 r sdu)
+no-room may r sdu s = go (isStarted (r .kind)) refl
   where
-    go : (b : Bool) → isStarted (r .kind) ≡ b → Nothing (next 0 r sdu)
+    go : (b : Bool) → isStarted (r .kind) ≡ b → Nothing (next may 0 r sdu)
     go true e =
-        subst Nothing (sym (next-later 0 r sdu e ∙ continue-waits 0 r sdu (r .bits - r .sent) refl (omega arith) (omega arith)))
+        subst Nothing (sym (next-later may 0 r sdu e ∙ continue-waits 0 r sdu (r .bits - r .sent) refl (omega arith) (omega arith)))
         (record { pdus = refl; room = refl })
     go false e =
-        subst Nothing (sym (next-first 0 r sdu e ∙ begin-waits 0 r sdu (headerSize r) refl (omega (arith, header-bounds r (s .legal) .0)) (inl (omega arith))))
+        subst Nothing
+        (sym
+        (next-first may 0 r sdu e ∙ begin-waits may 0 r sdu (headerSize r) refl (omega (arith, header-bounds r (s .legal) .0)) (inr (inl (omega arith)))))
         (record { pdus = refl; room = refl })
 
+-- Turns one after another, each in the room that the one before left, by whatever rule a record may start: what holds of these holds of `turns`.
+abbrev pub Chained : {C : Type 0} → (C → ℕ → List ℕ) → ℕ → List (Turn C) → Type 0
+Chained sdu room [] = Unit
+Chained sdu room (t ∷ ts) = ((may : Bool) × (t .next ≡ turn sdu may room (t .taken))) × Loaded sdu (t .taken) × Chained sdu (t .next .room) ts
+
 module _ {C : Type 0} (sdu : C → ℕ → List ℕ) where
-  pub nothing-left : (room : ℕ) (xs : List (Item C)) → All (Loaded sdu) xs → room ≡ 0 → sendAll sdu room xs .pdus ≡ []
-  unfolding sendAll turns readOff roomAfter
+  pub turns-chained : (may : Bool) (room : ℕ) (xs : List (Item C)) → All (Loaded sdu) xs → Chained sdu room (turns sdu may room xs)
+  unfolding turns
+  turns-chained may room [] h = tt
+  turns-chained may room (x ∷ xs) h =
+      let s : Next = turn sdu may room x in ((may, refl), h .0, turns-chained (may && wrote (s .pdus)) (s .room) xs (h .1))
+
+  pub nothing-left : (room : ℕ) (ts : List (Turn C)) → Chained sdu room ts → room ≡ 0 → sentIn room ts .pdus ≡ []
+  unfolding readOff
   nothing-left room [] h z = rw z
-  nothing-left room (x ∷ xs) h z =
-      let s : List ℕ = sdu (x .load) (x .rec .bits) in
-      let q : Nothing (next room (x .rec) s) = subst (λ (k : ℕ). Nothing (next k (x .rec) s)) (sym z) (no-room (x .rec) s (h .0 .sendable)) in
-      ap₂ (λ (a b : List Pdu). a ++ b) (q .pdus) (nothing-left (next room (x .rec) s .room) xs (h .1) (q .room))
+  nothing-left room (t ∷ ts) h z =
+      let x : Item C = t .taken in
+      let q : Nothing (t .next) =
+      subst Nothing (sym (h .0 .1 ∙ ap (λ (k : ℕ). turn sdu (h .0 .0) k x) z)) (no-room (h .0 .0) (x .rec) (sdu (x .load) (x .rec .bits)) (h .1 .sendable)) in
+      ap₂ (λ (a b : List Pdu). a ++ b) (q .pdus) (nothing-left (t .next .room) ts (h .2) (q .room))
 
 -- ---- the null PDU
 
@@ -82,53 +96,65 @@ pub record SentWell {C : Type 0} (w at room : ℕ) (s : Sent C) : Type 0 where
   pub fits : Fits w at (s .pdus)
   pub aligned : Aligned room → Aligned (s .room)
 
-pub sent-well : {C : Type 0} (sdu : C → ℕ → List ℕ) (w at room : ℕ) (xs : List (Item C)) → at + room ≡ w → w ≤ blockWidth → All (Loaded sdu) xs
-    → SentWell w at room (sendAll sdu room xs)
-unfolding sendAll turns readOff roomAfter
-sent-well sdu w at room [] e width h = record { bits = null-bits (ltb room 16); size = null-fits room; fits = null-place w at room e; aligned = λ a. a }
-sent-well sdu w at room (x ∷ xs) e width h =
+pub chained-well : {C : Type 0} (sdu : C → ℕ → List ℕ) (w at room : ℕ) (ts : List (Turn C)) → at + room ≡ w → w ≤ blockWidth → Chained sdu room ts
+    → SentWell w at room (sentIn room ts)
+unfolding readOff roomAfter
+chained-well sdu w at room [] e width h = record { bits = null-bits (ltb room 16); size = null-fits room; fits = null-place w at room e; aligned = λ a. a }
+chained-well sdu w at room (t ∷ ts) e width h =
+    let x = t .taken in
     let s : List ℕ = sdu (x .load) (x .rec .bits) in
-    let n : Next = next room (x .rec) s in
-    let t = next-turn w room (x .rec) s (omega arith) width (h .0 .sendable) (h .0 .bits) (h .0 .size) in
-    let at' : ℕ = at + length (blockBits (n .pdus)) in
-    let ih = sent-well sdu w at' (n .room) xs (omega (arith, t .size)) width (h .1) in
+    let n : Next = t .next in
+    let one : SoundTurn w room (sentBefore (isStarted (x .rec .kind)) (x .rec)) (x .rec) s n =
+    subst (SoundTurn w room _ (x .rec) s) (sym (h .0 .1))
+    (next-turn w (h .0 .0) room (x .rec) s (omega arith) width (h .1 .sendable) (h .1 .bits) (h .1 .size)) in
+    let rest : List Pdu = sentIn (n .room) ts .pdus in
+    let ih = chained-well sdu w (at + length (blockBits (n .pdus))) (n .room) ts (omega (arith, one .size)) width (h .2) in
     record {
-      bits = subst AreBits (sym (block-append (n .pdus) _)) (bits-append _ _ (t .bits) (ih .bits));
+      bits = subst AreBits (sym (block-append (n .pdus) _)) (bits-append _ _ (one .bits) (ih .bits));
       size =
           omega (
             arith,
-            ap length (block-append (n .pdus) (sendAll sdu (n .room) xs .pdus)),
+            ap length (block-append (n .pdus) rest),
             length-append (blockBits (n .pdus))
-                (blockBits (sendAll sdu (n .room) xs .pdus)),
-            t .size,
+                (blockBits rest),
+            one .size,
             ih .size,
           );
-      fits = t .fits at _ e (nothing-left sdu (n .room) xs (h .1)) (ih .fits);
-      aligned = λ a. ih .aligned (t .aligned a);
+      fits = one .fits at _ e (nothing-left sdu (n .room) ts (h .2)) (ih .fits);
+      aligned = λ a. ih .aligned (one .aligned a);
     }
 
 -- ---- the block
-
--- "the last four bits zero": a built block's bits are its PDUs' and then zeros
-pub built-bits : {C : Type 0} (sdu : C → ℕ → List ℕ) (n w : ℕ) (xs : List (Item C)) → w ≤ 8 * n → w ≤ blockWidth → All (Loaded sdu) xs
-    → bitsOf (blockOf n (blockBits (sendAll sdu w xs .pdus)))
-    ≡ blockBits (sendAll sdu w xs .pdus) ++ replicate (8 * n - length (blockBits (sendAll sdu w xs .pdus))) 0
-unfolding blockOf
-built-bits sdu n w xs inside width h =
-    let g = sent-well sdu w 0 w xs (omega arith) width h in
-    let f : List ℕ = blockBits (sendAll sdu w xs .pdus) in
-    bitsOf-packed n (f ++ replicate (8 * n - length f) 0) (bits-append f _ (g .bits) (zeros-are-bits (8 * n - length f)))
-    (length-append f (replicate (8 * n - length f) 0) ∙ omega (arith, length-replicate {A = ℕ} (8 * n - length f) 0, g .size))
 
 pub length-block : (n : ℕ) (f : List ℕ) → length (blockOf n f) ≡ n
 unfolding blockOf
 length-block n f = length-packed n (f ++ replicate (8 * n - length f) 0)
 
--- a built block of n octets, read by the reader's definition, gives the headers of the PDUs that were written, at their positions
-pub built-read : {C : Type 0} (sdu : C → ℕ → List ℕ) (n : ℕ) (xs : List (Item C)) → 0 < n → n ≤ blockOctets → All (Loaded sdu) xs
-    → readBlock n (blockOf n (blockBits (sendAll sdu (8 * n - 4) xs .pdus))) ≡ replyOf (headers (placed 0 (sendAll sdu (8 * n - 4) xs .pdus)))
-built-read sdu n xs some few h =
+module _ {C : Type 0} (sdu : C → ℕ → List ℕ) (n w : ℕ) (ts : List (Turn C)) (inside : w ≤ 8 * n) (width : w ≤ blockWidth) (h : Chained sdu w ts) where
+  abbrev bits : List ℕ
+  bits = blockBits (sentIn w ts .pdus)
+
+  well : SentWell w 0 w (sentIn w ts)
+  well = chained-well sdu w 0 w ts (omega arith) width h
+
+  -- "the last four bits zero": a built block's bits are its PDUs' and then zeros
+  pub chained-bits : bitsOf (blockOf n bits) ≡ bits ++ replicate (8 * n - length bits) 0
+  unfolding blockOf
+  chained-bits =
+      bitsOf-packed n (bits ++ replicate (8 * n - length bits) 0) (bits-append bits _ (well .bits) (zeros-are-bits (8 * n - length bits)))
+      (length-append bits (replicate (8 * n - length bits) 0) ∙ omega (arith, length-replicate {A = ℕ} (8 * n - length bits) 0, well .size))
+
+-- the turns in a block of n octets: read by the reader's definition, it gives the headers of the PDUs that were written, at their positions
+pub chained-read : {C : Type 0} (sdu : C → ℕ → List ℕ) (n : ℕ) (ts : List (Turn C)) → 0 < n → n ≤ blockOctets → Chained sdu (8 * n - 4) ts
+    → readBlock n (blockOf n (blockBits (sentIn (8 * n - 4) ts .pdus))) ≡ replyOf (headers (placed 0 (sentIn (8 * n - 4) ts .pdus)))
+chained-read sdu n ts some few h =
     let w : ℕ = 8 * n - 4 in
-    let f : List ℕ = blockBits (sendAll sdu w xs .pdus) in
-    block-reads-back n (sendAll sdu w xs .pdus) (blockOf n f) (8 * n - length f) some few (length-block n f)
-    (sent-well sdu w 0 w xs (omega arith) (omega arith) h .fits) (built-bits sdu n w xs (omega arith) (omega arith) h)
+    let f : List ℕ = blockBits (sentIn w ts .pdus) in
+    block-reads-back n (sentIn w ts .pdus) (blockOf n f) (8 * n - length f) some few (length-block n f)
+    (chained-well sdu w 0 w ts (omega arith) (omega arith) h .fits) (chained-bits sdu n w ts (omega arith) (omega arith) h)
+
+-- and so does a built block
+pub built-read : {C : Type 0} (sdu : C → ℕ → List ℕ) (n : ℕ) (may : Bool) (xs : List (Item C)) → 0 < n → n ≤ blockOctets → All (Loaded sdu) xs
+    → readBlock n (blockOf n (blockBits (sendAll sdu may (8 * n - 4) xs .pdus))) ≡ replyOf (headers (placed 0 (sendAll sdu may (8 * n - 4) xs .pdus)))
+unfolding sendAll
+built-read sdu n may xs some few h = chained-read sdu n (turns sdu may (8 * n - 4) xs) some few (turns-chained sdu may (8 * n - 4) xs h)

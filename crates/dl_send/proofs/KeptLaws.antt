@@ -1,6 +1,6 @@
 -- What stays after a build: waiting and started records only, as sound as before. Assumes nothing.
 use mathlib.Core.Path.{_≡_, refl}
-use mathlib.Core.Bool.{true}
+use mathlib.Core.Bool.{Bool, true, _&&_}
 use mathlib.Core.List.{List, [], _∷_}
 use Prim.Native.Nat.{ℕ, _≤_}
 use native.Mathlib.Omega.{arith}
@@ -19,13 +19,13 @@ use Rattle.dl_record.specs.declared.Kind.{Kind}
 use Rattle.dl_record.specs.declared.Record.{Record}
 use Rattle.dl_record.specs.Record.{resourceOf}
 use Rattle.dl_record.specs.Questions.{legalAddress, soundAs, soundRecord}
-use Rattle.dl_queue.specs.Queue.{Item}
+use Rattle.dl_queue.specs.Queue.{Item, item}
 use Rattle.dl_queue.specs.Questions.{soundPlace}
 use Rattle.dl_record.specs.Kind.{isKept, isUnderway}
 use Rattle.bs_frag.specs.NextPdu.{Next, next, Sendable}
 use Rattle.bs_frag.specs.declared.ChunkOutcome.{ChunkOutcome}
 use Rattle.bs_frag.specs.declared.ChunkOutcome.the-variants.{Finished, Waiting, Started}
-use Rattle.dl_send.specs.Send.{again, staying, sendAll, cellSdu, turns, readOff, roomAfter}
+use Rattle.dl_send.specs.Send.{again, staying, wrote, sendAll, cellSdu, turns, readOff, roomAfter}
 use Rattle.dl_send.specs.Carried.{sentBy}
 use Rattle.dl_send.proofs.TurnLaws.{next-turn}
 use Rattle.dl_send.proofs.BlockLaws.{Loaded}
@@ -132,15 +132,16 @@ kept-stays (Started n) x s h = (
 )
 
 -- after a build only waiting and started records are left, and they are sound
-pub left-stays : (room : ℕ) (xs : List (Item (List ℕ))) → room ≤ blockWidth → All StoredItem xs → All Staying (sendAll cellSdu room xs .left)
+pub left-stays : (may : Bool) (room : ℕ) (xs : List (Item (List ℕ))) → room ≤ blockWidth → All StoredItem xs → All Staying (sendAll cellSdu may room xs .left)
 unfolding sendAll turns readOff roomAfter
-left-stays room [] w h = tt
-left-stays room (x ∷ xs) w h =
+left-stays may room [] w h = tt
+left-stays may room (x ∷ xs) w h =
     let l = stored-loaded x (h .0) in
     let s : List ℕ = cellSdu (x .load) (x .rec .bits) in
-    let n : Next = next room (x .rec) s in
-    let t = next-turn blockWidth room (x .rec) s w (omega arith) (l .sendable) (l .bits) (l .size) in
-    all-append Staying (staying (n .outcome) x) _ (kept-stays (n .outcome) x (h .0) (t .within)) (left-stays (n .room) xs (omega (arith, t .size)) (h .1))
+    let n : Next = next may room (x .rec) s in
+    let t = next-turn blockWidth may room (x .rec) s w (omega arith) (l .sendable) (l .bits) (l .size) in
+    all-append Staying (staying (n .outcome) x) _ (kept-stays (n .outcome) x (h .0) (t .within))
+    (left-stays (may && wrote (n .pdus)) (n .room) xs (omega (arith, t .size)) (h .1))
 
 kept-few : {C : Type 0} (o : ChunkOutcome) (x : Item C) → length (staying o x) ≤ 1
 kept-few Finished x = omega arith
@@ -148,24 +149,24 @@ kept-few Waiting x = omega arith
 kept-few (Started n) x = omega arith
 
 -- no more stay than there were
-pub left-few : {C : Type 0} (sdu : C → ℕ → List ℕ) (room : ℕ) (xs : List (Item C)) → length (sendAll sdu room xs .left) ≤ length xs
+pub left-few : {C : Type 0} (sdu : C → ℕ → List ℕ) (may : Bool) (room : ℕ) (xs : List (Item C)) → length (sendAll sdu may room xs .left) ≤ length xs
 unfolding sendAll turns readOff roomAfter
-left-few sdu room [] = omega arith
-left-few sdu room (x ∷ xs) =
-    let n : Next = next room (x .rec) (sdu (x .load) (x .rec .bits)) in
-    omega (arith, length-append (staying (n .outcome) x) (sendAll sdu (n .room) xs .left), kept-few (n .outcome) x, left-few sdu (n .room) xs)
+left-few sdu may room [] = omega arith
+left-few sdu may room (x ∷ xs) =
+    let n : Next = next may room (x .rec) (sdu (x .load) (x .rec .bits)) in
+    let on : Bool = may && wrote (n .pdus) in
+    omega (arith, length-append (staying (n .outcome) x) (sendAll sdu on (n .room) xs .left), kept-few (n .outcome) x, left-few sdu on (n .room) xs)
 
--- what holds of loads holds of those that stay
-module _ {C : Type 0} (P : C → Type 0) where
-  kept-loads : (o : ChunkOutcome) (x : Item C) → P (x .load) → All (λ (y : Item C). P (y .load)) (staying o x)
-  kept-loads Finished x h = tt
-  kept-loads Waiting x h = (h, tt)
-  kept-loads (Started n) x h = (h, tt)
+-- what holds of an item, and not of what a turn changes, holds of those that stay
+module _ {C : Type 0} (P : Item C → Type 0) (steady : (k : Kind) (n : ℕ) (x : Item C) → P x → P (item (again k n (x .rec)) (x .load))) where
+  kept-all : (o : ChunkOutcome) (x : Item C) → P x → All P (staying o x)
+  kept-all Finished x h = tt
+  kept-all Waiting x h = (steady Kind.Waiting 0 x h, tt)
+  kept-all (Started n) x h = (steady Kind.Started n x h, tt)
 
-  pub left-loads : (sdu : C → ℕ → List ℕ) (room : ℕ) (xs : List (Item C)) → All (λ (x : Item C). P (x .load)) xs
-      → All (λ (x : Item C). P (x .load)) (sendAll sdu room xs .left)
+  pub left-all : (sdu : C → ℕ → List ℕ) (may : Bool) (room : ℕ) (xs : List (Item C)) → All P xs → All P (sendAll sdu may room xs .left)
   unfolding sendAll turns readOff roomAfter
-  left-loads sdu room [] h = tt
-  left-loads sdu room (x ∷ xs) h =
-      let n : Next = next room (x .rec) (sdu (x .load) (x .rec .bits)) in
-      all-append (λ (y : Item C). P (y .load)) (staying (n .outcome) x) _ (kept-loads (n .outcome) x (h .0)) (left-loads sdu (n .room) xs (h .1))
+  left-all sdu may room [] h = tt
+  left-all sdu may room (x ∷ xs) h =
+      let n : Next = next may room (x .rec) (sdu (x .load) (x .rec .bits)) in
+      all-append P (staying (n .outcome) x) _ (kept-all (n .outcome) x (h .0)) (left-all sdu (may && wrote (n .pdus)) (n .room) xs (h .1))

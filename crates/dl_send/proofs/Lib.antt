@@ -4,6 +4,9 @@ pub mod SendLaws
 pub mod BitLaws
 pub mod TurnLaws
 pub mod BlockLaws
+pub mod Document01Laws
 pub mod OnceLaws
 pub mod KeptLaws
 pub mod MapLaws
+pub mod OpenLaws
+pub mod LengthLaws

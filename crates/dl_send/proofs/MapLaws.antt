@@ -1,6 +1,7 @@
 -- Sending looks at an SDU's bits and not at what it is known by: so places, cells, SDUs by value and named SDUs give the same PDUs, room and tags, and what
 -- stays keeps what it is known by. Assumes nothing.
 use mathlib.Core.Path.{_≡_, refl, sym, ap, _∙_}
+use mathlib.Core.Bool.{Bool, _&&_}
 use mathlib.Core.List.{List, [], _∷_, _++_, map, map-append}
 use Prim.Native.Nat.{ℕ}
 use Rattle.lists.proofs.Every.{All}
@@ -11,7 +12,7 @@ use Rattle.dl_merge.proofs.MergeLaws.{reload}
 use Rattle.bs_frag.specs.NextPdu.{Next, next}
 use Rattle.bs_frag.specs.declared.ChunkOutcome.{ChunkOutcome}
 use Rattle.bs_frag.specs.declared.ChunkOutcome.the-variants.{Finished, Waiting, Started}
-use Rattle.dl_send.specs.Send.{again, staying, tagsOf, Sent, sendAll, turns, readOff, roomAfter}
+use Rattle.dl_send.specs.Send.{again, staying, tagsOf, wrote, Sent, sendAll, turns, readOff, roomAfter}
 use Rattle.dl_send.proofs.StepLaws.{andThen}
 
 -- a map of loads that does not look at what a turn changes of a record
@@ -37,12 +38,14 @@ module _ {C D : Type 0} (f : Record → C → D) (steady : Steady f) where
       (ap (λ (l : List (Item D)). l ++ map (reload f) (t .left)) (kept-map (s .outcome) x) ∙ sym (map-append (reload f) (staying (s .outcome) x) (t .left)))
 
   -- to send and then map the loads is to map them and then send
-  pub sendAll-map : (sc : C → ℕ → List ℕ) (sd : D → ℕ → List ℕ) (room : ℕ) (xs : List (Item C)) → All (SameSdu f sc sd) xs
-      → sendAll sd room (map (reload f) xs) ≡ reloadSent (sendAll sc room xs)
+  pub sendAll-map : (sc : C → ℕ → List ℕ) (sd : D → ℕ → List ℕ) (may : Bool) (room : ℕ) (xs : List (Item C)) → All (SameSdu f sc sd) xs
+      → sendAll sd may room (map (reload f) xs) ≡ reloadSent (sendAll sc may room xs)
   unfolding sendAll turns readOff roomAfter
-  sendAll-map sc sd room [] h = refl
-  sendAll-map sc sd room (x ∷ xs) h =
-      let n : Next = next room (x .rec) (sc (x .load) (x .rec .bits)) in
-      ap (λ (l : List ℕ). let s : Next = next room (x .rec) l in andThen s (reload f x) (sendAll sd (s .room) (map (reload f) xs))) (h .0)
-      ∙ ap (andThen n (reload f x)) (sendAll-map sc sd (n .room) xs (h .1))
+  sendAll-map sc sd may room [] h = refl
+  sendAll-map sc sd may room (x ∷ xs) h =
+      let n : Next = next may room (x .rec) (sc (x .load) (x .rec .bits)) in
+      ap (λ (l : List ℕ).
+      let s : Next = next may room (x .rec) l in
+      andThen s (reload f x) (sendAll sd (may && wrote (s .pdus)) (s .room) (map (reload f) xs))) (h .0)
+      ∙ ap (andThen n (reload f x)) (sendAll-map sc sd (may && wrote (n .pdus)) (n .room) xs (h .1))
       ∙ then-map n x _

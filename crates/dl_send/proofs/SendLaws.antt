@@ -1,6 +1,6 @@
 -- The turns of the sending loop, and the octets of the block. Assumes nothing.
 use mathlib.Core.Path.{_≡_, refl, sym, ap, ap₂, _∙_}
-use mathlib.Core.Bool.{Bool, true, false}
+use mathlib.Core.Bool.{Bool, true, false, _&&_}
 use mathlib.Core.List.{List, [], _∷_, _++_, append-assoc, append-nil}
 use Prim.Native.Nat.{ℕ, zero, suc, _+_, _-_, _*_, _%_, _^_, _<_, _≤_}
 use native.Mathlib.Nat.{zero-add}
@@ -10,14 +10,16 @@ use lib.ListN.{length, drop, getD, set, replicate, length-append, drop-of-length
 use lib.Seq.{take-all, paste}
 use borrow.Author.Tests.{lt-ltb, le-ltb, ltb-true, ltb-false}
 use Rattle.lists.proofs.Lists.{drop-replicate}
+use Rattle.mac_pdus.proofs.LengthLaws.{header-size}
 use Rattle.mac_pdus.proofs.ShortHeaders.{null-size}
 use Rattle.sizes.specs.Sizes.{perTimeslot, noPlace}
 use Rattle.bitbuffer.specs.Bits.{bitsOf, written, packed}
 use Rattle.bitbuffer.proofs.Chunks.{valueBits-zero}
-use Rattle.bitbuffer.proofs.Laws.{written-append, length-bitsOf, written-eq}
+use Rattle.bitbuffer.proofs.Laws.{written-append, length-bitsOf, written-eq, length-valueBits}
 use Rattle.bitbuffer.proofs.Octets.{packed-bitsOf}
-use Rattle.mac_pdus.specs.Headers.{resourceBits, nullHeader, headerBits}
-use Rattle.mac_reader.specs.PduList.{Pdu, null, header, body, pduBits, blockBits}
+use Rattle.mac_pdus.specs.declared.ResourceHeader.{ResourceHeader}
+use Rattle.mac_pdus.specs.Headers.{resourceBits, fragBits, endBits, nullHeader, headerBits, headerLength}
+use Rattle.mac_reader.specs.PduList.{Pdu, whole, first, frag, final, null, header, body, pduBits, blockBits}
 use Rattle.dl_record.specs.declared.Record.{Record}
 use Rattle.dl_record.specs.Record.{emptyRecord}
 use Rattle.dl_queue.specs.Queue.{Item, item, recordsOf}
@@ -26,7 +28,7 @@ use Rattle.bs_frag.specs.NextPdu.{Next, next, sduAt, Chunked}
 use Rattle.bs_frag.specs.declared.ChunkOutcome.{ChunkOutcome}
 use Rattle.bs_frag.specs.declared.Chunk.{Chunk}
 use Rattle.dl_send.specs.declared.Progress.{Progress}
-use Rattle.dl_send.specs.Send.{staying, tagsOf, Sent, nullIn, sendAll, blockOf}
+use Rattle.dl_send.specs.Send.{staying, tagsOf, wrote, Sent, nullIn, sendAll, blockOf}
 use Rattle.dl_send.specs.Arrays.{listed, placeSdu, sentOf, tagRow, staysIn, stayedAs, stayedFrom, firstTag, SentInto, BuiltAs}
 use Rattle.dl_send.proofs.StepLaws.{andThen, send-none, send-next}
 use Rattle.dl_send.proofs.ArrayLaws.{listed-next, listed-end, records-step, sources-step, length-step, stays-most, tags-step}
@@ -45,6 +47,32 @@ null-bits = append-nil (resourceBits nullHeader ++ []) ∙ append-nil (resourceB
 no-bits : blockBits [] ≡ []
 unfolding blockBits
 no-bits = refl
+
+-- ---- a record wrote a PDU exactly if bits were written
+
+resource-some : (r : ResourceHeader) → 0 < length (resourceBits r)
+unfolding headerLength
+resource-some r = omega (arith, header-size r)
+
+pdu-some : (p : Pdu) → 0 < length (pduBits p)
+unfolding pduBits header body headerBits fragBits endBits
+pdu-some (whole r b) = rw length-append (omega (arith, resource-some r))
+pdu-some (first r b) = rw length-append (omega (arith, resource-some r))
+pdu-some (frag f b) = simp (length-append, length-valueBits) (omega arith)
+pdu-some (final e b) = simp (length-append, length-valueBits) (omega arith)
+pdu-some null = rw length-append (omega (arith, resource-some nullHeader))
+
+wrote-bits : (ps : List Pdu) → wrote ps ≡ ltb 0 (length (blockBits ps))
+unfolding blockBits
+wrote-bits [] = refl
+wrote-bits (p ∷ ps) = sym (lt-ltb 0 (length (pduBits p ++ blockBits ps)) (rw length-append (omega (arith, pdu-some p))))
+
+wrote-behind : (at end : ℕ) (ps : List Pdu) → end ≡ at + length (blockBits ps) → wrote ps ≡ ltb at end
+wrote-behind at end ps e = go (wrote ps) refl
+  where
+    go : (b : Bool) → wrote ps ≡ b → wrote ps ≡ ltb at end
+    go true f = f ∙ sym (lt-ltb at end (omega (arith, ltb-true 0 (length (blockBits ps)) (sym (wrote-bits ps) ∙ f))))
+    go false f = f ∙ sym (le-ltb at end (omega (arith, ltb-false 0 (length (blockBits ps)) (sym (wrote-bits ps) ∙ f))))
 
 pub null-some : (room : ℕ) → 16 ≤ room → blockBits (nullIn room) ≡ resourceBits nullHeader
 null-some room h = rw (le-ltb room 16 h) null-bits
@@ -66,11 +94,11 @@ nothing-written l at room h = rw (null-none room h)
 -- ---- the loop
 
 module _ (block₀ : List ℕ) (w : ℕ) (store : List ℕ) (first : ℕ) (records : List Record) (from : List ℕ) (n : ℕ) where
-  abbrev rest : ℕ → ℕ → Sent ℕ
-  rest at i = sendAll (placeSdu store first) (w - at) (drop i (listed n records from))
+  abbrev rest : Bool → ℕ → ℕ → Sent ℕ
+  rest may at i = sendAll (placeSdu store first) may (w - at) (drop i (listed n records from))
 
   -- after i turns: what is held so far, and what the other records come to, make the whole
-  pub record Running (block : List ℕ) (out : List Record) (out-from : List ℕ) (left : ℕ) (tags : List ℕ) (tag-count at i : ℕ) : Type 0 where
+  pub record Running (block : List ℕ) (out : List Record) (out-from : List ℕ) (left : ℕ) (tags : List ℕ) (tag-count at : ℕ) (may : Bool) (i : ℕ) : Type 0 where
     pub held : List (Item ℕ)
     pub noted : List ℕ
     pub place : i ≤ n
@@ -83,19 +111,19 @@ module _ (block₀ : List ℕ) (w : ℕ) (store : List ℕ) (first : ℕ) (recor
     pub tags-noted : tags ≡ tagRow perTimeslot noted
     pub count-noted : tag-count ≡ length noted
     pub few-tags : tag-count ≤ i
-    pub bits : written (bitsOf block) at (blockBits (sendAll (placeSdu store first) (w - at) (drop i (listed n records from)) .pdus))
+    pub bits : written (bitsOf block) at (blockBits (sendAll (placeSdu store first) may (w - at) (drop i (listed n records from)) .pdus))
         ≡ written (bitsOf block₀) 0 (blockBits (sentOf store first w records from n .pdus))
-    pub total : at + length (blockBits (sendAll (placeSdu store first) (w - at) (drop i (listed n records from)) .pdus))
+    pub total : at + length (blockBits (sendAll (placeSdu store first) may (w - at) (drop i (listed n records from)) .pdus))
         ≡ length (blockBits (sentOf store first w records from n .pdus))
-    pub stay : held ++ sendAll (placeSdu store first) (w - at) (drop i (listed n records from)) .left ≡ sentOf store first w records from n .left
-    pub tagged : noted ++ sendAll (placeSdu store first) (w - at) (drop i (listed n records from)) .tags ≡ sentOf store first w records from n .tags
+    pub stay : held ++ sendAll (placeSdu store first) may (w - at) (drop i (listed n records from)) .left ≡ sentOf store first w records from n .left
+    pub tagged : noted ++ sendAll (placeSdu store first) may (w - at) (drop i (listed n records from)) .tags ≡ sentOf store first w records from n .tags
 
   pub running-start : (out : List Record) (out-from tags : List ℕ) → out ≡ replicate perTimeslot emptyRecord → out-from ≡ replicate perTimeslot noPlace
-      → tags ≡ replicate perTimeslot 0 → Running block₀ out out-from 0 tags 0 0 0
+      → tags ≡ replicate perTimeslot 0 → Running block₀ out out-from 0 tags 0 0 true 0
   unfolding sentOf recordsOf sourcesOf tagRow
   running-start out out-from tags eo ef et =
       let z : w - 0 ≡ w = omega arith in
-      let start : rest 0 0 ≡ sentOf store first w records from n = ap (λ (y : ℕ). sendAll (placeSdu store first) y (listed n records from)) z in
+      let start : rest true 0 0 ≡ sentOf store first w records from n = ap (λ (y : ℕ). sendAll (placeSdu store first) true y (listed n records from)) z in
       record {
         held = [];
         noted = [];
@@ -121,26 +149,27 @@ module _ (block₀ : List ℕ) (w : ℕ) (store : List ℕ) (first : ℕ) (recor
   abbrev thePlace : ℕ → ℕ
   thePlace i = getD from i 0
 
-  pub running-step : (block : List ℕ) (out : List Record) (out-from : List ℕ) (left : ℕ) (tags : List ℕ) (tag-count at i : ℕ) (m : List ℕ) (c : Chunk)
-      (r x : Record) (f t k l : ℕ)
-      → n ≤ perTimeslot → i < n → r ≡ theRecord i → Running block out out-from left tags tag-count at i → length m ≡ length block
-      → Chunked (bitsOf block) at w (bitsOf m) c (next (w - at) r (sduAt store (first + thePlace i % perTimeslot) (r .bits)))
+  pub running-step : (block : List ℕ) (out : List Record) (out-from : List ℕ) (left : ℕ) (tags : List ℕ) (tag-count at : ℕ) (may : Bool) (i : ℕ) (m : List ℕ)
+      (c : Chunk) (r x : Record) (f t k l : ℕ) (on : Bool)
+      → n ≤ perTimeslot → i < n → r ≡ theRecord i → Running block out out-from left tags tag-count at may i → length m ≡ length block
+      → Chunked (bitsOf block) at w (bitsOf m) c (next may (w - at) r (sduAt store (first + thePlace i % perTimeslot) (r .bits)))
       → x ≡ stayedAs (c .outcome) r → f ≡ stayedFrom (c .outcome) (thePlace i) → t ≡ firstTag (tagsOf (c .outcome) (r .tag))
-      → k ≡ staysIn (c .outcome) → l ≡ length (tagsOf (c .outcome) (r .tag)) → l ≤ 1
-      → Running m (set out left x) (set out-from left f) (left + k) (set tags tag-count t) (tag-count + l) (c .next) (i + 1)
+      → k ≡ staysIn (c .outcome) → l ≡ length (tagsOf (c .outcome) (r .tag)) → l ≤ 1 → on ≡ may && ltb at (c .next)
+      → Running m (set out left x) (set out-from left f) (left + k) (set tags tag-count t) (tag-count + l) (c .next) on (i + 1)
   unfolding placeSdu
-  running-step block out out-from left tags tag-count at i m c r x f t k l n16 hi is run e ch ex ef et ek el hl =
+  running-step block out out-from left tags tag-count at may i m c r x f t k l on n16 hi is run e ch ex ef et ek el hl eo =
       let y : Item ℕ = item r (thePlace i) in
-      let s : Next = next (w - at) (y .rec) (placeSdu store first (y .load) (y .rec .bits)) in
-      let u : Sent ℕ = rest (c .next) (i + 1) in
+      let s : Next = next may (w - at) (y .rec) (placeSdu store first (y .load) (y .rec .bits)) in
+      let u : Sent ℕ = rest on (c .next) (i + 1) in
       let room : s .room ≡ w - c .next = omega (arith, ch .left) in
-      let here : rest at i ≡ andThen s y u =
-      ap (sendAll (placeSdu store first) (w - at))
+      let same : may && wrote (s .pdus) ≡ on = ap (λ (b : Bool). may && b) (wrote-behind at (c .next) (s .pdus) (ch .wrote .ends)) ∙ sym eo in
+      let here : rest may at i ≡ andThen s y u =
+      ap (sendAll (placeSdu store first) may (w - at))
       (listed-next n records from i hi ∙ ap (λ (z : Record). item z (thePlace i) ∷ drop (i + 1) (listed n records from)) (sym is))
-      ∙ send-next (placeSdu store first) (w - at) y _
-      ∙ ap (λ (z : ℕ). andThen s y (sendAll (placeSdu store first) z (drop (i + 1) (listed n records from)))) room
+      ∙ send-next (placeSdu store first) may (w - at) y _
+      ∙ ap₂ (λ (b : Bool) (z : ℕ). andThen s y (sendAll (placeSdu store first) b z (drop (i + 1) (listed n records from)))) same room
       in
-      let joined : blockBits (rest at i .pdus) ≡ blockBits (s .pdus) ++ blockBits (u .pdus) =
+      let joined : blockBits (rest may at i .pdus) ≡ blockBits (s .pdus) ++ blockBits (u .pdus) =
       ap (λ (z : Sent ℕ). blockBits (z .pdus)) here ∙ block-append (s .pdus) (u .pdus) in
       let less : length (run .held) < perTimeslot = omega (arith, run .few, run .left-held) in
       let fewer : length (run .noted) < perTimeslot = omega (arith, run .few-tags, run .count-noted) in
@@ -172,14 +201,15 @@ module _ (block₀ : List ℕ) (w : ℕ) (store : List ℕ) (first : ℕ) (recor
             ∙ ap (λ (z : Sent ℕ). run .noted ++ z .tags) (sym here) ∙ run .tagged;
       }
 
-  pub running-end : (block : List ℕ) (out : List Record) (out-from : List ℕ) (left : ℕ) (tags : List ℕ) (tag-count at i : ℕ) (m : List ℕ)
-      → n ≤ perTimeslot → n ≤ i → Running block out out-from left tags tag-count at i → w ≤ 8 * length block₀
+  pub running-end : (block : List ℕ) (out : List Record) (out-from : List ℕ) (left : ℕ) (tags : List ℕ) (tag-count at : ℕ) (may : Bool) (i : ℕ)
+      (m : List ℕ) → n ≤ perTimeslot → n ≤ i → Running block out out-from left tags tag-count at may i → w ≤ 8 * length block₀
       → bitsOf m ≡ written (bitsOf block) at (blockBits (nullIn (w - at)))
       → SentInto (bitsOf block₀) (bitsOf m) (record { records = out; from = out-from; left = left; tags = tags; «tag_count» = tag-count })
       (sentOf store first w records from n)
-  running-end block out out-from left tags tag-count at i m n16 hi run hw e =
+  running-end block out out-from left tags tag-count at may i m n16 hi run hw e =
       let t : Sent ℕ = record { pdus = nullIn (w - at); room = w - at; left = []; tags = [] } in
-      let here : rest at i ≡ t = ap (sendAll (placeSdu store first) (w - at)) (listed-end n records from i hi) ∙ send-none (placeSdu store first) (w - at) in
+      let here : rest may at i ≡ t =
+      ap (sendAll (placeSdu store first) may (w - at)) (listed-end n records from i hi) ∙ send-none (placeSdu store first) may (w - at) in
       let stayed : run .held ≡ sentOf store first w records from n .left =
       sym (append-nil (run .held)) ∙ ap (λ (y : Sent ℕ). run .held ++ y .left) (sym here) ∙ run .stay
       in

@@ -165,9 +165,9 @@ module _ (w room : ℕ) (r : Record) (sdu : List ℕ) (few : room ≤ w) (width 
         within = omega arith;
       }
 
-  whole-turn : headerSize r + r .bits ≤ room → SoundTurn w room 0 r sdu (begin room r sdu)
+  whole-turn : (may : Bool) → headerSize r + r .bits ≤ room → SoundTurn w room 0 r sdu (begin may room r sdu)
   unfolding Fits
-  whole-turn i =
+  whole-turn may i =
       let n : ℕ = headerSize r + r .bits in
       let k : ℕ = fillWanted room n in
       let p : Pdu = wholePdu r sdu k in
@@ -175,7 +175,7 @@ module _ (w room : ℕ) (r : Record) (sdu : List ℕ) (few : room ≤ w) (width 
       let size : length (pduBits p) ≡ n + k = whole-length r sdu k ∙ omega (arith, long) in
       let inside : n + k ≤ room = fill-fits room n i in
       let code : headerOf r (fillFlag k) l .«length_ind» ≡ l = code-of r (fillFlag k) l in
-      turn-as (begin-whole room r sdu (headerSize r) refl k refl i)
+      turn-as (begin-whole may room r sdu (headerSize r) refl k refl i)
       (record {
         bits = whole-bits r sdu k are;
         size = omega (arith, one-length p, size, inside);
@@ -200,15 +200,15 @@ module _ (w room : ℕ) (r : Record) (sdu : List ℕ) (few : room ≤ w) (width 
         within = omega arith;
       })
 
-  first-turn : room < headerSize r + r .bits → 32 ≤ room → headerSize r ≤ room → SoundTurn w room 0 r sdu (begin room r sdu)
+  first-turn : (may : Bool) → may ≡ true → room < headerSize r + r .bits → 32 ≤ room → headerSize r ≤ room → SoundTurn w room 0 r sdu (begin may room r sdu)
   unfolding Fits
-  first-turn i j k =
+  first-turn may on i j k =
       let m : ℕ = room - headerSize r in
       let s : List ℕ = take m sdu in
       let p : Pdu = firstPdu r s in
       let some : length s ≡ m = length-take-le m sdu (omega (arith, long)) in
       let size : length (pduBits p) ≡ room = first-length r s ∙ omega (arith, some) in
-      turn-as (begin-starts room r sdu (headerSize r) refl i j k)
+      turn-as (begin-starts may room r sdu (headerSize r) refl on i j k)
       (record {
         bits = first-bits r s (bits-take m sdu are);
         size = omega (arith, one-length p, size);
@@ -285,19 +285,22 @@ module _ (w room : ℕ) (r : Record) (sdu : List ℕ) (few : room ≤ w) (width 
         within = omega arith;
       })
 
-  pub begin-turn : SoundTurn w room 0 r sdu (begin room r sdu)
-  begin-turn = go (leb (headerSize r + r .bits) room) refl
+  pub begin-turn : (may : Bool) → SoundTurn w room 0 r sdu (begin may room r sdu)
+  begin-turn may = go (leb (headerSize r + r .bits) room) refl
     where
-      start : room < headerSize r + r .bits → (b : Bool) → ltb room 32 ≡ b → (c : Bool) → ltb room (headerSize r) ≡ c
-          → SoundTurn w room 0 r sdu (begin room r sdu)
-      start i true e c f = turn-as (begin-waits room r sdu (headerSize r) refl i (inl (ltb-true room 32 e))) (nothing 0 Waiting refl (omega arith))
-      start i false e true f =
-          turn-as (begin-waits room r sdu (headerSize r) refl i (inr (ltb-true room (headerSize r) f))) (nothing 0 Waiting refl (omega arith))
-      start i false e false f = first-turn i (ltb-false room 32 e) (ltb-false room (headerSize r) f)
+      waits : room < headerSize r + r .bits → (may ≡ false) ⊎ (room < 32) ⊎ (room < headerSize r) → SoundTurn w room 0 r sdu (begin may room r sdu)
+      waits i why = turn-as (begin-waits may room r sdu (headerSize r) refl i why) (nothing 0 Waiting refl (omega arith))
 
-      go : (b : Bool) → leb (headerSize r + r .bits) room ≡ b → SoundTurn w room 0 r sdu (begin room r sdu)
-      go true e = whole-turn (leb-true (headerSize r + r .bits) room e)
-      go false e = start (leb-false (headerSize r + r .bits) room e) (ltb room 32) refl (ltb room (headerSize r)) refl
+      start : room < headerSize r + r .bits → (a : Bool) → may ≡ a → (b : Bool) → ltb room 32 ≡ b → (c : Bool) → ltb room (headerSize r) ≡ c
+          → SoundTurn w room 0 r sdu (begin may room r sdu)
+      start i false d b e c f = waits i (inl d)
+      start i true d true e c f = waits i (inr (inl (ltb-true room 32 e)))
+      start i true d false e true f = waits i (inr (inr (ltb-true room (headerSize r) f)))
+      start i true d false e false f = first-turn may d i (ltb-false room 32 e) (ltb-false room (headerSize r) f)
+
+      go : (b : Bool) → leb (headerSize r + r .bits) room ≡ b → SoundTurn w room 0 r sdu (begin may room r sdu)
+      go true e = whole-turn may (leb-true (headerSize r + r .bits) room e)
+      go false e = start (leb-false (headerSize r + r .bits) room e) may refl (ltb room 32) refl (ltb room (headerSize r)) refl
 
   pub continue-turn : SoundTurn w room (r .sent) r sdu (continue room r sdu)
   continue-turn = go (leb (endOctets (r .bits - r .sent) * 8) room) refl
@@ -316,10 +319,10 @@ abbrev pub sentBefore : Bool → Record → ℕ
 sentBefore true r = r .sent
 sentBefore false r = 0
 
-pub next-turn : (w room : ℕ) (r : Record) (sdu : List ℕ) → room ≤ w → w ≤ blockWidth → Sendable r → AreBits sdu → length sdu ≡ r .bits
-    → SoundTurn w room (sentBefore (isStarted (r .kind)) r) r sdu (next room r sdu)
-next-turn w room r sdu few width sendable are long = go (isStarted (r .kind)) refl
+pub next-turn : (w : ℕ) (may : Bool) (room : ℕ) (r : Record) (sdu : List ℕ) → room ≤ w → w ≤ blockWidth → Sendable r → AreBits sdu → length sdu ≡ r .bits
+    → SoundTurn w room (sentBefore (isStarted (r .kind)) r) r sdu (next may room r sdu)
+next-turn w may room r sdu few width sendable are long = go (isStarted (r .kind)) refl
   where
-    go : (b : Bool) → isStarted (r .kind) ≡ b → SoundTurn w room (sentBefore b r) r sdu (next room r sdu)
-    go true e = turn-as (next-later room r sdu e) (continue-turn w room r sdu few width sendable are long)
-    go false e = turn-as (next-first room r sdu e) (begin-turn w room r sdu few width sendable are long)
+    go : (b : Bool) → isStarted (r .kind) ≡ b → SoundTurn w room (sentBefore b r) r sdu (next may room r sdu)
+    go true e = turn-as (next-later may room r sdu e) (continue-turn w room r sdu few width sendable are long)
+    go false e = turn-as (next-first may room r sdu e) (begin-turn w room r sdu few width sendable are long may)

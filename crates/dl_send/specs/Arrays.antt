@@ -1,5 +1,6 @@
 -- What the sending loop works on: arrays of records with their places, and what they hold in the end. Assumes nothing.
 use mathlib.Core.Path.{_≡_}
+use mathlib.Core.Bool.{true}
 use mathlib.Core.List.{List, [], _∷_, map}
 use Prim.Native.Nat.{ℕ, zero, suc, _+_, _*_, _%_, _^_, _<_, _≤_}
 use lib.ListN.{length, getD, drop}
@@ -32,7 +33,7 @@ placeSdu store first place n = sduAt store (first + place % perTimeslot) n
 
 -- what the first n records come to
 unfoldable pub sentOf : List ℕ → ℕ → ℕ → List Record → List ℕ → ℕ → Sent ℕ
-sentOf store first w records from n = sendAll (placeSdu store first) w (listed n records from)
+sentOf store first w records from n = sendAll (placeSdu store first) true w (listed n records from)
 
 -- ---- the arrays
 

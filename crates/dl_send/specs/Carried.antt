@@ -1,4 +1,5 @@
 -- The SDU bits that PDUs carry, as their receiver finds them, and a record's PDUs over several blocks. Assumes nothing.
+use mathlib.Core.Bool.{Bool}
 use mathlib.Core.List.{List, [], _∷_, _++_}
 use Prim.Native.Nat.{ℕ, _-_}
 use lib.ListN.{length, take}
@@ -44,9 +45,9 @@ pub record Progressed : Type 0 where
 abbrev pub behind : List Pdu → Progressed → Progressed
 behind ps x = record { pdus = ps ++ x .pdus; outcome = x .outcome }
 
--- its turns in blocks with these rooms left, until it is finished
-unfoldable pub over : List ℕ → ChunkOutcome → Record → List ℕ → Progressed
+-- its turns in blocks, until it is finished: of each block whether it may start there, and the room left
+unfoldable pub over : List (Bool × ℕ) → ChunkOutcome → Record → List ℕ → Progressed
 over [] o r sdu = record { pdus = []; outcome = o }
-over (room ∷ rooms) Finished r sdu = record { pdus = []; outcome = Finished }
-over (room ∷ rooms) Waiting r sdu = let x : Next = next room (again Kind.Waiting 0 r) sdu in behind (x .pdus) (over rooms (x .outcome) r sdu)
-over (room ∷ rooms) (Started n) r sdu = let x : Next = next room (again Kind.Started n r) sdu in behind (x .pdus) (over rooms (x .outcome) r sdu)
+over (b ∷ bs) Finished r sdu = record { pdus = []; outcome = Finished }
+over (b ∷ bs) Waiting r sdu = let x : Next = next (b .0) (b .1) (again Kind.Waiting 0 r) sdu in behind (x .pdus) (over bs (x .outcome) r sdu)
+over (b ∷ bs) (Started n) r sdu = let x : Next = next (b .0) (b .1) (again Kind.Started n r) sdu in behind (x .pdus) (over bs (x .outcome) r sdu)

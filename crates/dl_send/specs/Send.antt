@@ -1,6 +1,6 @@
--- A list of records sent in a block, one after another, and then the null PDU: document 01, section "Block". A record goes with a load by which its SDU
--- is known: its cell, the place that it stands at, or its SDU with the name of its grant. Assumes nothing.
-use mathlib.Core.Bool.{cond}
+-- A list of records sent in a block, one after another, and then the null PDU: document 01, section "Block", and document 02, W-201. A record goes with a
+-- load by which its SDU is known: its cell, the place that it stands at, or its SDU with the name of its grant. Assumes nothing.
+use mathlib.Core.Bool.{Bool, true, false, _&&_, cond}
 use mathlib.Core.List.{List, [], _∷_, _++_}
 use Prim.Native.Nat.{ℕ, _-_, _*_}
 use lib.Dec.{ltb}
@@ -46,15 +46,21 @@ pub record Turn (C : Type 0) : Type 0 where
   pub taken : Item C
   pub next : Next
 
+-- whether a record wrote a PDU: one that wrote none "has found no place"
+abbrev pub wrote : List Pdu → Bool
+wrote [] = false
+wrote (p ∷ ps) = true
+
 -- sdu c n is the SDU, of n bits, that a load c stands for
 module _ {C : Type 0} (sdu : C → ℕ → List ℕ) where
-  abbrev pub turn : ℕ → Item C → Next
-  turn room x = next room (x .rec) (sdu (x .load) (x .rec .bits))
+  abbrev pub turn : Bool → ℕ → Item C → Next
+  turn may room x = next may room (x .rec) (sdu (x .load) (x .rec .bits))
 
-  -- one record after another, each in the room that the one before left
-  unfoldable pub turns : ℕ → List (Item C) → List (Turn C)
-  turns room [] = []
-  turns room (x ∷ xs) = let s : Next = turn room x in record { taken = x; next = s } ∷ turns (s .room) xs
+  -- one record after another, each in the room that the one before left. W-201: "once a record has found no place in a block, no later record starts
+  -- fragments in that block; one that fits whole still goes in"
+  unfoldable pub turns : Bool → ℕ → List (Item C) → List (Turn C)
+  turns may room [] = []
+  turns may room (x ∷ xs) = let s : Next = turn may room x in record { taken = x; next = s } ∷ turns (may && wrote (s .pdus)) (s .room) xs
 
 -- ---- what is read off the turns in a room
 
@@ -83,8 +89,9 @@ sentIn room ts =
       tags = readOff (λ t. tagsOf (t .next .outcome) (t .taken .rec .tag)) (λ r. []) room ts;
     }
 
-unfoldable pub sendAll : {C : Type 0} → (C → ℕ → List ℕ) → ℕ → List (Item C) → Sent C
-sendAll sdu room xs = sentIn room (turns sdu room xs)
+-- may: whether the first of them may start fragments
+unfoldable pub sendAll : {C : Type 0} → (C → ℕ → List ℕ) → Bool → ℕ → List (Item C) → Sent C
+sendAll sdu may room xs = sentIn room (turns sdu may room xs)
 
 -- ---- the loads
 

@@ -111,7 +111,8 @@ fn put_null(block: &mut [u8], at: usize, w: usize)
     mac_writer::put_null(block, at);
 }
 
-// Sends `n` of the records, those at the places of `order`, and then the null PDU. They come from the places of `from`.
+// Sends `n` of the records, those at the places of `order`, and then the null PDU. They come from the places of `from`. Once one has written nothing,
+// none starts fragments.
 fn send_all(
     block: &mut [u8],
     w: usize,
@@ -133,13 +134,14 @@ fn send_all(
     let mut tags = [0u16; PER_TIMESLOT];
     let mut tag_count = 0;
     let mut at = 0;
+    let mut may_start = true;
     let mut i = 0;
     while i < n {
         let o = order[i] as usize;
         let r = records[o];
         let place = from[i];
         let cell = first + place as usize % PER_TIMESLOT;
-        let chunk = bs_frag_chunk::get_next_chunk(block, at, w, store, cell, r);
+        let chunk = bs_frag_chunk::get_next_chunk(block, at, w, store, cell, r, may_start);
         let outcome = chunk.outcome;
         let tag = r.tag;
         out[left] = stayed(outcome, r);
@@ -147,6 +149,7 @@ fn send_all(
         tags[tag_count] = tag_value(outcome, tag);
         left += stays(outcome);
         tag_count += tag_comes(outcome, tag);
+        may_start = may_start & (at < chunk.next);
         at = chunk.next;
         i += 1;
     }

@@ -10,7 +10,7 @@ use native.Mathlib.Omega.{arith}
 use native.Mathlib.Nat.{not-suc-le-zero, le-of-suc-le-suc}
 use lib.ListN.{length, getD}
 use lib.Seq.{getD-set-same}
-use Rattle.sizes.specs.Sizes.{blockOctets}
+use Rattle.sizes.specs.Sizes.{blockWidth, blockOctets}
 use Rattle.optional.specs.declared.OptU8.{OptU8}
 use Rattle.optional.proofs.Tests.{and-right}
 use Rattle.tdma_time.specs.declared.TdmaTime.{TdmaTime}
@@ -106,8 +106,8 @@ module _ (x : TdmaTime) (v : Valid x) (before : List Call) (b : List ℕ) where
   -- what a build comes to that is not refused, and can be done
   abbrev done : Stepped Model
   done =
-      became m (m .uplink) (withQueueAt (m .queues) t (namedBuilt (queueNow m) .left))
-      (block (blockOf blockOctets (blockBits pdus)) (namedBuilt (queueNow m) .tags))
+      became m (m .uplink) (withQueueAt (m .queues) t (namedBuilt blockWidth (queueNow m) .left))
+      (block (blockOf blockOctets (blockBits pdus)) (namedBuilt blockWidth (queueNow m) .tags))
 
   -- it was built, of the model's PDUs
   block-built : (octets tags : List ℕ) → Replied octets tags
@@ -125,7 +125,7 @@ module _ (x : TdmaTime) (v : Valid x) (before : List Call) (b : List ℕ) where
       go true false q = absurd (let z : _≡_ {A = ℕ} 0 1 = cc in omega arith)
 
   -- what stays of the queue
-  block-left : (octets tags : List ℕ) → Replied octets tags → queueNow (modelAt x (before ++ build b ∷ [])) ≡ namedBuilt (queueNow m) .left
+  block-left : (octets tags : List ℕ) → Replied octets tags → queueNow (modelAt x (before ++ build b ∷ [])) ≡ namedBuilt blockWidth (queueNow m) .left
   unfolding canBuild
   block-left octets tags e =
       let (can, after, same) = block-built octets tags e in
@@ -137,7 +137,7 @@ module _ (x : TdmaTime) (v : Valid x) (before : List Call) (b : List ℕ) where
       → ((y : Item NamedSdu) → List·Memᴰ y back → replaces y g ≡ false)
       → List·Memᴰ (some name) (namesBuilt m) ⊎ List·Memᴰ (some name) (map pending (queueNow (modelAt x (before ++ build b ∷ []))))
   unfolding namesBuilt
-  block-kept octets tags e front back g name q n k = rw (block-left octets tags e, q) (sent-or-pending front back g name n k)
+  block-kept octets tags e front back g name q n k = rw (block-left octets tags e, q) (sent-or-pending blockWidth front back g name n k)
 
   -- what is read in it
   pub block-listed : (octets tags : List ℕ) → Replied octets tags → readBlock blockOctets octets ≡ reader.replyOf (reader.headers (placed 0 pdus))
@@ -157,7 +157,7 @@ module _ (x : TdmaTime) (v : Valid x) (before : List Call) (b : List ℕ) where
   -- the PDUs and their names, one by one
   names-tied : Along (GrantIn (Faithful x before t)) pdus (namesBuilt m)
   unfolding pdusBuilt namesBuilt
-  names-tied = built-tied (Faithful x before t) (λ n. tt) (queueAt (m .queues) t) (named-history x before t (omega arith))
+  names-tied = built-tied (Faithful x before t) (λ n. tt) blockWidth (queueAt (m .queues) t) (named-history x before t (omega arith))
 
   module _ (octets tags : List ℕ) (e : Replied octets tags) where
     many-listed : readBlock blockOctets octets .count ≡ length pdus

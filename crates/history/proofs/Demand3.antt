@@ -24,6 +24,7 @@ use Rattle.history.proofs.WholeSimulation.{histories, same-reply}
 use Rattle.history.proofs.LeftSlots.{left-stands}
 use Rattle.history.proofs.ReadLaws.{own-entry, owner-shown, usage-shown, reading-shown}
 use Rattle.history.proofs.BlockGrants.{block-kept, block-listed, block-stands, block-grants}
+use Rattle.history.proofs.OpenHistory.{one-started}
 
 module _ (x : TdmaTime) (v : Valid x) where
   module _ (cs : List Call) (k : ℕ) (l : k < slotsAgreed) where
@@ -86,6 +87,7 @@ demand3 x v cs =
       now = histories x v cs .same .uplink .now;
       in-range = rw (← histories x v cs .same .uplink .now) (slotOf-below _ (histories x v cs .same .uplink .valid));
       sound = histories x v cs .sound;
+      one-open = one-started x v cs;
     }
   where
     built : (before : List Call) (b : List ℕ) {octets tags : List ℕ} → memoryStep (build b) (memoryAt x before) .reply ≡ block octets tags

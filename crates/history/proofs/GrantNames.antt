@@ -1,15 +1,14 @@
 -- "A grant keeps its name through merging into the header written": what ties number, grant and name of each queued record together ties those of each
 -- header written, and of what stays (`built-tied`). Assumes nothing.
 use mathlib.Core.Path.{_≡_, refl, ap}
-use mathlib.Core.Bool.{Bool, true, false, _||_, cond}
+use mathlib.Core.Bool.{Bool, true, false, _&&_, _||_, not, cond}
 use mathlib.Core.Option.{Option, none}
 use mathlib.Core.List.{List, [], _∷_, _++_, map}
 use Prim.Native.Nat.{ℕ, zero, suc, _+_, _-_, _*_, _/_, _<_}
 use native.Mathlib.Nat.{le-of-suc-le-suc, not-suc-le-zero}
 use lib.Dec.{leb, ltb}
 use lib.ListN.{length, getD}
-use Rattle.lists.proofs.Every.{All, all-append}
-use Rattle.sizes.specs.Sizes.{blockWidth}
+use Rattle.lists.proofs.Every.{All}
 use Rattle.optional.specs.declared.OptU8.{OptU8}
 use Rattle.optional.specs.declared.OptU16.{OptU16}
 use Rattle.fillbits.specs.Fill.{fillWanted}
@@ -23,16 +22,15 @@ use Rattle.dl_merge.specs.Merge.{mergeNamed}
 use Rattle.dl_merge.proofs.NameLaws.{Tied, merge-tied}
 use Rattle.dl_record.specs.Kind.{isStarted}
 use Rattle.bs_frag.specs.NextPdu.{fillFlag, headerOf, headerSize, Next, beginWith, begin, continue, next, endOctets}
-use Rattle.bs_frag.specs.declared.ChunkOutcome.{ChunkOutcome}
-use Rattle.bs_frag.specs.declared.ChunkOutcome.the-variants.{Finished, Waiting, Started}
-use Rattle.dl_send.specs.Send.{staying, nullIn, turn, sendAll, turns, readOff, roomAfter}
+use Rattle.dl_send.specs.Send.{nullIn, wrote, turn, sendAll, turns, readOff, roomAfter}
+use Rattle.dl_send.proofs.KeptLaws.{left-all}
 use Rattle.dl_build.specs.Build.{inOrder, buildList}
 use Rattle.dl_build.proofs.OrderLaws.{order-all}
 use Rattle.history.specs.Model.{NamedSdu, namedSdu, namedBuilt, nameIn, namesIn}
 
 -- the names of the PDUs that a list of records comes to
-abbrev pub sentNames : ℕ → List (Item NamedSdu) → List (Option ℕ)
-sentNames room xs = namesIn room (turns namedSdu room xs)
+abbrev pub sentNames : Bool → ℕ → List (Item NamedSdu) → List (Option ℕ)
+sentNames may room xs = namesIn room (turns namedSdu may room xs)
 
 -- ---- two lists, element by element
 
@@ -118,12 +116,12 @@ module _ (R : ℕ → OptU8 → Option ℕ → Type 0) (bare : (n : ℕ) → R n
       → R (numberOf (headerOf r fill len .address)) (headerOf r fill len .«slot_granting_element») name
   header-in r name k fill len = rw (header-number r fill len, header-grant r fill len) k
 
-  begin-in : (room : ℕ) (r : Record) (sdu : List ℕ) (name : Option ℕ) → R (r .number) (r .header .«slot_granting_element») name
-      → AllIn name (begin room r sdu .pdus)
+  begin-in : (may : Bool) (room : ℕ) (r : Record) (sdu : List ℕ) (name : Option ℕ) → R (r .number) (r .header .«slot_granting_element») name
+      → AllIn name (begin may room r sdu .pdus)
   unfolding begin beginWith header
-  begin-in room r sdu name k =
+  begin-in may room r sdu name k =
       let fill : ℕ = fillWanted room (headerSize r + r .bits) in
-      one-of name (leb (headerSize r + r .bits) room) (ltb room 32 || ltb room (headerSize r)) _ _ _
+      one-of name (leb (headerSize r + r .bits) room) (not may || ltb room 32 || ltb room (headerSize r)) _ _ _
       (header-in r name k (fillFlag fill) ((headerSize r + r .bits + fill) / 8), tt)
       tt
       (header-in r name k 0 63, tt)
@@ -132,14 +130,14 @@ module _ (R : ℕ → OptU8 → Option ℕ → Type 0) (bare : (n : ℕ) → R n
   unfolding continue header
   continue-in room r sdu name = one-of name (leb (endOctets (r .bits - r .sent) * 8) room) (ltb room 16) _ _ _ (bare 0, tt) tt (bare 0, tt)
 
-  next-in : (room : ℕ) (r : Record) (sdu : List ℕ) (name : Option ℕ) → R (r .number) (r .header .«slot_granting_element») name
-      → AllIn name (next room r sdu .pdus)
+  next-in : (may : Bool) (room : ℕ) (r : Record) (sdu : List ℕ) (name : Option ℕ) → R (r .number) (r .header .«slot_granting_element») name
+      → AllIn name (next may room r sdu .pdus)
   unfolding next
-  next-in room r sdu name k = go (isStarted (r .kind))
+  next-in may room r sdu name k = go (isStarted (r .kind))
     where
-      go : (b : Bool) → AllIn name (cond b (continue room r sdu) (begin room r sdu) .pdus)
+      go : (b : Bool) → AllIn name (cond b (continue room r sdu) (begin may room r sdu) .pdus)
       go true = continue-in room r sdu name
-      go false = begin-in room r sdu name k
+      go false = begin-in may room r sdu name k
 
   null-in : (room : ℕ) → AllIn none (nullIn room)
   unfolding header
@@ -149,39 +147,28 @@ module _ (R : ℕ → OptU8 → Option ℕ → Type 0) (bare : (n : ℕ) → R n
       go true = tt
       go false = (bare _, tt)
 
-  pdus-tied : (room : ℕ) (xs : List (Item NamedSdu)) → All (Tied R) xs → Along (GrantIn R) (sendAll namedSdu room xs .pdus) (sentNames room xs)
+  pdus-tied : (may : Bool) (room : ℕ) (xs : List (Item NamedSdu)) → All (Tied R) xs
+      → Along (GrantIn R) (sendAll namedSdu may room xs .pdus) (sentNames may room xs)
   unfolding sendAll turns readOff roomAfter
-  pdus-tied room [] h = along-map (GrantIn R) (nameIn none) (nullIn room) (null-in room)
-  pdus-tied room (x ∷ xs) h =
-      let s : Next = turn namedSdu room x in
-      along-append (GrantIn R) (s .pdus) (sendAll namedSdu (s .room) xs .pdus) (map (nameIn (x .load .name)) (s .pdus)) (sentNames (s .room) xs)
-      (along-map (GrantIn R) (nameIn (x .load .name)) (s .pdus) (next-in room (x .rec) (x .load .sdu) (x .load .name) (h .0))) (pdus-tied (s .room) xs (h .1))
+  pdus-tied may room [] h = along-map (GrantIn R) (nameIn none) (nullIn room) (null-in room)
+  pdus-tied may room (x ∷ xs) h =
+      let s : Next = turn namedSdu may room x in
+      let on : Bool = may && wrote (s .pdus) in
+      along-append (GrantIn R) (s .pdus) (sendAll namedSdu on (s .room) xs .pdus) (map (nameIn (x .load .name)) (s .pdus)) (sentNames on (s .room) xs)
+      (along-map (GrantIn R) (nameIn (x .load .name)) (s .pdus) (next-in may room (x .rec) (x .load .sdu) (x .load .name) (h .0)))
+      (pdus-tied on (s .room) xs (h .1))
 
 module _ (R : ℕ → OptU8 → Option ℕ → Type 0) where
-  -- ---- a list of records
-
-  kept-tied : (o : ChunkOutcome) (x : Item NamedSdu) → Tied R x → All (Tied R) (staying o x)
-  kept-tied Finished x k = tt
-  kept-tied Waiting x k = (k, tt)
-  kept-tied (Started n) x k = (k, tt)
-
-  left-tied : (room : ℕ) (xs : List (Item NamedSdu)) → All (Tied R) xs → All (Tied R) (sendAll namedSdu room xs .left)
-  unfolding sendAll turns readOff roomAfter
-  left-tied room [] h = tt
-  left-tied room (x ∷ xs) h =
-      let s : Next = turn namedSdu room x in
-      all-append (Tied R) (staying (s .outcome) x) (sendAll namedSdu (s .room) xs .left) (kept-tied (s .outcome) x (h .0)) (left-tied (s .room) xs (h .1))
-
   merged-tied : (xs : List (Item NamedSdu)) → All (Tied R) xs → All (Tied R) (inOrder (mergeNamed [] xs))
   merged-tied xs h = order-all (Tied R) (mergeNamed [] xs) (merge-tied R [] xs h)
 
   -- ---- a build
 
-  pub built-left : (xs : List (Item NamedSdu)) → All (Tied R) xs → All (Tied R) (namedBuilt xs .left)
+  pub built-left : (w : ℕ) (xs : List (Item NamedSdu)) → All (Tied R) xs → All (Tied R) (namedBuilt w xs .left)
   unfolding namedBuilt buildList
-  built-left xs h = left-tied blockWidth (inOrder (mergeNamed [] xs)) (merged-tied xs h)
+  built-left w xs h = left-all (Tied R) (λ k n x q. q) namedSdu true w (inOrder (mergeNamed [] xs)) (merged-tied xs h)
 
-  pub built-tied : ((n : ℕ) → R n OptU8.Absent none) → (xs : List (Item NamedSdu)) → All (Tied R) xs
-      → Along (GrantIn R) (namedBuilt xs .pdus) (sentNames blockWidth (inOrder (mergeNamed [] xs)))
+  pub built-tied : ((n : ℕ) → R n OptU8.Absent none) → (w : ℕ) (xs : List (Item NamedSdu)) → All (Tied R) xs
+      → Along (GrantIn R) (namedBuilt w xs .pdus) (sentNames true w (inOrder (mergeNamed [] xs)))
   unfolding namedBuilt buildList
-  built-tied bare xs h = pdus-tied R bare blockWidth (inOrder (mergeNamed [] xs)) (merged-tied xs h)
+  built-tied bare w xs h = pdus-tied R bare true w (inOrder (mergeNamed [] xs)) (merged-tied xs h)

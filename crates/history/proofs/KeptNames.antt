@@ -2,7 +2,7 @@
 -- waiting (`sent-or-pending`). Assumes nothing.
 use mathlib.Core.Path.{_≡_, refl, sym, ap, subst, _∙_}
 use mathlib.Core.Logic.{_⊎_, inl, inr, ⊎-elim}
-use mathlib.Core.Bool.{Bool, true, false, _&&_, _||_, cond}
+use mathlib.Core.Bool.{Bool, true, false, _&&_, _||_, not, cond}
 use mathlib.Core.Option.{Option, none, some}
 use mathlib.Core.List.{List, [], _∷_, _++_, map, List·Memᴰ, List·Memᴰ·head, List·Memᴰ·tail, Memᴰ·cast, Memᴰ·append-left, Memᴰ·append-right}
 use Prim.Native.Nat.{ℕ, _+_}
@@ -10,7 +10,6 @@ use native.Mathlib.Omega.{arith}
 use lib.Dec.{eqb, leb, ltb}
 use borrow.Author.Tests.{eqb-true, eq-eqb}
 use Rattle.lists.proofs.Every.{All}
-use Rattle.sizes.specs.Sizes.{blockWidth}
 use Rattle.optional.proofs.Tests.{and-left, and-right}
 use Rattle.uplink.proofs.Basics.{not-both}
 use Rattle.dl_record.specs.declared.Kind.{Kind}
@@ -21,7 +20,7 @@ use Rattle.dl_merge.specs.Merge.{joined, takesNumber, only, put, puts, merge, n
 use Rattle.bs_frag.specs.NextPdu.{headerSize, Next, beginWith, begin, next}
 use Rattle.bs_frag.proofs.Laws.{next-first}
 use Rattle.bs_frag.specs.declared.ChunkOutcome.the-variants.{Waiting}
-use Rattle.dl_send.specs.Send.{staying, turn, sendAll, turns, readOff, roomAfter}
+use Rattle.dl_send.specs.Send.{staying, wrote, turn, sendAll, turns, readOff, roomAfter}
 use Rattle.dl_build.specs.Build.{inOrder, buildList}
 use Rattle.history.proofs.GrantNames.{sentNames}
 use Rattle.history.specs.Model.{NamedSdu, namedSdu, namedBuilt, nameIn, pendingAs, pending, replaces}
@@ -94,11 +93,11 @@ no-name e = let z : _≡_ {A = ℕ} 0 1 = cc in omega arith
 abbrev Writes : Option ℕ → Next → Type 0
 Writes name s = List·Memᴰ name (map (nameIn name) (s .pdus)) ⊎ (s .outcome ≡ Waiting)
 
-first-writes : (room : ℕ) (r : Record) (sdu : List ℕ) (name : Option ℕ) → isStarted (r .kind) ≡ false → Writes name (next room r sdu)
+first-writes : (may : Bool) (room : ℕ) (r : Record) (sdu : List ℕ) (name : Option ℕ) → isStarted (r .kind) ≡ false → Writes name (next may room r sdu)
 unfolding begin beginWith
-first-writes room r sdu name e =
-    subst (Writes name) (sym (next-first room r sdu e))
-    (one-of (leb (headerSize r + r .bits) room) (ltb room 32 || ltb room (headerSize r)) _ _ _ (inl (List·Memᴰ·head refl)) (inr refl)
+first-writes may room r sdu name e =
+    subst (Writes name) (sym (next-first may room r sdu e))
+    (one-of (leb (headerSize r + r .bits) room) (not may || ltb room 32 || ltb room (headerSize r)) _ _ _ (inl (List·Memᴰ·head refl)) (inr refl)
     (inl (List·Memᴰ·head refl)))
   where
     one-of : (a b : Bool) (x y z : Next) → Writes name x → Writes name y → Writes name z → Writes name (cond a x (cond b y z))
@@ -219,28 +218,29 @@ module _ (number name : ℕ) where
   one-sent s x names left n e (inl m) = inl (Memᴰ·append-left names (Memᴰ·cast (sym e) m))
   one-sent s x names left n e (inr o) = inr (rw o (inl (record { its-kind = refl; its-number = n; its-name = e })))
 
-  send-keeps : (kind : Kind) → isStarted kind ≡ false → (room : ℕ) (xs : List (Item NamedSdu)) → Any (Has kind number name) xs
-      → Fate (sentNames room xs) (sendAll namedSdu room xs .left)
+  send-keeps : (kind : Kind) → isStarted kind ≡ false → (may : Bool) (room : ℕ) (xs : List (Item NamedSdu)) → Any (Has kind number name) xs
+      → Fate (sentNames may room xs) (sendAll namedSdu may room xs .left)
   unfolding sendAll turns readOff roomAfter
-  send-keeps kind b room [] h = absurd h
-  send-keeps kind b room (x ∷ xs) (inl h) =
-      one-sent (turn namedSdu room x) x _ _ (h .its-number) (h .its-name) (first-writes room (x .rec) (x .load .sdu) (x .load .name) (rw (h .its-kind) b))
-  send-keeps kind b room (x ∷ xs) (inr h) =
-      let s : Next = turn namedSdu room x in
+  send-keeps kind b may room [] h = absurd h
+  send-keeps kind b may room (x ∷ xs) (inl h) =
+      one-sent (turn namedSdu may room x) x _ _ (h .its-number) (h .its-name)
+      (first-writes may room (x .rec) (x .load .sdu) (x .load .name) (rw (h .its-kind) b))
+  send-keeps kind b may room (x ∷ xs) (inr h) =
+      let s : Next = turn namedSdu may room x in
       ⊎-elim (λ m. inl (Memᴰ·append-right (map (nameIn (x .load .name)) (s .pdus)) m))
       (λ a. inr (any-right (Has Kind.Waiting number name) (staying (s .outcome) x) _ a))
-      (send-keeps kind b (s .room) xs h)
+      (send-keeps kind b (may && wrote (s .pdus)) (s .room) xs h)
 
   -- ---- a build
 
-  order-keeps : (xs : List (Item NamedSdu)) → Any (Has Kind.Record number name) xs ⊎ Any (Has Kind.Waiting number name) xs
-      → Fate (sentNames blockWidth (inOrder xs)) (sendAll namedSdu blockWidth (inOrder xs) .left)
+  order-keeps : (w : ℕ) (xs : List (Item NamedSdu)) → Any (Has Kind.Record number name) xs ⊎ Any (Has Kind.Waiting number name) xs
+      → Fate (sentNames true w (inOrder xs)) (sendAll namedSdu true w (inOrder xs) .left)
   unfolding inOrder
-  order-keeps xs (inl h) =
-      send-keeps Kind.Record refl blockWidth _
+  order-keeps w xs (inl h) =
+      send-keeps Kind.Record refl true w _
       (any-right (Has Kind.Record number name) (only isUnderway xs) (only isRecord xs) (only-has Kind.Record isRecord refl xs h))
-  order-keeps xs (inr h) =
-      send-keeps Kind.Waiting refl blockWidth _
+  order-keeps w xs (inr h) =
+      send-keeps Kind.Waiting refl true w _
       (any-left (Has Kind.Waiting number name) (only isUnderway xs) (only isRecord xs) (only-has Kind.Waiting isUnderway refl xs h))
 
   left-pending : (xs : List (Item NamedSdu)) → Any (Has Kind.Waiting number name) xs → List·Memᴰ (some name) (map pending xs)
@@ -248,14 +248,14 @@ module _ (number name : ℕ) where
   left-pending (x ∷ xs) (inl h) = List·Memᴰ·head (sym (ap (λ (k : Kind). pendingAs k (x .load .name)) (h .its-kind) ∙ h .its-name))
   left-pending (x ∷ xs) (inr h) = List·Memᴰ·tail (left-pending xs h)
 
-pub sent-or-pending : (front back : List (Item NamedSdu)) (g : Item NamedSdu) (name : ℕ) → pending g ≡ some name
+pub sent-or-pending : (w : ℕ) (front back : List (Item NamedSdu)) (g : Item NamedSdu) (name : ℕ) → pending g ≡ some name
     → ((y : Item NamedSdu) → List·Memᴰ y back → replaces y g ≡ false)
-    → List·Memᴰ (some name) (sentNames blockWidth (inOrder (mergeNamed [] (front ++ g ∷ back))))
-    ⊎ List·Memᴰ (some name) (map pending (namedBuilt (front ++ g ∷ back) .left))
+    → List·Memᴰ (some name) (sentNames true w (inOrder (mergeNamed [] (front ++ g ∷ back))))
+    ⊎ List·Memᴰ (some name) (map pending (namedBuilt w (front ++ g ∷ back) .left))
 unfolding namedBuilt buildList
-sent-or-pending front back g name e k =
-    ⊎-elim inl (λ a. inr (left-pending (g .rec .number) name (namedBuilt (front ++ g ∷ back) .left) a))
-    (order-keeps (g .rec .number) name (mergeNamed [] (front ++ g ∷ back)) (go (g .rec .kind) refl e k))
+sent-or-pending w front back g name e k =
+    ⊎-elim inl (λ a. inr (left-pending (g .rec .number) name (namedBuilt w (front ++ g ∷ back) .left) a))
+    (order-keeps (g .rec .number) name w (mergeNamed [] (front ++ g ∷ back)) (go (g .rec .kind) refl e k))
   where
     go : (kind : Kind) → g .rec .kind ≡ kind → pendingAs kind (g .load .name) ≡ some name
         → ((y : Item NamedSdu) → List·Memᴰ y back → isGrant kind && isGrant (y .rec .kind) && eqb (y .rec .number) (g .rec .number) ≡ false)

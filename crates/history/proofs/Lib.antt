@@ -17,5 +17,6 @@ pub mod GrantNames
 pub mod KeptNames
 pub mod NamedHistory
 pub mod BlockGrants
+pub mod OpenHistory
 pub mod Demand3
 pub mod StarredCases

@@ -9,6 +9,7 @@ use native.Mathlib.Omega.{arith}
 use lib.ListN.{length, getD, set, length-append}
 use lib.Seq.{append-snoc}
 use Rattle.lists.proofs.Every.{All, all-weaken, all-append}
+use Rattle.sizes.specs.Sizes.{blockWidth}
 use Rattle.optional.specs.declared.OptU8.{OptU8}
 use Rattle.optional.proofs.Tests.{and-right}
 use Rattle.tdma_time.specs.declared.TdmaTime.{TdmaTime}
@@ -190,7 +191,7 @@ module _ (x : TdmaTime) (xs : List Call) (k : modelAt x xs .count ≡ length xs)
   unfolding built Everywhere
   after-build ys e =
       go (canBuild (m .uplink .now) (m .queues)) _
-      (set-each (Good x ys) (m .queues) t _ (omega arith) (built-left (Faithful x ys t) (queueAt (m .queues) t) (e t (omega arith))) e)
+      (set-each (Good x ys) (m .queues) t _ (omega arith) (built-left (Faithful x ys t) blockWidth (queueAt (m .queues) t) (e t (omega arith))) e)
     where
       t : ℕ
       t = timeslot (m .uplink .now)

@@ -3,8 +3,7 @@ use mathlib.Core.Path.{_≡_, refl, sym, ap, ap₂, _∙_}
 use mathlib.Core.List.{List, [], _∷_, _++_, map, map-append}
 use Prim.Native.Nat.{ℕ, zero, suc, _-_}
 use lib.ListN.{length, set, length-map, List·getD-map}
-use Rattle.lists.proofs.Every.{all-every}
-use Rattle.sizes.specs.Sizes.{blockWidth}
+use Rattle.lists.proofs.Every.{All, all-every}
 use Rattle.dl_record.specs.declared.Record.{Record}
 use Rattle.dl_queue.specs.Queue.{Item}
 use Rattle.dl_merge.specs.Merge.{merge, always, keep, mergeCells, mergeNamed}
@@ -22,6 +21,11 @@ map-set : {A B : Type 0} (f : A → B) (xs : List A) (i : ℕ) (a : A) → map f
 map-set f [] i a = refl
 map-set f (x ∷ xs) zero a = refl
 map-set f (x ∷ xs) (suc i) a = ap (λ l. f x ∷ l) (map-set f xs i a)
+
+pub all-set : {A : Type 0} (P : A → Type 0) (xs : List A) (i : ℕ) (x : A) → P x → All P xs → All P (set xs i x)
+all-set P [] i x p h = tt
+all-set P (y ∷ ys) zero x p h = (p, h .1)
+all-set P (y ∷ ys) (suc i) x p h = (h .0, all-set P ys i x p (h .1))
 
 -- ---- loads mapped in queues
 
@@ -44,15 +48,15 @@ module _ {C D : Type 0} (f : Record → C → D) where
 -- ---- SDUs by value
 
 -- what a build makes of records with their cells
-unfoldable pub cellsBuilt : List (Item (List ℕ)) → Sent (List ℕ)
-cellsBuilt xs = buildList cellSdu blockWidth (mergeCells xs)
+unfoldable pub cellsBuilt : ℕ → List (Item (List ℕ)) → Sent (List ℕ)
+cellsBuilt w xs = buildList cellSdu w (mergeCells xs)
 
 abbrev ownSdu : List ℕ → ℕ → List ℕ
 ownSdu s n = s
 
 -- what a build makes of records with their SDUs
-sdusBuilt : List (Item (List ℕ)) → Sent (List ℕ)
-sdusBuilt xs = buildList ownSdu blockWidth (merge (always []) keep xs)
+sdusBuilt : ℕ → List (Item (List ℕ)) → Sent (List ℕ)
+sdusBuilt w xs = buildList ownSdu w (merge (always []) keep xs)
 
 abbrev pub steadyBits : Steady sduInCell
 steadyBits k n r c = refl
@@ -60,18 +64,18 @@ steadyBits k n r c = refl
 abbrev pub steadyNames : Steady (unnamed {S = List ℕ} {N = ℕ})
 steadyNames k n r c = refl
 
-cells-built : (xs : List (Item (List ℕ))) → reloadSent sduInCell steadyBits (cellsBuilt xs) ≡ sdusBuilt (map (reload sduInCell) xs)
+cells-built : (w : ℕ) (xs : List (Item (List ℕ))) → reloadSent sduInCell steadyBits (cellsBuilt w xs) ≡ sdusBuilt w (map (reload sduInCell) xs)
 unfolding cellsBuilt sdusBuilt
-cells-built xs =
-    sym (build-map sduInCell steadyBits cellSdu ownSdu blockWidth (mergeCells xs) (all-every (SameSdu sduInCell cellSdu ownSdu) (λ x. refl) (mergeCells xs)))
-    ∙ ap (buildList ownSdu blockWidth) (merge-sdus xs)
+cells-built w xs =
+    sym (build-map sduInCell steadyBits cellSdu ownSdu w (mergeCells xs) (all-every (SameSdu sduInCell cellSdu ownSdu) (λ x. refl) (mergeCells xs)))
+    ∙ ap (buildList ownSdu w) (merge-sdus xs)
 
-names-built : (ys : List (Item NamedSdu)) → reloadSent unnamed steadyNames (namedBuilt ys) ≡ sdusBuilt (map (reload unnamed) ys)
+names-built : (w : ℕ) (ys : List (Item NamedSdu)) → reloadSent unnamed steadyNames (namedBuilt w ys) ≡ sdusBuilt w (map (reload unnamed) ys)
 unfolding namedBuilt sdusBuilt
-names-built ys =
+names-built w ys =
     sym
-    (build-map unnamed steadyNames namedSdu ownSdu blockWidth (mergeNamed [] ys) (all-every (SameSdu unnamed namedSdu ownSdu) (λ x. refl) (mergeNamed [] ys)))
-    ∙ ap (buildList ownSdu blockWidth) (merge-unnamed [] ys)
+    (build-map unnamed steadyNames namedSdu ownSdu w (mergeNamed [] ys) (all-every (SameSdu unnamed namedSdu ownSdu) (λ x. refl) (mergeNamed [] ys)))
+    ∙ ap (buildList ownSdu w) (merge-unnamed [] ys)
 
 -- ---- station and model
 
@@ -100,5 +104,5 @@ module _ (qs : Queues (List ℕ)) (ms : Queues NamedSdu) (h : Held qs ms) where
       ∙ sym (map-set (map (reload unnamed)) ms i ys)
 
   -- a build writes the same PDUs and finishes the same records, and what it leaves is the same
-  pub same-built : (t : ℕ) → reloadSent sduInCell steadyBits (cellsBuilt (queueAt qs t)) ≡ reloadSent unnamed steadyNames (namedBuilt (queueAt ms t))
-  same-built t = cells-built (queueAt qs t) ∙ ap sdusBuilt (same-queue t) ∙ sym (names-built (queueAt ms t))
+  pub same-built : (w t : ℕ) → reloadSent sduInCell steadyBits (cellsBuilt w (queueAt qs t)) ≡ reloadSent unnamed steadyNames (namedBuilt w (queueAt ms t))
+  same-built w t = cells-built w (queueAt qs t) ∙ ap (sdusBuilt w) (same-queue t) ∙ sym (names-built w (queueAt ms t))

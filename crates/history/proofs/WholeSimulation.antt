@@ -69,22 +69,22 @@ module _ (m : Memory) (b : Model) (k : SoundMemory m) (a : Same m b) where
   abbrev pub sent : Sent (List ℕ)
   sent = builtOf ns (m .records) (m .store) (t - 1)
 
-  sent-is : sent ≡ cellsBuilt (queueAt (queuesIn m) t)
+  sent-is : sent ≡ cellsBuilt blockWidth (queueAt (queuesIn m) t)
   unfolding builtOf builtFrom cellsBuilt
   sent-is = ap (λ (q : List (Item (List ℕ))). buildList cellSdu blockWidth (mergeCells q)) (sym (queues-at ns (m .records) (m .store) (t - 1) now-inside))
 
-  same-sent : reloadSent sduInCell steadyBits sent ≡ reloadSent unnamed steadyNames (namedBuilt (queueNow b))
-  same-sent = ap (reloadSent sduInCell steadyBits) sent-is ∙ same-built (queuesIn m) (b .queues) (a .queues) t
+  same-sent : reloadSent sduInCell steadyBits sent ≡ reloadSent unnamed steadyNames (namedBuilt blockWidth (queueNow b))
+  same-sent = ap (reloadSent sduInCell steadyBits) sent-is ∙ same-built (queuesIn m) (b .queues) (a .queues) blockWidth t
 
-  pub same-pdus : sent .pdus ≡ namedBuilt (queueNow b) .pdus
+  pub same-pdus : sent .pdus ≡ namedBuilt blockWidth (queueNow b) .pdus
   same-pdus = ap (λ (s : Sent (List ℕ)). s .pdus) same-sent
 
-  same-tags : sent .tags ≡ namedBuilt (queueNow b) .tags
+  same-tags : sent .tags ≡ namedBuilt blockWidth (queueNow b) .tags
   same-tags = ap (λ (s : Sent (List ℕ)). s .tags) same-sent
 
-  same-left : Held (queuesIn (withLeft m (t - 1) sent)) (withQueueAt (b .queues) t (namedBuilt (queueNow b) .left))
+  same-left : Held (queuesIn (withLeft m (t - 1) sent)) (withQueueAt (b .queues) t (namedBuilt blockWidth (queueNow b) .left))
   same-left =
-      subst (λ (qs : Queues (List ℕ)). Held qs (withQueueAt (b .queues) t (namedBuilt (queueNow b) .left)))
+      subst (λ (qs : Queues (List ℕ)). Held qs (withQueueAt (b .queues) t (namedBuilt blockWidth (queueNow b) .left)))
       (sym (build-holds ns (m .records) (m .store) (t - 1) now-inside (places m b k a) (size m b k a) (k .queue) (k .octets) .lists))
       (set-held (queuesIn m) (b .queues) (a .queues) (t - 1) _ _ (ap (λ (s : Sent (List ℕ)). s .left) same-sent))
 
@@ -111,8 +111,8 @@ module _ (m : Memory) (b : Model) (k : SoundMemory m) (a : Same m b) where
           (cond right (cond can (blockBuilt m (t - 1) sent) (notBuilt noBlock m l)) (notBuilt (refused 2) m l)))
           (cond right
           (cond can
-          (became b (b .uplink) (withQueueAt (b .queues) t (namedBuilt (queueNow b) .left))
-          (block (blockOf blockOctets (blockBits (namedBuilt (queueNow b) .pdus))) (namedBuilt (queueNow b) .tags)))
+          (became b (b .uplink) (withQueueAt (b .queues) t (namedBuilt blockWidth (queueNow b) .left))
+          (block (blockOf blockOctets (blockBits (namedBuilt blockWidth (queueNow b) .pdus))) (namedBuilt blockWidth (queueNow b) .tags)))
           (stepped (onlyCounted b) noBlock))
           (stepped (onlyCounted b) (refused 2)))
       go true true =

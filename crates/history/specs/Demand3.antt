@@ -4,12 +4,12 @@
 -- model as the call met it is `modelAt x before`.
 use mathlib.Core.Path.{_≡_}
 use mathlib.Core.Logic.{_↔_, _⊎_}
-use mathlib.Core.Bool.{false}
+use mathlib.Core.Bool.{true, false}
 use mathlib.Core.Option.{none, some}
 use mathlib.Core.List.{List, [], _∷_, _++_, map, List·Memᴰ}
 use Prim.Native.Nat.{ℕ, _+_, _*_, _≤_, _<_}
 use lib.ListN.{length, getD}
-use Rattle.sizes.specs.Sizes.{timeslots, framesSearched, blockOctets}
+use Rattle.sizes.specs.Sizes.{timeslots, perTimeslot, framesSearched, blockOctets}
 use Rattle.optional.specs.declared.OptU8.{OptU8}
 use Rattle.optional.specs.declared.OptU32.{OptU32}
 use Rattle.tdma_time.specs.declared.TdmaTime.{TdmaTime}
@@ -25,6 +25,8 @@ use Rattle.mac_pdus.specs.declared.PduHeader.{PduHeader}
 use Rattle.mac_pdus.specs.Legal.{numberOf}
 use Rattle.mac_reader.specs.PduList.{placed}
 use Rattle.mac_reader.specs.Reader.{headers, noHeader, replyOf, readBlock}
+use Rattle.dl_record.specs.Kind.{isStarted}
+use Rattle.dl_record.specs.Record.{emptyRecord}
 use Rattle.dl_queue.specs.Queue.{Item}
 use Rattle.sched_core.specs.Questions.{Memory}
 use Rattle.sched_core.specs.Replies.{Numbered, granted, block, owned, usedAs}
@@ -183,3 +185,8 @@ pub record Demand3 (x : TdmaTime) (cs : List Call) : Type 0 where
       AnswersAt q (memoryAt x (before ++ advance ∷ between)) c (modelEntry (modelAt x before .uplink .taken) c)
   -- what the code holds is sound: question 1 is never answered no
   pub sound : SoundMemory (memoryAt x cs)
+  -- W-201: "MAC-FRAG carries no address, so handsets join the wrong bits. From now on, once a record has found no place in a block, no later record
+  -- starts fragments in that block": of the records queued for a timeslot (counted from 0) at most one is started, and it is the first. So a MAC-FRAG
+  -- or MAC-END goes on with the one message that is open in its timeslot, and needs no address.
+  pub one-open : (t i : ℕ) → t < timeslots → i < getD (memoryAt x cs .station .queued) t 0
+      → isStarted (getD (memoryAt x cs .records) (perTimeslot * t + i) emptyRecord .kind) ≡ true → i ≡ 0

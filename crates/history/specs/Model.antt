@@ -1,5 +1,5 @@
 -- The reference model (document 01's book), whole: its uplink, and the queues with named grants. Assumes nothing.
-use mathlib.Core.Bool.{Bool, _&&_, cond}
+use mathlib.Core.Bool.{Bool, true, _&&_, cond}
 use mathlib.Core.Option.{Option, none, some}
 use mathlib.Core.List.{List, [], map}
 use Prim.Native.Nat.{ℕ, suc}
@@ -89,14 +89,14 @@ requested a (grant g) m =
 abbrev pub queueNow : Model → List (Item NamedSdu)
 queueNow m = queueAt (m .queues) (timeslot (m .uplink .now))
 
--- "A build works on the current timeslot, merges, then takes waiting and started records in queue order, then records": 268 bits
-unfoldable pub namedBuilt : List (Item NamedSdu) → Sent NamedSdu
-namedBuilt xs = buildList namedSdu blockWidth (mergeNamed [] xs)
+-- "A build works on the current timeslot, merges, then takes waiting and started records in queue order, then records": a block of w bits
+unfoldable pub namedBuilt : ℕ → List (Item NamedSdu) → Sent NamedSdu
+namedBuilt w xs = buildList namedSdu w (mergeNamed [] xs)
 
--- "What did not finish stays"; "Tags of finished records come back in order"
+-- "268 bits in 34 octets"; "What did not finish stays"; "Tags of finished records come back in order"
 unfoldable pub built : Model → Stepped Model
 built m =
-    let s : Sent NamedSdu = namedBuilt (queueNow m) in
+    let s : Sent NamedSdu = namedBuilt blockWidth (queueNow m) in
     cond (canBuild (m .uplink .now) (m .queues))
     (became m (m .uplink) (withQueueAt (m .queues) (timeslot (m .uplink .now)) (s .left)) (block (blockOf blockOctets (blockBits (s .pdus))) (s .tags)))
     (stepped (onlyCounted m) noBlock)
@@ -125,7 +125,7 @@ modelAt x cs = run modelStep cs (newModel x)
 
 -- its PDUs
 unfoldable pub pdusBuilt : Model → List Pdu
-pdusBuilt m = namedBuilt (queueNow m) .pdus
+pdusBuilt m = namedBuilt blockWidth (queueNow m) .pdus
 
 -- "into the header written": the name goes with the MAC-RESOURCE that has the record's header; MAC-FRAG, MAC-END and the null PDU have none
 abbrev pub nameIn : Option ℕ → Pdu → Option ℕ
@@ -140,7 +140,7 @@ abbrev pub namesIn : ℕ → List (Turn NamedSdu) → List (Option ℕ)
 namesIn room ts = readOff (λ t. map (nameIn (t .taken .load .name)) (t .next .pdus)) (λ left. map (nameIn none) (nullIn left)) room ts
 
 unfoldable pub namesBuilt : Model → List (Option ℕ)
-namesBuilt m = namesIn blockWidth (turns namedSdu blockWidth (inOrder (mergeNamed [] (queueNow m))))
+namesBuilt m = namesIn blockWidth (turns namedSdu true blockWidth (inOrder (mergeNamed [] (queueNow m))))
 
 -- ---- grants in no header yet
 

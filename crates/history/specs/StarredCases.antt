@@ -1,5 +1,6 @@
 -- Document 01, "Cases": all cases marked *, as rows of one table. Assumes nothing.
 use mathlib.Core.Path.{_≡_}
+use mathlib.Core.Bool.{true}
 use mathlib.Core.List.{List, [], _∷_, _++_, map}
 use Prim.Native.Nat.{ℕ, _-_}
 use Prim.Native.String.{String}
@@ -114,7 +115,7 @@ pdusShown (p ∷ ps) = length (pduBits p) ∷ lengthCode p ∷ length (sduIn p) 
 
 -- the PDUs that a record writes in an empty block, and if it is not finished there, in a second one, as the first left it
 unfoldable pub shownOf : Record → List ℕ
-shownOf r = pdusShown (over (blockWidth ∷ blockWidth ∷ []) Waiting r (replicate (r .bits) 1) .pdus)
+shownOf r = pdusShown (over ((true, blockWidth) ∷ (true, blockWidth) ∷ []) Waiting r (replicate (r .bits) 1) .pdus)
 
 -- ---- the rows
 

@@ -4,7 +4,7 @@ use mathlib.Core.List.{List, [], _∷_, _++_}
 use Prim.Native.Nat.{ℕ, zero, suc, _+_, _*_, _-_}
 use native.Mathlib.Omega.{arith}
 use lib.Dec.{eqb}
-use lib.ListN.{length, getD, set, take, drop, replicate}
+use lib.ListN.{length, getD, take, drop, replicate}
 use lib.Seq.{paste}
 use Rattle.lists.proofs.Every.{All, all-take, all-drop, all-append}
 use Rattle.sizes.specs.Sizes.{perTimeslot, cellOctets, blockWidth}
@@ -15,10 +15,8 @@ use Rattle.dl_record.specs.Record.{emptyRecord}
 use Rattle.dl_queue.specs.Queue.{Item, zeroCell, queueOf, recordsOf}
 use Rattle.dl_merge.specs.Merge.{always, keep, mergeCells}
 use Rattle.dl_merge.proofs.MergeLaws.{merge-all}
-use Rattle.bs_frag.specs.NextPdu.{Next, next}
-use Rattle.bs_frag.specs.declared.ChunkOutcome.{ChunkOutcome}
-use Rattle.bs_frag.specs.declared.ChunkOutcome.the-variants.{Finished, Waiting, Started}
-use Rattle.dl_send.specs.Send.{staying, turns, readOff, roomAfter, sendAll, cellSdu}
+use Rattle.dl_send.specs.Send.{cellSdu}
+use Rattle.dl_send.proofs.KeptLaws.{left-all}
 use Rattle.dl_build.specs.Build.{inOrder, buildList, builtFrom, builtOf}
 use Rattle.dl_build.proofs.OrderLaws.{order-all}
 use Rattle.questions.proofs.AskLaws.{ask-elim}
@@ -31,15 +29,11 @@ use Rattle.sched_words.proofs.QueueRoundTrip.{Fits16, Tagged}
 use Rattle.history.specs.Call as call
 use Rattle.history.specs.Call.{Call, run}
 use Rattle.history.specs.Memory.{memoryStep}
+use Rattle.history.proofs.QueueMaps.{all-set}
 use Rattle.history_words.specs.WordCalls.{WordCall, advance, request, enqueueAck, enqueue, build, slotOwner, usage}
 use Rattle.history_words.specs.WordHistory.{recordOffer, callsOf, wordHistory}
 
 -- ---- lists
-
-all-set : {A : Type 0} (P : A → Type 0) (xs : List A) (i : ℕ) (x : A) → P x → All P xs → All P (set xs i x)
-all-set P [] i x p h = tt
-all-set P (y ∷ ys) zero x p h = (p, h .1)
-all-set P (y ∷ ys) (suc i) x p h = (h .0, all-set P ys i x p (h .1))
 
 all-paste : {A : Type 0} (P : A → Type 0) (d : List A) (at : ℕ) (s : List A) (n : ℕ) → All P d → All P s → All P (paste d at s n)
 all-paste P d at s n h k =
@@ -63,18 +57,6 @@ records-tagged zero xs h = tt
 records-tagged (suc k) [] h = (tt, records-tagged k [] tt)
 records-tagged (suc k) (x ∷ xs) h = (h .0, records-tagged k xs (h .1))
 
-kept-tagged : (o : ChunkOutcome) (x : Item (List ℕ)) → Tagged (x .rec) → All TaggedItem (staying o x)
-kept-tagged Finished x h = tt
-kept-tagged Waiting x h = (h, tt)
-kept-tagged (Started n) x h = (h, tt)
-
-left-tagged : (room : ℕ) (xs : List (Item (List ℕ))) → All TaggedItem xs → All TaggedItem (sendAll cellSdu room xs .left)
-unfolding sendAll turns readOff roomAfter
-left-tagged room [] h = tt
-left-tagged room (x ∷ xs) h =
-    let n : Next = next room (x .rec) (cellSdu (x .load) (x .rec .bits)) in
-    all-append TaggedItem (staying (n .outcome) x) _ (kept-tagged (n .outcome) x (h .0)) (left-tagged (n .room) xs (h .1))
-
 -- ---- one call
 
 module _ (m : Memory) (h : All Tagged (m .records)) where
@@ -84,7 +66,7 @@ module _ (m : Memory) (h : All Tagged (m .records)) where
       let t : ℕ = current (m .station) in
       let own : List (Item (List ℕ)) = queueOf (getD (m .station .queued) t 0) (drop (perTimeslot * t) (m .records))
       (drop (cellOctets * (perTimeslot * t)) (m .store)) in
-      left-tagged blockWidth (inOrder (mergeCells own))
+      left-all TaggedItem (λ k n x q. q) cellSdu true blockWidth (inOrder (mergeCells own))
       (order-all TaggedItem (mergeCells own)
       (merge-all (always zeroCell) keep TaggedItem (λ g x k t p q. q) (λ g k p. tt) own
       (queue-tagged (getD (m .station .queued) t 0) (drop (perTimeslot * t) (m .records)) (drop (cellOctets * (perTimeslot * t)) (m .store))

@@ -1,6 +1,6 @@
 -- A build gives back a tag for each place of a timeslot at most. Assumes nothing.
 use mathlib.Core.Path.{_≡_}
-use mathlib.Core.Bool.{Bool, true, false, cond}
+use mathlib.Core.Bool.{Bool, true, false, _&&_, cond}
 use mathlib.Core.List.{List, [], _∷_}
 use Prim.Native.Nat.{ℕ, _*_, _≤_, _<_}
 use native.Mathlib.Omega.{arith}
@@ -14,7 +14,7 @@ use Rattle.bs_frag.specs.declared.ChunkOutcome.{ChunkOutcome}
 use Rattle.bs_frag.specs.declared.ChunkOutcome.the-variants.{Finished, Waiting, Started}
 use Rattle.optional.proofs.Tests.{and-left, and-right}
 use Rattle.dl_queue.specs.Queue.{Item}
-use Rattle.dl_send.specs.Send.{turns, readOff, roomAfter, sendAll, tagsOf, cellSdu}
+use Rattle.dl_send.specs.Send.{wrote, turns, readOff, roomAfter, sendAll, tagsOf, cellSdu}
 use Rattle.dl_build.specs.Build.{inOrder, buildList, builtFrom, builtOf}
 use Rattle.dl_build.proofs.OrderLaws.{order-length}
 use Rattle.dl_build.proofs.BuildLaws.{mergedQueue, merged-most}
@@ -30,13 +30,14 @@ one-tag Waiting t = omega arith
 one-tag (Started n) t = omega arith
 
 -- no more tags than records
-sent-tags : {C : Type 0} (sdu : C → ℕ → List ℕ) (room : ℕ) (xs : List (Item C)) → length (sendAll sdu room xs .tags) ≤ length xs
+sent-tags : {C : Type 0} (sdu : C → ℕ → List ℕ) (may : Bool) (room : ℕ) (xs : List (Item C)) → length (sendAll sdu may room xs .tags) ≤ length xs
 unfolding sendAll turns readOff roomAfter
-sent-tags sdu room [] = omega arith
-sent-tags sdu room (x ∷ xs) =
-    let n : Next = next room (x .rec) (sdu (x .load) (x .rec .bits)) in
-    let ts = sendAll sdu (n .room) xs .tags in
-    omega (arith, length-append (tagsOf (n .outcome) (x .rec .tag)) ts, one-tag (n .outcome) (x .rec .tag), sent-tags sdu (n .room) xs)
+sent-tags sdu may room [] = omega arith
+sent-tags sdu may room (x ∷ xs) =
+    let n : Next = next may room (x .rec) (sdu (x .load) (x .rec .bits)) in
+    let on : Bool = may && wrote (n .pdus) in
+    let ts = sendAll sdu on (n .room) xs .tags in
+    omega (arith, length-append (tagsOf (n .outcome) (x .rec .tag)) ts, one-tag (n .outcome) (x .rec .tag), sent-tags sdu on (n .room) xs)
 
 module _ (m : Memory) (block : List ℕ) (four : length (m .station .queued) ≡ timeslots) where
   built-tags : AllYes (memoryQuestions m (buildLent block)) → length (builtNow m .tags) ≤ perTimeslot
@@ -52,7 +53,7 @@ module _ (m : Memory) (block : List ℕ) (four : length (m .station .queued) ≡
       let size : length (m .store) ≡ timeslotOctets * length ns =
       omega (arith, four, eqb-true (length (m .store)) storeOctets (and-right has-places has-octets (said .1 .0))) in
       let xs = mergedQueue ns (m .records) (m .store) t in
-      omega (arith, sent-tags cellSdu blockWidth (inOrder xs), order-length xs, merged-most ns (m .records) (m .store) t inside places size (said .1 .1 .1 .0))
+      omega (arith, sent-tags cellSdu true blockWidth (inOrder xs), order-length xs, merged-most ns (m .records) (m .store) t inside places size (said .1 .1 .1 .0))
 
   pub few-tags : length (tagsIn (buildCall m block .reply)) ≤ perTimeslot
   unfolding buildCall

@@ -81,7 +81,7 @@ pub fn command_of(octet: u8) -> Command
 }
 
 // How many octets of operands a command has.
-fn operand_count(command: Command) -> usize
+pub fn operand_count(command: Command) -> usize
     ensures { λ r. ⌜ (r ≡ operandCount command) × (r ≤ 33) ⌝ }
 {
     match command {
@@ -174,7 +174,7 @@ fn is_advance(command: Command) -> bool
 }
 
 // Does a whole command begin at `at`?
-fn is_whole(input: &[u8], at: usize) -> bool
+pub fn is_whole(input: &[u8], at: usize) -> bool
     requires { ⌜ at ≤ length (now input) ⌝ }
     ensures { λ r. ⌜ r ≡ isWhole (drop at (now (input .entry))) ⌝ }
 {

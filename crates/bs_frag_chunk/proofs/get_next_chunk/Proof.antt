@@ -11,14 +11,14 @@ returns c =
     let p = c .before .before in
     let i = p .before .before in
     let a = i .before .before .before .before .args in
-    rw (next-later (a .w - a .at) (a .r) _ (sym (i .before .is-started .ensures) ∙ i .if1 .taken)) (p .get-frag-or-end-chunk .ensures)
+    rw (next-later (a .may-start) (a .w - a .at) (a .r) _ (sym (i .before .is-started .ensures) ∙ i .if1 .taken)) (p .get-frag-or-end-chunk .ensures)
 
 returns-2 : tie.Need-returns-2
 returns-2 c =
     let p = c .before .before in
     let i = p .before .before in
     let a = i .before .before .before .before .args in
-    rw (next-first (a .w - a .at) (a .r) _ (sym (i .before .is-started .ensures) ∙ i .if1 .left)) (p .get-resource-chunk .ensures)
+    rw (next-first (a .may-start) (a .w - a .at) (a .r) _ (sym (i .before .is-started .ensures) ∙ i .if1 .left)) (p .get-resource-chunk .ensures)
 
 pub get-next-chunk-spec : {M : Type 1} → statement M
 get-next-chunk-spec =

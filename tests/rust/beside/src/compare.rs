@@ -1,4 +1,5 @@
 //! What was compared, counted by call and number; and the end of a program that sees a difference.
+use crate::arises::by_document_02;
 use crate::memory::Memory;
 use original::Original;
 use std::collections::BTreeMap;
@@ -31,6 +32,33 @@ pub fn same<T: PartialEq + Debug>(at: &dyn Fn() -> String, what: &str, rust: T, 
         println!("{}: {what} differs\n  the Rust: {rust:?}\n  ours:     {ours:?}", at());
         std::process::exit(1);
     }
+}
+
+/// How many tags a build gave back, none without a block; and whether W-201's rule arose in it.
+pub struct Build {
+    pub tags: Option<usize>,
+    pub arose: bool,
+}
+
+/// Builds both; ends the program if the blocks or the tags are not the same. Where W-201's rule arises the Rust's block must be another,
+/// ours is held to document 02's, and the Rust goes on from the state that this leaves.
+pub fn same_build(at: &dyn Fn() -> String, rust: &mut Original, ours: &mut Memory) -> Build {
+    let lent = [0x5a; 34];
+    let mut block = lent;
+    let reply = ours.build(&mut block);
+    let other = by_document_02(rust);
+    let mut built = rust.build();
+    let arose = other.is_some();
+    if let Some((by_02, left)) = other {
+        same(at, "W-201: whether the Rust's block is another", built.unwrap().0 != block, true);
+        built = Some(by_02);
+        *rust = left;
+    }
+    let (theirs, tags) = built.map_or((lent, None), |(block, tags)| (block, Some(tags)));
+    let finished = tags.as_ref().map(Vec::len);
+    same(at, "a block", theirs, block);
+    same(at, "a build", Ok(tags), reply);
+    Build { tags: finished, arose }
 }
 
 /// Ends the program if the Rust's memory, as words, is not ours.

@@ -39,6 +39,14 @@ impl Memory {
         self.station[223 + timeslot as usize] += 1;
     }
 
+    /// No record for a timeslot.
+    pub fn empty_queue(&mut self, timeslot: u8) {
+        let place = first_place(timeslot);
+        self.queue[23 * place..][..23 * 16].fill(0);
+        self.store[256 * place..][..256 * 16].fill(0);
+        self.station[223 + timeslot as usize] = 0;
+    }
+
     /// A station of the Rust in this state, which must be sound.
     pub fn to_original(&self) -> Original {
         let s = &self.station;

@@ -16,6 +16,9 @@ pub const FIRST_TIME: TdmaTime = TdmaTime { h: 0, m: 1, f: 1, t: 1 };
 /// A refusal's number.
 pub type Refusal = u8;
 
+/// A block and the tags of the records that it finishes.
+pub type Built = ([u8; 34], Vec<u16>);
+
 /// A scheduler, and the report of each record that is queued with a tag and not finished.
 pub struct Original {
     pub sched: BsChannelScheduler,
@@ -130,8 +133,8 @@ impl Original {
         report
     }
 
-    /// The block and the tags of finished records. "in frame 18 nothing is merged or altered": the Rust merges there.
-    pub fn build(&mut self) -> Option<([u8; 34], Vec<u16>)> {
+    /// "in frame 18 nothing is merged or altered": the Rust merges there.
+    pub fn build(&mut self) -> Option<Built> {
         if self.sched.cur_dltime.f == 18 {
             return None;
         }

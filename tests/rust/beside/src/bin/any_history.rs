@@ -1,7 +1,7 @@
 //! Histories on a new station at any time: advances, requests, acks, records with every part of a header, builds, owners and usage,
 //! refused ones too. After each call the answers are the same, and so is all that the two stations hold.
 //! usage: any_history SEED HISTORIES CALLS
-use beside::compare::{arguments, same, same_memory, Counts};
+use beside::compare::{arguments, same, same_build, same_memory, Counts};
 use beside::draw;
 use beside::memory::Memory;
 use beside::words::{header, Words};
@@ -78,14 +78,11 @@ fn call(r: &mut Random, load: u64, rust: &mut Original, ours: &mut Memory, count
             counts.add("records", reply);
         }
         6..=9 => {
-            let lent = [0x5a; 34];
-            let mut block = lent;
-            let reply = ours.build(&mut block);
-            let built = rust.build();
-            counts.add(if built.is_some() { "blocks" } else { "builds without a block" }, 0);
-            let (theirs, tags) = built.map_or((lent, None), |(block, tags)| (block, Some(tags)));
-            same(at, "a block", theirs, block);
-            same(at, "a build", Ok(tags), reply);
+            let built = same_build(at, rust, ours);
+            counts.add(if built.tags.is_some() { "blocks" } else { "builds without a block" }, 0);
+            if built.arose {
+                counts.add("blocks in which the rule of W-201 arises", 0);
+            }
         }
         10 => {
             let time = draw::any_time(r);

@@ -2,7 +2,7 @@
 //! usage: any_queue SEED QUEUES     random queues
 //!        any_queue merging MOST    every list of up to MOST of sixteen records, acks and grants with two numbers
 //!        any_queue rooms STEP      each room of a block, each header, each length of the SDU, all but every STEP-th passed over
-use beside::compare::{same, same_memory};
+use beside::compare::{same_build, same_memory};
 use beside::draw;
 use beside::memory::Memory;
 use beside::words::{header, word, Cell, Words, ACK, GRANT, RECORD, STARTED, WAITING};
@@ -13,6 +13,7 @@ struct Compared {
     queues: u64,
     blocks: u64,
     tags: u64,
+    arose: u64,
     fragments: u64,
     two_begun: u64,
     longest: u64,
@@ -20,8 +21,9 @@ struct Compared {
 
 impl Compared {
     fn print(&self) {
-        let Compared { queues, blocks, tags, fragments, two_begun, longest } = self;
+        let Compared { queues, blocks, tags, arose, fragments, two_begun, longest } = self;
         println!("  queues: {queues}; blocks: {blocks}; tags: {tags}; records left begun: {fragments}");
+        println!("  blocks in which the rule of W-201 arises: {arose}");
         println!("  builds that left two begun: {two_begun}; most blocks of a queue: {longest}");
         println!("any queue: all the same");
     }
@@ -32,19 +34,14 @@ fn build_all(at: &dyn Fn() -> String, mut ours: Memory, compared: &mut Compared)
     same_memory(at, &mut rust, &ours);
     let mut blocks = 0;
     loop {
-        let lent = [0xa5; 34];
-        let mut block = lent;
-        let reply = ours.build(&mut block);
-        let built = rust.build();
-        let (theirs, tags) = built.map_or((lent, None), |(block, tags)| (block, Some(tags)));
-        let finished = tags.as_ref().map(Vec::len);
-        same(at, &format!("block {blocks}"), theirs, block);
-        same(at, &format!("the answer to build {blocks}"), Ok(tags), reply);
-        same_memory(at, &mut rust, &ours);
-        let Some(finished) = finished else { break };
+        let at = || format!("{}, build {blocks}", at());
+        let built = same_build(&at, &mut rust, &mut ours);
+        same_memory(&at, &mut rust, &ours);
+        let Some(finished) = built.tags else { break };
         let first = 16 * 23 * (ours.station[0] as usize - 1);
         let begun = ours.queue[first..][..16 * 23].chunks(23).filter(|w| w[0] == STARTED).count() as u64;
         compared.tags += finished as u64;
+        compared.arose += built.arose as u64;
         compared.fragments += begun;
         compared.two_begun += (begun > 1) as u64;
         blocks += 1;

@@ -1,15 +1,16 @@
--- `chunks::run` meets its contract: the record can be sent in the room left. Assumes nothing.
+-- `in_60_bits` meets its contract: the record can be sent in the room left. Assumes nothing.
 use mathlib.Core.Path.{sym, _∙_}
 use native.Mathlib.Omega.{arith}
 use borrow.Author.Tests.{not-false}
 use borrow.Author.Needs.{needs}
-use Rattle.vectors.proofs.chunks.run.Statement.{statement}
-use Rattle.vectors.proofs.chunks.run.Tie as tie
+use Rattle.vectors.proofs.chunks.in_60_bits.Statement.{statement}
+use Rattle.vectors.proofs.chunks.in_60_bits.Tie as tie
 
 get-next-chunk-requires : tie.Need-get-next-chunk-requires
 get-next-chunk-requires c κs =
     let k = c .before .before in
-    let made = k .before .before .with-marker-and-grant .ensures in
+    let s = k .before .before in
+    let made = s .with-sdu .ensures in
     record {
       place = omega arith;
       width = omega arith;
@@ -19,15 +20,13 @@ get-next-chunk-requires c κs =
       bounded = omega arith;
       sendable = record {
         legal = sym (k .before .header-is-legal .ensures) ∙ not-false _ (k .if1 .left);
-        bits = omega (arith, made .0);
+        bits = omega (arith, made .0, s .before .pre);
         sent = omega (arith, made .0, made .1);
       };
     }
 
-pub run-spec : {M : Type 1} → statement M
-run-spec =
+pub in-60-bits-spec : {M : Type 1} → statement M
+in-60-bits-spec =
     tie.close
     (tie.spec (λ c κs. search needs) (λ c κs. search needs) (λ c. search needs) (λ c. search needs) (λ c. search needs) get-next-chunk-requires
-    (λ c. search needs) (λ c κs. search needs) (λ c. search needs) (λ c κs. search needs) (λ c. search needs) (λ c κs. search needs)
-    (λ c κs. search needs) (λ c. search needs) (λ c κs. search needs) (λ c. search needs) (λ c κs. search needs) (λ c κs. search needs)
-    (λ c κs. search needs) (λ c. search needs))
+    (λ c. search needs) (λ c κs. search needs) (λ c κs. search needs) (λ c. search needs))
