@@ -1,5 +1,7 @@
 // Reads commands of `slotrun` on standard input, and prints how many lines of `slotrun` are as document 01 has them: the number of commands before the
 // first build in which the rule of W-201 arises, or `all` where there is none. Of a longer input the first 65,536 octets are looked at.
+#![tactic(auto)]
+
 mod lengths;
 
 ghost use Rattle.std.specs.Prelude.{◌≡◌, List, ℕ, ◌+◌, ◌≤◌, take, drop};

@@ -1,4 +1,6 @@
 // A basic slot grant, one octet: EN 300 392-2, clause 21.5.6.
+#![tactic(auto)]
+
 ghost use Rattle.std.specs.Prelude.{◌≡◌};
 ghost use Rattle.basic_slotgrant.specs.Slotgrant.{octet_of, grant_of, grant_at};
 

@@ -1,4 +1,6 @@
 // Fields of any width in a run of octets, most significant bit first.
+#![tactic(auto)]
+
 ghost use Rattle.std.specs.Prelude.{◌≡◌, ◌+◌, ◌*◌, ◌/◌, ◌%◌, ◌<◌, ◌≤◌, ◌^◌, length, get_or, set, replicate};
 ghost use Rattle.bitbuffer.specs.Bits.{value_bits, bits_value, bits_of, written, part, Wrote};
 

@@ -1,4 +1,6 @@
 // Reads blocks of 34 octets on standard input, one after another, and prints the headers of each in words.
+#![tactic(auto)]
+
 mod grant;
 mod headers;
 

@@ -1,4 +1,6 @@
 // A PDU written whole: its header, a part of the record's SDU, and fill; what becomes of a record after its turn.
+#![tactic(auto)]
+
 ghost use Rattle.std.specs.Prelude.{◌≡◌, ◌+◌, ◌*◌, ◌<◌, ◌≤◌, ◌^◌, ◌++◌, length};
 ghost use Rattle.bitbuffer.specs.Bits.{bits_of, part, Wrote};
 ghost use Rattle.fillbits.specs.Fill.{fill_bits};

@@ -1,4 +1,6 @@
 // A record's next PDU in the room that is left in a block: whole, the first fragment, a MAC-FRAG, a MAC-END, or none.
+#![tactic(auto)]
+
 ghost use Rattle.std.specs.Prelude.{◌≡◌, ◌-◌};
 ghost use Rattle.bitbuffer.specs.Bits.{bits_of};
 ghost use Rattle.dl_record.specs.Kind.{is_started};

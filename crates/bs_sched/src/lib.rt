@@ -1,4 +1,6 @@
 // The public entries: the functions over the caller's queue.
+#![tactic(auto)]
+
 ghost use Rattle.core.specs.Prelude.{slice_set};
 ghost use Rattle.std.specs.Prelude.{◌≡◌, true, false, [], ◌∷◌, ◌+◌, ◌≤◌, length, take, drop, replicate};
 ghost use Rattle.std.proofs.Math.Seq.{paste};

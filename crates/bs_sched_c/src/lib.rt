@@ -1,5 +1,7 @@
 // The scheduler for callers in C and Rust: state and queue as words (crate sched_words), store, SDU and block as octets. Each
 // function answers document 01's number, 0 for done; on any other number nothing of the caller's is altered.
+#![tactic(auto)]
+
 pub mod buffers;
 pub mod reply;
 

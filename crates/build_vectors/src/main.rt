@@ -1,5 +1,7 @@
 // Queues of records with SDUs of many lengths, alone and sixteen at a time, built into blocks until nothing is left, by the calls of C
 // and Rust programs. Each block is printed as `slotrun` prints it; the file `stdout` holds what the Rust printed for the same queues.
+#![tactic(auto)]
+
 use bs_sched_c::reply::BsSchedBuilt;
 
 // The lengths of the SDUs, in bits.

@@ -1,5 +1,7 @@
 // Runs the smallest input of the rows of docs/DIFFERENCES.md and prints what is answered, a line each under the row's name; the file
 // `stdout` holds what must be printed.
+#![tactic(auto)]
+
 mod alone;
 mod calls;
 mod lengths;

@@ -1,4 +1,6 @@
 // A timeslot's block: its records merged, put in order and sent; what does not finish stays, and its cells move with it.
+#![tactic(auto)]
+
 ghost use Rattle.std.specs.Prelude.{◌≡◌, true, ℕ, ◌+◌, ◌*◌, ◌<◌, ◌≤◌, length, get_or, drop};
 ghost use Rattle.std.proofs.Math.Seq.{paste};
 ghost use Rattle.sizes.specs.Sizes.{per_timeslot, cell_octets, timeslot_octets};

@@ -1,4 +1,6 @@
 // Merging: grants and acks go into the records of their timeslot; each record with the place that it comes from.
+#![tactic(auto)]
+
 ghost use Rattle.std.specs.Prelude.{◌≡◌, true, false, ℕ, ◌<◌, ◌≤◌, get_or};
 ghost use Rattle.sizes.specs.Sizes.{per_timeslot};
 ghost use Rattle.dl_record.specs.Record.{empty_record};

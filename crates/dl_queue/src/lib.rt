@@ -1,4 +1,6 @@
 // The queue: 64 records, sixteen to a timeslot, with the store of 64 cells. Timeslots are counted from 0.
+#![tactic(auto)]
+
 ghost use Rattle.std.specs.Prelude.{◌≡◌, true, false};
 ghost use Rattle.dl_queue.specs.Questions.{sound_place};
 

@@ -1,4 +1,6 @@
 // A queued record, and questions 5 to 7.
+#![tactic(auto)]
+
 ghost use Rattle.std.specs.Prelude.{◌≡◌};
 ghost use Rattle.mac_pdus.specs.Legal.{legal_queued, legal_offered};
 ghost use Rattle.dl_record.specs.Record.{grant_record, ack_record, offered_record, address_kind_of, resource_of};

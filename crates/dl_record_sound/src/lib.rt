@@ -1,4 +1,6 @@
 // Question 1 for a record: sound in a filled place, empty in one that is not.
+#![tactic(auto)]
+
 ghost use Rattle.std.specs.Prelude.{◌≡◌};
 ghost use Rattle.dl_record.specs.Kind.{is_grant};
 ghost use Rattle.dl_record.specs.Questions.{header_holds_grant_only, holds_grant_only, sound_as, sound_record, is_empty};

@@ -1,4 +1,6 @@
 // Cells of the SDU store: 256 octets each, most significant bit first.
+#![tactic(auto)]
+
 ghost use Rattle.std.specs.Prelude.{◌≡◌, ◌+◌, ◌*◌, ◌<◌, ◌≤◌, length, get_or, drop, replicate};
 ghost use Rattle.std.proofs.Math.Seq.{paste};
 ghost use Rattle.sizes.specs.Sizes.{cell_octets, sdu_bits};

@@ -1,4 +1,6 @@
 // Records in the order in which they are taken, sent in a block.
+#![tactic(auto)]
+
 ghost use Rattle.std.specs.Prelude.{◌≡◌, ℕ, ◌-◌, ◌*◌, ◌<◌, ◌≤◌, ◌^◌, length, get_or};
 ghost use Rattle.sizes.specs.Sizes.{per_timeslot};
 ghost use Rattle.bitbuffer.specs.Bits.{bits_of, written};

@@ -1,6 +1,8 @@
 // Document 01, "Uplink entry", "Queued record" and "Block": the entries that `slotrun` has no command for. An ack and requests are queued,
 // the block is built, and owner and usage are printed before and after an advance of four slots. The file `stdout` holds what document 01
 // says must come out.
+#![tactic(auto)]
+
 use dl_record::Record;
 use optional::OptU32;
 use questions::Refusal;

@@ -1,4 +1,6 @@
 // Fill bits of a PDU: how many it wants, their writing and their removal.
+#![tactic(auto)]
+
 ghost use Rattle.std.specs.Prelude.{◌≡◌, ◌+◌, ◌-◌, ◌*◌, ◌<◌, ◌≤◌, ◌^◌, ◌++◌, length, replicate};
 ghost use Rattle.bitbuffer.specs.Bits.{bits_of, part, Wrote};
 ghost use Rattle.fillbits.specs.Fill.{to_octet, fill_wanted, fill_bits, from_last_set, fill_at_end, reply, fill_reply};

@@ -1,4 +1,6 @@
 // The headers of a block as words of 32 bits, for callers that have no Rattle types (the layout: specs/HeaderWords.antt).
+#![tactic(auto)]
+
 ghost use Rattle.std.specs.Prelude.{◌≡◌, ℕ, ◌*◌, ◌<◌, ◌≤◌, ◌^◌, length, get_or, drop, replicate};
 ghost use Rattle.mac_pdus.specs.declared.PduHeader.{PduHeader};
 ghost use Rattle.mac_reader.specs.declared.PlacedHeader.{PlacedHeader};

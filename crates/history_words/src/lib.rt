@@ -1,4 +1,6 @@
 // Histories of exported calls are in specs/ and their theorem in proofs/; this function only lets the crate stand.
+#![tactic(auto)]
+
 ghost use Rattle.std.specs.Prelude.{◌≡◌};
 
 pub fn same(x: usize) -> usize

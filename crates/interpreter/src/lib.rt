@@ -1,4 +1,6 @@
 // The commands of `slotrun`: each is read, done and answered by a line (document 01, "Cases").
+#![tactic(auto)]
+
 ghost use Rattle.std.specs.Prelude.{◌≡◌, true, ◌+◌, ◌*◌, ◌^◌, ◌<◌, ◌≤◌, length, drop};
 ghost use Rattle.sizes.specs.Sizes.{store_octets};
 ghost use Rattle.questions.specs.Questions.{refusal_number};

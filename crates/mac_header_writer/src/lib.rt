@@ -1,4 +1,6 @@
 // The header writer: one MAC-RESOURCE header into a buffer of its own.
+#![tactic(auto)]
+
 ghost use Rattle.std.specs.Prelude.{◌≡◌, ◌≤◌};
 ghost use Rattle.mac_writer.specs.Writer.{room_for, WrittenAs};
 

@@ -1,4 +1,6 @@
 // Which headers are legal (document 01, question 6).
+#![tactic(auto)]
+
 ghost use Rattle.std.specs.Prelude.{◌≡◌};
 ghost use Rattle.mac_pdus.specs.Legal.{absent_u8, absent_u16, absent_chan_alloc, opt_below, label_fits, has_address, legal_frame18, legal_chan_alloc, legal_opt_chan_alloc};
 ghost use Rattle.mac_pdus.specs.Legal.{within_widths, all_absent, legal_parts, legal_fields, parts_to_write, legal_to_write, queued_kind, legal_queued, legal_offered};

@@ -1,4 +1,6 @@
 // A header as it is offered and as it stands on the air, and back; which headers read from a block the header writer would take.
+#![tactic(auto)]
+
 ghost use Rattle.std.specs.Prelude.{◌≡◌};
 ghost use Rattle.mac_pdus.specs.Legal.{ssi_on_air, smi_on_air, label_on_air, address_on_air, on_air, kind_of, number_of, label_of, usage_marker_of, offered, writer_takes};
 

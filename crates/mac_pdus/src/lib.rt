@@ -1,4 +1,6 @@
 // The headers of the downlink signalling PDUs (EN 300 392-2, 21.4.3): MAC-RESOURCE with the null PDU, MAC-FRAG and MAC-END, and how many bits they have.
+#![tactic(auto)]
+
 ghost use Rattle.std.specs.Prelude.{◌≡◌, ◌+◌, ◌≤◌};
 ghost use Rattle.mac_pdus.specs.Headers.{address_type, opt_length, address_length, chan_alloc_length, opt_chan_alloc_length, header_length};
 

@@ -1,4 +1,6 @@
 // The block reader: lists the headers of the PDUs in a signalling block, or says that the block is malformed (document 01, question 12).
+#![tactic(auto)]
+
 ghost use Rattle.std.specs.Prelude.{◌≡◌, ◌+◌, ◌*◌, ◌<◌, ◌≤◌, ◌^◌, ◌++◌, length, replicate};
 ghost use Rattle.sizes.specs.Sizes.{block_octets};
 ghost use Rattle.questions.specs.Questions.{refusal_number};

@@ -1,4 +1,6 @@
 // The reader of one MAC-RESOURCE header, part by part (EN 300 392-2, 21.4.3.1).
+#![tactic(auto)]
+
 ghost use Rattle.std.specs.Prelude.{◌≡◌, ◌+◌, ◌*◌, ◌<◌, ◌≤◌, ◌^◌, length};
 ghost use Rattle.bitbuffer.specs.Bits.{bits_of};
 ghost use Rattle.mac_pdus.specs.Headers.{opt_at, address_at, chan_alloc_at, opt_chan_alloc_at, elements_at, resource_at};

@@ -1,4 +1,6 @@
 // The writer of one MAC-RESOURCE header, part by part (EN 300 392-2, 21.4.3.1).
+#![tactic(auto)]
+
 ghost use Rattle.std.specs.Prelude.{◌++◌, ◌+◌, ◌*◌, ◌<◌, ◌≤◌, ◌^◌, length};
 ghost use Rattle.bitbuffer.specs.Bits.{bits_of, PieceOf, Wrote};
 ghost use Rattle.mac_pdus.specs.Headers.{opt_bits, address_bits, opt_chan_alloc_bits, resource_bits, fixed_bits, chan_alloc_bits};

@@ -1,4 +1,6 @@
 // Writers of the short headers, MAC-FRAG, MAC-END and the null PDU, and of a run of bits; the replies of the header writer.
+#![tactic(auto)]
+
 ghost use Rattle.std.specs.Prelude.{◌≡◌, ◌+◌, ◌*◌, ◌<◌, ◌≤◌, ◌^◌, length};
 ghost use Rattle.bitbuffer.specs.Bits.{bits_of, Wrote, value_bits};
 ghost use Rattle.mac_pdus.specs.Headers.{resource_bits, frag_bits, end_bits, null_header};

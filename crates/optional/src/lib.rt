@@ -1,4 +1,6 @@
 // Values that may be absent, one enum for each width in use.
+#![tactic(auto)]
+
 
 #[derive(Drop)]
 pub enum OptU8 {

@@ -1,4 +1,6 @@
 // Which question was answered no, and its number: the one place for both.
+#![tactic(auto)]
+
 ghost use Rattle.std.specs.Prelude.{◌≡◌};
 ghost use Rattle.questions.specs.Questions.{refusal_number};
 

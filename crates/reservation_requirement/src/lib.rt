@@ -1,4 +1,6 @@
 // Reservation requirement, four bits: EN 300 392-2, clause 21.5.4.
+#![tactic(auto)]
+
 ghost use Rattle.std.specs.Prelude.{◌≡◌, ◌<◌};
 ghost use Rattle.slot_codes.specs.Codes.{slots_wanted, code_for};
 ghost use Rattle.reservation_requirement.specs.Requirement.{requirement_code, requirement_at, requirement_read};

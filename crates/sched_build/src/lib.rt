@@ -1,4 +1,6 @@
 // A build: is there a block to build, and the plan of the current timeslot's block.
+#![tactic(auto)]
+
 ghost use Rattle.std.specs.Prelude.{◌≡◌, List, true, ◌&&◌, ltb, ◌+◌, ◌-◌, ◌*◌, ◌≤◌, length, get_or, set, take, drop};
 ghost use Rattle.sizes.specs.Sizes.{timeslots, per_timeslot, queue_places, cell_octets, store_octets, block_width, block_octets};
 ghost use Rattle.tdma_time.specs.Time.{usable_time};

@@ -1,4 +1,6 @@
 // The station by value: its soundness, the calls that need no queue, and what the other calls share.
+#![tactic(auto)]
+
 ghost use Rattle.std.specs.Prelude.{◌≡◌, ◌≤◌};
 ghost use Rattle.sizes.specs.Sizes.{timeslots};
 ghost use Rattle.uplink.specs.UplinkEntry.{all};

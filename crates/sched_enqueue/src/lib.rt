@@ -1,5 +1,7 @@
 // Queueing an acknowledgement or a record: the questions in order, then the place behind those queued. A plan is what a call leaves
 // to a caller that keeps the queue elsewhere.
+#![tactic(auto)]
+
 ghost use Rattle.std.specs.Prelude.{◌≡◌, List, ℕ, ◌-◌, ◌≤◌, ◌<◌, length, get_or};
 ghost use Rattle.sizes.specs.Sizes.{timeslots, per_timeslot, queue_places, store_octets};
 ghost use Rattle.dl_queue.specs.Queue.{next_place};

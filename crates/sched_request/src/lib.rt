@@ -1,5 +1,7 @@
 // A request for capacity: the questions in order, the search, and the grant queued. A plan is what it leaves to a caller that keeps
 // the queue elsewhere.
+#![tactic(auto)]
+
 ghost use Rattle.std.specs.Prelude.{◌≡◌, true, ◌-◌, ◌≤◌, ◌<◌, get_or};
 ghost use Rattle.sizes.specs.Sizes.{timeslots, per_timeslot, latest_delay};
 ghost use Rattle.questions.specs.declared.Refusal.{Refusal};

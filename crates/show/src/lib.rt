@@ -1,4 +1,6 @@
 // Words and numbers on standard output, for the programs that show results.
+#![tactic(auto)]
+
 
 // A word, as it is.
 pub fn word(text: &[u8]) {

@@ -1,4 +1,6 @@
 // The codes of reservation requirements and granted capacities as plain numbers (EN 300 392-2, clauses 21.5.4 and 21.5.6).
+#![tactic(auto)]
+
 ghost use Rattle.std.specs.Prelude.{◌≡◌};
 ghost use Rattle.slot_codes.specs.Codes.{slots_wanted, slots_granted, capacity_for, code_for};
 

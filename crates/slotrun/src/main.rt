@@ -1,4 +1,6 @@
 // Reads commands on standard input, does them, and prints a line for each (document 01, "Cases").
+#![tactic(auto)]
+
 ghost use Rattle.std.specs.Prelude.{◌-◌, ◌*◌, ◌^◌, ◌<◌, ◌≤◌, ◌≡◌, ◌&&◌, not, length, take, drop};
 ghost use Rattle.sizes.specs.Sizes.{store_octets};
 ghost use Rattle.sched_core.specs.Questions.{memory};

@@ -1,4 +1,6 @@
 // `slotrun`'s interpreter for a host that is not Rattle: a whole input at once, on a station of its own.
+#![tactic(auto)]
+
 ghost use Rattle.slotrun_c.specs.Whole.{Whole};
 
 // Does the commands at the front of the input, as many as are whole, and answers how many octets they print, which stand at the front

@@ -188,14 +188,14 @@ usables-same t a b h (suc k) = rw h
 pub usables-clock : (t a b : ℕ) → clock (first_usable t a) ≡ clock (first_usable t b) → (k : ℕ) → map clock (usables t a k) ≡ map clock (usables t b k)
 unfolding usables
 usables-clock t a b h zero = refl
-usables-clock t a b h (suc k) = ap₂ ◌∷◌ h (usables-clock t _ _ (first_usable-clock t _ _ (clock-add _ _ 1 h)) k)
+usables-clock t a b h (suc k) = ap₂ ◌∷◌ h (usables-clock t (first_usable t a + 1) _ (first_usable-clock t _ _ (clock-add _ _ 1 h)) k)
 
 -- where the first usable slots show one time, so do those after d of them
 pub after_cong : (t a b : ℕ) → clock (first_usable t a) ≡ clock (first_usable t b) → (d : ℕ)
     → clock (first_usable t (after t a d)) ≡ clock (first_usable t (after t b d))
 unfolding after
 after_cong t a b h zero = h
-after_cong t a b h (suc d) = after_cong t _ _ (first_usable-clock t _ _ (clock-add _ _ 1 h)) d
+after_cong t a b h (suc d) = after_cong t (first_usable t a + 1) _ (first_usable-clock t _ _ (clock-add _ _ 1 h)) d
 
 -- and the other way round
 pub after-inj : (t : ℕ) → 1 ≤ t → t ≤ 4 → (d a b : ℕ) → clock (first_usable t (after t a d)) ≡ clock (first_usable t (after t b d))

@@ -1,4 +1,6 @@
 // TDMA time (document 01, "Time"): timeslot, frame, multiframe and hyperframe, counted in that order of speed.
+#![tactic(auto)]
+
 ghost use Rattle.std.specs.Prelude.{◌≡◌, ◌+◌, ◌-◌, ◌≤◌};
 ghost use Rattle.sizes.specs.Sizes.{timeslots};
 ghost use Rattle.tdma_time.specs.Time.{Valid, valid, slot_of, time_of, usable, usable_time, next_time, four_earlier, forward_time};

@@ -1,4 +1,6 @@
 // A request for capacity on the uplink: the usage marker drawn, the run that the search found reserved, and the answer.
+#![tactic(auto)]
+
 ghost use Rattle.std.specs.Prelude.{◌≡◌, true, cond, ◌+◌, ◌-◌, ◌*◌, ◌<◌, ◌≤◌, leb, get_or};
 ghost use Rattle.optional.specs.declared.OptU8.{OptU8};
 ghost use Rattle.sizes.specs.Sizes.{timeslots, frames_searched, latest_delay};

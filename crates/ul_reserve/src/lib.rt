@@ -1,4 +1,6 @@
 // The reservation of a run of slots in the uplink table.
+#![tactic(auto)]
+
 ghost use Rattle.std.specs.Prelude.{◌≡◌, ◌≤◌};
 ghost use Rattle.sizes.specs.Sizes.{timeslots, frames_searched};
 ghost use Rattle.tdma_time.specs.Time.{Valid};

@@ -1,5 +1,7 @@
 // The uplink of a station: the time, the table of reserved slots and the counters of usage markers; a new one, one that steps a slot,
 // its soundness, owner and usage.
+#![tactic(auto)]
+
 ghost use Rattle.std.specs.Prelude.{◌≡◌};
 ghost use Rattle.tdma_time.specs.Time.{Valid, slot_of};
 ghost use Rattle.uplink.specs.HalfSlot.{vacant};

@@ -1,4 +1,6 @@
 // Runs examples of each crate and prints what they answer, a line each; the file `stdout` holds what must be printed.
+#![tactic(auto)]
+
 mod bits;
 mod blocks;
 mod chunks;

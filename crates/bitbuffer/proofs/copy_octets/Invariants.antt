@@ -1,0 +1,17 @@
+-- `copy_octets` meets its contract: after i turns the first i octets are copied. Assumes nothing.
+use mathlib.Core.Path.{◌≡◌, refl, ap, ◌∙◌}
+use Prim.Native.Nat.{ℕ, ◌+◌, ◌-◌, ◌*◌, ◌/◌, ◌≤◌}
+use native.Mathlib.Omega.{arith}
+use borrow.Author.Rules.{rules}
+use lib.ListN.{length, length-set}
+use Rattle.bitbuffer.specs.Bits.{value_bits, bits_of, written, part}
+use Rattle.bitbuffer.proofs.Laws.{part-done}
+use Rattle.bitbuffer.proofs.Chunks.{octet-part, octet-turn}
+use Rattle.bitbuffer.proofs.copy_octets.Given as goal
+
+abbrev pub invariant-loop-i : goal.invariant-loop-i
+invariant-loop-i l =
+    (l.i ≤ l.n) × (length l.dst ≡ length l.initial.dst) × (bits_of l.dst ≡ written (bits_of l.initial.dst) (8 * l.at) (part (bits_of l.src) l.from (8 * l.i)))
+
+abbrev pub decreases-loop-i : goal.decreases-loop-i
+decreases-loop-i l = l.n - l.i
