@@ -10,7 +10,7 @@ use dl_record::Record;
 use sizes::PER_TIMESLOT;
 
 // What a turn comes to: the room behind it, whether it wrote a PDU, and whether that starts fragments.
-#[derive(Drop)]
+#[derive(Clone, Copy)]
 pub(crate) struct TurnLengths {
     pub(crate) room: usize,
     pub(crate) wrote: bool,

@@ -17,7 +17,7 @@ use sched_core::Station;
 use sizes::{BLOCK_WIDTH, PER_TIMESLOT, QUEUE_PLACES};
 
 // The lines that are as document 01 has them: all, or those of the commands before the first build in which the rule arises.
-#[derive(Drop)]
+#[derive(Clone, Copy)]
 enum Lines {
     All,
     Before(usize),

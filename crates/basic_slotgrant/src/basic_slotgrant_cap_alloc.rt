@@ -3,7 +3,7 @@ ghost use Rattle.std.specs.Prelude.{◌≡◌, false, ◌<◌};
 ghost use Rattle.slot_codes.specs.Codes.{slots_granted, capacity_for, code_for};
 ghost use Rattle.basic_slotgrant.specs.Slotgrant.{capacity_code, capacity_at, capacity_read};
 
-#[derive(Drop)]
+#[derive(Clone, Copy)]
 pub enum BasicSlotgrantCapAlloc {
     FirstSubslotGranted,
     Grant1Slot,
@@ -24,7 +24,7 @@ pub enum BasicSlotgrantCapAlloc {
 }
 
 // What a number is read as.
-#[derive(Drop)]
+#[derive(Clone, Copy)]
 pub enum CapAllocRead {
     Of(BasicSlotgrantCapAlloc),
     Unknown,

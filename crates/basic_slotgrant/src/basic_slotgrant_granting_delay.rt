@@ -2,7 +2,7 @@
 ghost use Rattle.std.specs.Prelude.{◌≡◌, ◌<◌};
 ghost use Rattle.basic_slotgrant.specs.Slotgrant.{delay_code, delay_at, delay_read};
 
-#[derive(Drop)]
+#[derive(Clone, Copy)]
 pub enum BasicSlotgrantGrantingDelay {
     CapAllocAtNextOpportunity,
     // N opportunities are passed over, N from 1 to 13.
@@ -12,7 +12,7 @@ pub enum BasicSlotgrantGrantingDelay {
 }
 
 // What a number is read as.
-#[derive(Drop)]
+#[derive(Clone, Copy)]
 pub enum GrantingDelayRead {
     Of(BasicSlotgrantGrantingDelay),
     Unknown,

@@ -10,7 +10,7 @@ use crate::basic_slotgrant_granting_delay::BasicSlotgrantGrantingDelay;
 pub mod basic_slotgrant_cap_alloc;
 pub mod basic_slotgrant_granting_delay;
 
-#[derive(Drop)]
+#[derive(Clone, Copy)]
 pub struct BasicSlotgrant {
     pub capacity_allocation: BasicSlotgrantCapAlloc,
     pub granting_delay: BasicSlotgrantGrantingDelay,

@@ -3,7 +3,7 @@ ghost use Rattle.std.specs.Prelude.{◌≡◌};
 ghost use Rattle.blockdump.specs.Grant.{part_of, granted_slots, ms_grant};
 
 // The part of its slots that a capacity grants.
-#[derive(Drop)]
+#[derive(Clone, Copy)]
 pub(crate) enum Part {
     FirstHalf,
     SecondHalf,
@@ -11,13 +11,13 @@ pub(crate) enum Part {
 }
 
 // The usable slots of a grant, the first of them and the last, or that its delay is none that the scheduler sends.
-#[derive(Drop)]
+#[derive(Clone, Copy)]
 pub(crate) enum GrantedSlots {
     FromTo(usize, usize),
     DelayNotSent,
 }
 
-#[derive(Drop)]
+#[derive(Clone, Copy)]
 pub(crate) struct MsGrant {
     pub(crate) part: Part,
     pub(crate) count: usize,

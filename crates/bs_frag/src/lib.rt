@@ -12,7 +12,7 @@ use dl_record::Record;
 use mac_pdus::{MacEndDl, MacFragDl, ResourceHeader};
 
 // What becomes of a record after its turn: finished, waiting, or started with so many SDU bits sent.
-#[derive(Drop)]
+#[derive(Clone, Copy)]
 pub enum ChunkOutcome {
     Finished,
     Waiting,
@@ -20,7 +20,7 @@ pub enum ChunkOutcome {
 }
 
 // Where the bits written end, and what becomes of the record.
-#[derive(Drop)]
+#[derive(Clone, Copy)]
 pub struct Chunk {
     pub next: usize,
     pub outcome: ChunkOutcome,

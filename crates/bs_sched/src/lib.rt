@@ -27,7 +27,7 @@ use tdma_time::TdmaTime;
 use uplink::PhyBlockNum;
 
 // What a build answers: the reply, the tags of the records that are finished, and the station after the call.
-#[derive(Drop)]
+#[derive(Clone, Copy)]
 pub struct BuildAnswer {
     pub reply: BuildReply,
     pub tags: [u16; sizes::PER_TIMESLOT],
@@ -36,7 +36,7 @@ pub struct BuildAnswer {
 }
 
 // What questions 1 and 2 were answered: yes, or a no with its refusal.
-#[derive(Drop)]
+#[derive(Clone, Copy)]
 pub enum Passage {
     Passed,
     No(Refusal),

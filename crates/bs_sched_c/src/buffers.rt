@@ -11,7 +11,7 @@ use questions::Refusal;
 
 // The block reader's answer.
 #[repr(C)]
-#[derive(Drop)]
+#[derive(Clone, Copy)]
 pub struct BsSchedRead {
     pub refusal: u8,
     pub count: u8,
@@ -19,7 +19,7 @@ pub struct BsSchedRead {
 
 // The header writer's answer: the position behind the header.
 #[repr(C)]
-#[derive(Drop)]
+#[derive(Clone, Copy)]
 pub struct BsSchedWritten {
     pub refusal: u8,
     pub end: u64,
@@ -27,7 +27,7 @@ pub struct BsSchedWritten {
 
 // Fill removal's answer.
 #[repr(C)]
-#[derive(Drop)]
+#[derive(Clone, Copy)]
 pub struct BsSchedFill {
     pub refusal: u8,
     pub bits: u64,

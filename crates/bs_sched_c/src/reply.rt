@@ -11,7 +11,7 @@ use uplink::{AccessAssignUlUsage, Entry, PhyBlockNum};
 
 // The grant of a request; usage_marker is 0 if there is none.
 #[repr(C)]
-#[derive(Drop)]
+#[derive(Clone, Copy)]
 pub struct BsSchedGrant {
     pub refusal: u8,
     pub capacity: u8,
@@ -21,7 +21,7 @@ pub struct BsSchedGrant {
 
 // A build: is there a block, and the tags of the records that are finished.
 #[repr(C)]
-#[derive(Drop)]
+#[derive(Clone, Copy)]
 pub struct BsSchedBuilt {
     pub refusal: u8,
     pub built: u8,
@@ -31,7 +31,7 @@ pub struct BsSchedBuilt {
 
 // The owners of a slot, each 0 for none, else the number and 1.
 #[repr(C)]
-#[derive(Drop)]
+#[derive(Clone, Copy)]
 pub struct BsSchedOwners {
     pub refusal: u8,
     pub both: u32,
@@ -41,7 +41,7 @@ pub struct BsSchedOwners {
 
 // How a slot is used: 0 no half taken, 1 first only, 2 both, 3 with a marker.
 #[repr(C)]
-#[derive(Drop)]
+#[derive(Clone, Copy)]
 pub struct BsSchedUsage {
     pub refusal: u8,
     pub usage: u8,

@@ -56,7 +56,7 @@ pub fn merged_records(records: [Record; PER_TIMESLOT], n: usize) -> Merged
 }
 
 // Records in the order in which they are taken: where each stands among those at hand, and the place that it comes from.
-#[derive(Drop)]
+#[derive(Clone, Copy)]
 pub struct Order {
     pub at: [u8; PER_TIMESLOT],
     pub from: [u8; PER_TIMESLOT],

@@ -14,7 +14,7 @@ use optional::{OptU8, OptU16};
 use sizes::{NO_PLACE, PER_TIMESLOT};
 
 // A timeslot's records with the places that they come from.
-#[derive(Drop)]
+#[derive(Clone, Copy)]
 pub struct Merged {
     pub records: [Record; PER_TIMESLOT],
     pub from: [u8; PER_TIMESLOT],

@@ -10,7 +10,7 @@ use mac_pdus::{AddressKind, MacResource, OptChanAlloc};
 use optional::{OptU8, OptU16};
 use sizes::SDU_BITS;
 
-#[derive(Drop)]
+#[derive(Clone, Copy)]
 pub enum Kind {
     Grant,
     Ack,
@@ -20,7 +20,7 @@ pub enum Kind {
 }
 
 // A MAC-RESOURCE header without address, length and fill.
-#[derive(Drop)]
+#[derive(Clone, Copy)]
 pub struct QueuedHeader {
     pub pos_of_grant: u8,
     pub encryption_mode: u8,
@@ -32,7 +32,7 @@ pub struct QueuedHeader {
     pub chan_alloc_element: OptChanAlloc,
 }
 
-#[derive(Drop)]
+#[derive(Clone, Copy)]
 pub struct Record {
     pub kind: Kind,
     pub address_kind: u8,

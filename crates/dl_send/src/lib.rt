@@ -14,7 +14,7 @@ use optional::OptU16;
 use sizes::{NO_PLACE, PER_TIMESLOT};
 
 // What stays, with the places that it comes from, and the tags of what is finished.
-#[derive(Drop)]
+#[derive(Clone, Copy)]
 pub struct Progress {
     pub records: [Record; PER_TIMESLOT],
     pub from: [u8; PER_TIMESLOT],

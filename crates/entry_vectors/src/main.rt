@@ -128,7 +128,7 @@ fn four_on(s: Station) -> Station {
 }
 
 // The station and its queue.
-#[derive(Drop)]
+#[derive(Clone, Copy)]
 struct Left {
     station: Station,
     queue: [Record; sizes::QUEUE_PLACES],

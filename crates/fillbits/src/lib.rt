@@ -43,7 +43,7 @@ pub fn write(buf: &mut [u8], at: usize, n: usize) -> usize
 }
 
 // What fill removal answers: the number of fill bits, or a refusal where the end is past the buffer.
-#[derive(Drop)]
+#[derive(Clone, Copy)]
 pub enum FillRemoval {
     Bits(usize),
     Refused(Refusal),

@@ -13,7 +13,7 @@ use optional::OptU16;
 use sched_core::{Answer, BuildReply, Reply, RequestAnswer, RequestReply, Station};
 
 // The reply to a request, and the station and the queue after it.
-#[derive(Drop)]
+#[derive(Clone, Copy)]
 pub struct RequestLeft {
     pub reply: RequestReply,
     pub station: Station,
@@ -21,7 +21,7 @@ pub struct RequestLeft {
 }
 
 // The same for an ack or a record that is queued.
-#[derive(Drop)]
+#[derive(Clone, Copy)]
 pub struct QueueLeft {
     pub reply: Reply,
     pub station: Station,
@@ -29,7 +29,7 @@ pub struct QueueLeft {
 }
 
 // The same for a build, with the tags of the records that are finished.
-#[derive(Drop)]
+#[derive(Clone, Copy)]
 pub struct BuildDone {
     pub reply: BuildReply,
     pub tags: [u16; sizes::PER_TIMESLOT],

@@ -23,7 +23,7 @@ pub mod text;
 pub const STAGE_OCTETS: usize = 256;
 
 // The commands.
-#[derive(Drop)]
+#[derive(Clone, Copy)]
 pub enum Command {
     New,
     Advance,
@@ -35,7 +35,7 @@ pub enum Command {
 }
 
 // What a command leaves: the station and its queue, and how many octets it printed.
-#[derive(Drop)]
+#[derive(Clone, Copy)]
 pub struct Executed {
     pub station: Station,
     pub queue: [Record; sizes::QUEUE_PLACES],
@@ -43,14 +43,14 @@ pub struct Executed {
 }
 
 // What an advance leaves: the station, and how many octets it printed.
-#[derive(Drop)]
+#[derive(Clone, Copy)]
 pub struct Advanced {
     pub station: Station,
     pub count: usize,
 }
 
 // What a run leaves: the station and its queue, how many octets it took, and how many it printed.
-#[derive(Drop)]
+#[derive(Clone, Copy)]
 pub struct RunAnswer {
     pub station: Station,
     pub queue: [Record; sizes::QUEUE_PLACES],

@@ -9,7 +9,7 @@ use optional::{OptU8, OptU16};
 // ---- types
 
 // The eight address types as the air carries them.
-#[derive(Drop)]
+#[derive(Clone, Copy)]
 pub enum Address {
     Null,
     Ssi(u32),
@@ -22,7 +22,7 @@ pub enum Address {
 }
 
 // A channel allocation element (21.5.2).
-#[derive(Drop)]
+#[derive(Clone, Copy)]
 pub struct ChanAllocElement {
     pub alloc_type: u8,
     pub ts_assigned: u8,
@@ -35,14 +35,14 @@ pub struct ChanAllocElement {
     pub frame18_mon_pattern: OptU8,
 }
 
-#[derive(Drop)]
+#[derive(Clone, Copy)]
 pub enum OptChanAlloc {
     Absent,
     Of(ChanAllocElement),
 }
 
 // A MAC-RESOURCE header (21.4.3.1) as the air carries it; the null PDU is the one with address type 0.
-#[derive(Drop)]
+#[derive(Clone, Copy)]
 pub struct ResourceHeader {
     pub fill_bits: u8,
     pub pos_of_grant: u8,
@@ -56,20 +56,20 @@ pub struct ResourceHeader {
 }
 
 // A MAC-FRAG header (21.4.3.2).
-#[derive(Drop)]
+#[derive(Clone, Copy)]
 pub struct MacFragDl {
     pub fill_bits: u8,
 }
 
 // A MAC-END header (21.4.3.3), without slot grant and channel allocation.
-#[derive(Drop)]
+#[derive(Clone, Copy)]
 pub struct MacEndDl {
     pub fill_bits: u8,
     pub pos_of_grant: u8,
     pub length_ind: u8,
 }
 
-#[derive(Drop)]
+#[derive(Clone, Copy)]
 pub enum PduHeader {
     Resource(ResourceHeader),
     Frag(MacFragDl),
@@ -77,7 +77,7 @@ pub enum PduHeader {
 }
 
 // The kind of an offered address; with `Absent`, a label alone or the null PDU.
-#[derive(Drop)]
+#[derive(Clone, Copy)]
 pub enum AddressKind {
     Absent,
     Ssi,
@@ -88,7 +88,7 @@ pub enum AddressKind {
 }
 
 // A MAC-RESOURCE header as a caller offers it.
-#[derive(Drop)]
+#[derive(Clone, Copy)]
 pub struct MacResource {
     pub fill_bits: u8,
     pub pos_of_grant: u8,
@@ -107,35 +107,35 @@ pub struct MacResource {
 // ---- what a reader answers for a part of a header
 
 // An optional element that was read, and the position after it.
-#[derive(Drop)]
+#[derive(Clone, Copy)]
 pub struct OptU8Read {
     pub m: OptU8,
     pub next: usize,
 }
 
 // An address that was read, and the position after it.
-#[derive(Drop)]
+#[derive(Clone, Copy)]
 pub struct AddressRead {
     pub a: Address,
     pub next: usize,
 }
 
 // A channel allocation element that was read, and the position after it.
-#[derive(Drop)]
+#[derive(Clone, Copy)]
 pub struct ChanAllocRead {
     pub c: ChanAllocElement,
     pub next: usize,
 }
 
 // An optional channel allocation that was read, and the position after it.
-#[derive(Drop)]
+#[derive(Clone, Copy)]
 pub struct OptChanAllocRead {
     pub a: OptChanAlloc,
     pub next: usize,
 }
 
 // The optional elements that were read, and the position after them.
-#[derive(Drop)]
+#[derive(Clone, Copy)]
 pub struct ElementsRead {
     pub power_control_element: OptU8,
     pub slot_granting_element: OptU8,
@@ -144,7 +144,7 @@ pub struct ElementsRead {
 }
 
 // A header that was read, and the position after it.
-#[derive(Drop)]
+#[derive(Clone, Copy)]
 pub struct ResourceRead {
     pub r: ResourceHeader,
     pub next: usize,

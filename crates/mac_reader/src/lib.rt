@@ -16,21 +16,21 @@ use sizes::{BLOCK_OCTETS, BLOCK_WIDTH};
 pub const MOST_PDUS: usize = 16;
 
 // A header and the bit position where it stands.
-#[derive(Drop)]
+#[derive(Clone, Copy)]
 pub struct PlacedHeader {
     pub at: usize,
     pub header: PduHeader,
 }
 
 // How a reading ends: with a list of headers, or refused.
-#[derive(Drop)]
+#[derive(Clone, Copy)]
 pub enum ReadOutcome {
     Listed,
     Refused(Refusal),
 }
 
 // The reader's reply: the outcome, and the headers, `count` of them.
-#[derive(Drop)]
+#[derive(Clone, Copy)]
 pub struct BlockHeaders {
     pub outcome: ReadOutcome,
     pub count: usize,
@@ -38,7 +38,7 @@ pub struct BlockHeaders {
 }
 
 // What stands at a position of a block: nothing that may stand there, a PDU after which the reader stops, or one with the position of the next.
-#[derive(Drop)]
+#[derive(Clone, Copy)]
 pub enum PduStep {
     Malformed,
     Last(PduHeader),

@@ -10,7 +10,7 @@ use mac_pdus::{MacEndDl, MacFragDl};
 use questions::Refusal;
 
 // A run of up to 64 bits: the low `width` bits of `value`.
-#[derive(Drop)]
+#[derive(Clone, Copy)]
 pub struct Piece {
     pub width: usize,
     pub value: u64,
@@ -50,7 +50,7 @@ pub fn put_end(s: &mut [u8], at: usize, e: MacEndDl) -> usize
 }
 
 // A refusal, or the position after the header.
-#[derive(Drop)]
+#[derive(Clone, Copy)]
 pub enum WriteReply {
     Refused(Refusal),
     Next(usize),

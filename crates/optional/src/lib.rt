@@ -2,19 +2,19 @@
 #![tactic(auto)]
 
 
-#[derive(Drop)]
+#[derive(Clone, Copy)]
 pub enum OptU8 {
     Absent,
     Of(u8),
 }
 
-#[derive(Drop)]
+#[derive(Clone, Copy)]
 pub enum OptU16 {
     Absent,
     Of(u16),
 }
 
-#[derive(Drop)]
+#[derive(Clone, Copy)]
 pub enum OptU32 {
     Absent,
     Of(u32),

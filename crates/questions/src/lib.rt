@@ -5,7 +5,7 @@ ghost use Rattle.std.specs.Prelude.{◌≡◌};
 ghost use Rattle.questions.specs.Questions.{refusal_number};
 
 // The question that was answered no. No call asks them all.
-#[derive(Drop)]
+#[derive(Clone, Copy)]
 pub enum Refusal {
     Unsound,
     Lengths,

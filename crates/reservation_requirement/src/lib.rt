@@ -5,7 +5,7 @@ ghost use Rattle.std.specs.Prelude.{◌≡◌, ◌<◌};
 ghost use Rattle.slot_codes.specs.Codes.{slots_wanted, code_for};
 ghost use Rattle.reservation_requirement.specs.Requirement.{requirement_code, requirement_at, requirement_read};
 
-#[derive(Drop)]
+#[derive(Clone, Copy)]
 pub enum ReservationRequirement {
     Req1Subslot,
     Req1Slot,
@@ -26,7 +26,7 @@ pub enum ReservationRequirement {
 }
 
 // What a number is read as.
-#[derive(Drop)]
+#[derive(Clone, Copy)]
 pub enum RequirementRead {
     Of(ReservationRequirement),
     Unknown,

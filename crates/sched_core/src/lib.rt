@@ -16,21 +16,21 @@ use tdma_time::TdmaTime;
 use uplink::{AccessAssignUlUsage, PhyBlockNum, Uplink};
 
 // The station: its uplink, and how many records are queued for each timeslot.
-#[derive(Drop)]
+#[derive(Clone, Copy)]
 pub struct Station {
     pub uplink: Uplink,
     pub queued: [u8; sizes::TIMESLOTS],
 }
 
 // The reply to a call that answers nothing but whether it was done.
-#[derive(Drop)]
+#[derive(Clone, Copy)]
 pub enum Reply {
     Done,
     Refused(Refusal),
 }
 
 // The reply to a request for capacity.
-#[derive(Drop)]
+#[derive(Clone, Copy)]
 pub enum RequestReply {
     Granted {
         capacity: u8,
@@ -41,7 +41,7 @@ pub enum RequestReply {
 }
 
 // The reply to a build: the caller's block is written, or there is nothing to build.
-#[derive(Drop)]
+#[derive(Clone, Copy)]
 pub enum BuildReply {
     Built,
     NoBlock,
@@ -49,28 +49,28 @@ pub enum BuildReply {
 }
 
 // Who holds a slot, or a half of it.
-#[derive(Drop)]
+#[derive(Clone, Copy)]
 pub enum OwnerReply {
     Owner(OptU32),
     Refused(Refusal),
 }
 
 // How a slot is used.
-#[derive(Drop)]
+#[derive(Clone, Copy)]
 pub enum UsageReply {
     Usage(AccessAssignUlUsage),
     Refused(Refusal),
 }
 
 // A reply, and the station after the call.
-#[derive(Drop)]
+#[derive(Clone, Copy)]
 pub struct Answer {
     pub reply: Reply,
     pub station: Station,
 }
 
 // The reply to a request, and the station after it.
-#[derive(Drop)]
+#[derive(Clone, Copy)]
 pub struct RequestAnswer {
     pub reply: RequestReply,
     pub station: Station,

@@ -16,7 +16,7 @@ use sched_core::{Reply, Station};
 
 // The reply, the station after the call, and the record that joins the queue with its place; where none joins, the place is past the
 // queue, and the record the empty one.
-#[derive(Drop)]
+#[derive(Clone, Copy)]
 pub struct QueuePlan {
     pub reply: Reply,
     pub station: Station,
@@ -25,7 +25,7 @@ pub struct QueuePlan {
 }
 
 // The same with the counts alone: what a call that queues leaves of any station that has its counts.
-#[derive(Drop)]
+#[derive(Clone, Copy)]
 pub struct Joining {
     pub reply: Reply,
     pub queued: [u8; 4],

@@ -23,7 +23,7 @@ use uplink::{CapAnswer, CapReply};
 
 // The reply, the station after the request, and the grant that joins the queue with its place; where none joins, the place is past the
 // queue, and the record the empty one.
-#[derive(Drop)]
+#[derive(Clone, Copy)]
 pub struct RequestPlan {
     pub reply: RequestReply,
     pub station: Station,

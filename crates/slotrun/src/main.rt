@@ -15,7 +15,7 @@ use libc::{STDIN_FILENO, STDOUT_FILENO};
 use sched_core::Station;
 
 // What a turn leaves: the station and its queue, how many octets of the input are kept, and whether there may be more.
-#[derive(Drop)]
+#[derive(Clone, Copy)]
 struct Turn {
     station: Station,
     queue: [Record; sizes::QUEUE_PLACES],

@@ -5,7 +5,7 @@ ghost use Rattle.std.specs.Prelude.{◌≡◌, ◌+◌, ◌-◌, ◌≤◌};
 ghost use Rattle.sizes.specs.Sizes.{timeslots};
 ghost use Rattle.tdma_time.specs.Time.{Valid, valid, slot_of, time_of, usable, usable_time, next_time, four_earlier, forward_time};
 
-#[derive(Drop)]
+#[derive(Clone, Copy)]
 pub struct TdmaTime {
     pub t: u8,
     pub f: u8,

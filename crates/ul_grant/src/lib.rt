@@ -17,7 +17,7 @@ use tdma_time::TdmaTime;
 use uplink::{CapAnswer, CapReply, Entry, Opportunity, PhyBlockNum, Uplink};
 
 // The usage marker of a grant, and the counters after it.
-#[derive(Drop)]
+#[derive(Clone, Copy)]
 struct MarkerDrawn {
     pub usage_marker: OptU8,
     pub next_usage_marker: [u8; sizes::TIMESLOTS],

@@ -13,7 +13,7 @@ use optional::{OptU8, OptU32};
 use tdma_time::TdmaTime;
 
 // An entry of the uplink table: who holds each half of the slot, and the usage marker of the reservation.
-#[derive(Drop)]
+#[derive(Clone, Copy)]
 pub struct Entry {
     pub ul1: OptU32,
     pub ul2: OptU32,
@@ -30,7 +30,7 @@ impl Entry {
 }
 
 // The time, the table by timeslot and frame, and the next usage marker of each timeslot.
-#[derive(Drop)]
+#[derive(Clone, Copy)]
 pub struct Uplink {
     pub time: TdmaTime,
     pub rows: [[Entry; 18]; 4],
@@ -75,7 +75,7 @@ pub fn new_uplink(time: TdmaTime) -> Uplink
 }
 
 // A slot's first half, its second, or both.
-#[derive(Drop)]
+#[derive(Clone, Copy)]
 pub enum PhyBlockNum {
     Both,
     Block1,
@@ -83,7 +83,7 @@ pub enum PhyBlockNum {
 }
 
 // What the access-assignment of an uplink slot says of its use.
-#[derive(Drop)]
+#[derive(Clone, Copy)]
 pub enum AccessAssignUlUsage {
     CommonOnly,
     CommonAndAssigned,
@@ -92,14 +92,14 @@ pub enum AccessAssignUlUsage {
 }
 
 // A run of free slots: how many frames after the first slot searched it begins, and how many usable slots were passed over.
-#[derive(Drop)]
+#[derive(Clone, Copy)]
 pub enum Opportunity {
     Nothing,
     At(usize, usize),
 }
 
 // The reply to a request for capacity.
-#[derive(Drop)]
+#[derive(Clone, Copy)]
 pub enum CapReply {
     Granted {
         capacity: u8,
@@ -111,7 +111,7 @@ pub enum CapReply {
 }
 
 // The reply, and the uplink after it.
-#[derive(Drop)]
+#[derive(Clone, Copy)]
 pub struct CapAnswer {
     pub reply: CapReply,
     pub uplink: Uplink,
