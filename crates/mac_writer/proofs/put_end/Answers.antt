@@ -1,0 +1,10 @@
+-- The thirteen bits in one piece.
+use Rattle.bitbuffer.proofs.Pieces.{wrote-piece}
+use Rattle.mac_pdus.proofs.ShortHeaders.{end-piece}
+use borrow.Author.Rules.{rules}
+use Rattle.mac_writer.proofs.put_end.Goals as goal
+
+pub returns : goal.returns
+returns c =
+    let p = c in
+    (p.put.ensures.0, wrote-piece (end-piece _ (search rules)) p.put.ensures.1)

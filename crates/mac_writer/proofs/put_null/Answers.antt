@@ -1,0 +1,9 @@
+-- The sixteen bits in one piece.
+use Rattle.bitbuffer.proofs.Pieces.{wrote-piece}
+use Rattle.mac_pdus.proofs.ShortHeaders.{null-piece}
+use Rattle.mac_writer.proofs.put_null.Goals as goal
+
+pub returns : goal.returns
+returns c =
+    let p = c in
+    (p.put.ensures.0, wrote-piece null-piece p.put.ensures.1)
