@@ -6,5 +6,4 @@ use Rattle.mac_writer.proofs.put_frag.Goals as goal
 
 pub returns : goal.returns
 returns c =
-    let p = c in
-    (p.put.ensures.0, wrote-piece (frag-piece _ (search rules)) p.put.ensures.1)
+    (c.put.ensures.0, wrote-piece (frag-piece _ (search rules)) c.put.ensures.1)

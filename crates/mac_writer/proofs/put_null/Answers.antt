@@ -5,5 +5,4 @@ use Rattle.mac_writer.proofs.put_null.Goals as goal
 
 pub returns : goal.returns
 returns c =
-    let p = c in
-    (p.put.ensures.0, wrote-piece null-piece p.put.ensures.1)
+    (c.put.ensures.0, wrote-piece null-piece c.put.ensures.1)
