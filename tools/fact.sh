@@ -28,7 +28,8 @@ awk '
     function shape_of(first) {
         if (first ~ /^note: [^ ]* it is not proved that /) return "obligation"
         if (first !~ /^[^ ]*:[0-9]+:[0-9]+: error: /) return ""
-        if (first ~ /no occurrence of |needs a function |is not in scope|has no field |has no `|no equation of the list|was not admitted|was rejected/) return ""
+        if (first ~ /no occurrence of |needs a function |is not in scope|has no field |has no `|no equation of the list/) return ""
+        if (first ~ /was not admitted|was rejected/) return ""
         if (first ~ /`omega`: the (part .* of the )?goal does not follow/) return "omega"
         if (first ~ /`(search|grind)`: no proof of /) return "search"
         if (first ~ /`cc`: the equations do not join|`cc` met a bound of its own before|list the missing equation with its arguments/) return "cc"
