@@ -36,6 +36,8 @@ awk '
         if (first ~ /give a proof of that as the last argument|what it leaves must be a path whose two ends are equal/) return "rewritten"
         if (first ~ /the two types (first )?differ|expected type `/) return "types"
         if (first ~ / ≟ .* does not hold \(this comparison/) return "compared"
+        # the first of its lines is the first value, and `rt ci` prints no other
+        if (first ~ /error: `[^`]*`: `borrow[.][^`]*`?$/) return "compared"
         return ""
     }
     function judge(name, first) {
