@@ -202,7 +202,11 @@ module _ (p : ℕ → Bool) (n : ℕ) where
 
   means-past : (c : ℕ) (cs : List ℕ) → runs p n (c ∷ cs) ≡ false → (o : Option ℕ) → Means p n cs o → Means p n (c ∷ cs) (one_past o)
   unfolding one_past
-  means-past c cs e none m = λ j. elim j [ zero ↦ e | suc k ↦ m k ]
+  means-past c cs e none m = each
+    where
+      each : (j : ℕ) → runs p n (drop j (c ∷ cs)) ≡ false
+      each zero = e
+      each (suc j) = m j
   means-past c cs e (some i) m = (m.0, before)
     where
       before : (j : ℕ) → j < suc i → runs p n (drop j (c ∷ cs)) ≡ false

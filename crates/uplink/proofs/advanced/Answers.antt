@@ -1,5 +1,4 @@
 -- The time steps, and one entry is emptied. Assumes nothing.
-use borrow.Author.Rules.{rules}
 use Rattle.uplink.proofs.advanced.Goals as goal
 
 pub returns : goal.returns

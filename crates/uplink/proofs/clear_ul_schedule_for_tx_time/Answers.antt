@@ -1,5 +1,4 @@
 -- One entry is written, in the column of the frame four slots earlier. Assumes nothing.
-use borrow.Author.Rules.{rules}
 use Rattle.uplink.proofs.TableLaws.{cleared_at}
 use Rattle.uplink.proofs.clear_ul_schedule_for_tx_time.Goals as goal
 

@@ -1,12 +1,7 @@
 -- Each turn tests one more; the rest is still to be tested. Assumes nothing.
-use mathlib.Core.Path.{◌≡◌, sym, ◌∙◌}
-use mathlib.Core.Bool.{◌&&◌}
-use Prim.Native.Nat.{◌≤◌, ◌-◌}
+use mathlib.Core.Path.{sym, ◌∙◌}
 use native.Mathlib.Omega.{arith}
-use borrow.Author.Rules.{rules}
-use lib.ListN.{length, drop}
-use Rattle.sizes.specs.Sizes.{timeslots}
-use Rattle.uplink.specs.UplinkEntry.{all, sound_counter}
+use Rattle.uplink.specs.UplinkEntry.{sound_counter}
 use Rattle.uplink.proofs.Everywhere.{all-turn, all_done}
 use Rattle.uplink.proofs.counters_are_sound.Goals as goal
 
@@ -16,8 +11,8 @@ loop-k-preserved c =
       omega arith,
       k.loop-k.invariant.1,
       rw c.counter_is_sound-in_range.ensures
-          (sym (all-turn sound_counter k.args.t1 k.loop-k.k _ k.loop-k.in-range (omega arith)) ∙ k.loop-k.invariant.2),
+          (sym (all-turn sound_counter k.args.next_usage_marker k.loop-k.k _ k.loop-k.in_range (omega arith)) ∙ k.loop-k.invariant.2),
     )
 
 pub returns : goal.returns
-returns c = sym (all_done sound_counter c.args.t1 c.loop-k.k c.loop-k.in-range (omega arith)) ∙ c.loop-k.invariant.2
+returns c = sym (all_done sound_counter c.args.next_usage_marker c.loop-k.k c.loop-k.in_range (omega arith)) ∙ c.loop-k.invariant.2

@@ -1,13 +1,10 @@
 -- Each turn tests one more; the rest is still to be tested. Assumes nothing.
-use mathlib.Core.Path.{◌≡◌, sym, ◌∙◌}
+use mathlib.Core.Path.{◌≡◌}
 use mathlib.Core.Bool.{◌&&◌}
 use Prim.Native.Nat.{◌≤◌, ◌-◌}
-use native.Mathlib.Omega.{arith}
-use borrow.Author.Rules.{rules}
 use lib.ListN.{length, drop}
 use Rattle.sizes.specs.Sizes.{timeslots}
 use Rattle.uplink.specs.UplinkEntry.{all, sound_counter}
-use Rattle.uplink.proofs.Everywhere.{all-turn, all_done}
 use Rattle.uplink.proofs.counters_are_sound.Given as goal
 
 abbrev pub invariant-loop-k : goal.invariant-loop-k

@@ -1,5 +1,4 @@
 -- An empty entry in the place of an empty one. Assumes nothing.
-use borrow.Author.Rules.{rules}
 use Rattle.uplink.specs.UplinkEntry.{empty_entry}
 use Rattle.uplink.proofs.TableLaws.{set-replicate}
 use Rattle.uplink.proofs.empty_table.Goals as goal

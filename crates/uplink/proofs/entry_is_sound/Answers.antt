@@ -1,6 +1,5 @@
 -- With no first half the second and the marker decide, else the ranges. Assumes nothing.
 use mathlib.Core.Path.{sym, ◌∙◌}
-use borrow.Author.Rules.{rules}
 use Rattle.uplink.proofs.SoundLaws.{sound-vacant, sound-taken}
 use Rattle.uplink.proofs.entry_is_sound.Goals as goal
 

@@ -1,5 +1,4 @@
 -- Two numbers are compared where both are there. Assumes nothing.
-use borrow.Author.Rules.{rules}
 use Rattle.uplink.proofs.is_same_owner.Goals as goal
 
 pub returns-in-Of-b-2 : goal.returns-in-Of-b-2

@@ -1,5 +1,4 @@
 -- A marker is compared where there is one. Assumes nothing.
-use borrow.Author.Rules.{rules}
 use Rattle.uplink.proofs.marker_is_sound.Goals as goal
 
 pub returns-in-Of : goal.returns-in-Of

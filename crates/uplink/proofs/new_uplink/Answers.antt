@@ -1,5 +1,4 @@
 -- An empty table, and markers at 4. Assumes nothing.
-use borrow.Author.Rules.{rules}
 use Rattle.uplink.proofs.new_uplink.Goals as goal
 
 pub returns : goal.returns

@@ -1,6 +1,5 @@
 -- One arm for each block. Assumes nothing.
 use mathlib.Core.Path.{sym, ◌∙◌}
-use borrow.Author.Rules.{rules}
 use Rattle.uplink.proofs.owner_of.Goals as goal
 
 pub returns-then-is_same_owner : goal.returns-then-is_same_owner

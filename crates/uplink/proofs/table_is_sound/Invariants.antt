@@ -1,15 +1,11 @@
 -- Row by row, and in a row entry by entry: each turn tests one more, and the rest is still to be tested. Assumes nothing.
-use mathlib.Core.Path.{◌≡◌, sym, ap, ◌∙◌}
-use mathlib.Core.Bool.{Bool, ◌&&◌}
+use mathlib.Core.Path.{◌≡◌}
+use mathlib.Core.Bool.{◌&&◌}
 use mathlib.Core.List.{[]}
 use Prim.Native.Nat.{◌+◌, ◌≤◌, ◌<◌, ◌-◌}
-use native.Mathlib.Omega.{arith}
-use borrow.Author.Rules.{rules}
 use lib.ListN.{length, get_or, drop}
 use Rattle.sizes.specs.Sizes.{timeslots}
 use Rattle.uplink.specs.UplinkEntry.{all, sound_entry, sound_row}
-use Rattle.uplink.proofs.Everywhere.{all-turn, all_done}
-use Rattle.uplink.proofs.RowsField.{row-long}
 use Rattle.uplink.proofs.table_is_sound.Given as goal
 
 abbrev pub invariant-loop-j : goal.invariant-loop-j

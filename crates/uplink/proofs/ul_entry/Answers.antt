@@ -1,5 +1,4 @@
 -- The entry stands in the row of the timeslot, in the column of the frame. Assumes nothing.
-use borrow.Author.Rules.{rules}
 use Rattle.uplink.proofs.TableLaws.{entry-of-time}
 use Rattle.uplink.proofs.ul_entry.Goals as goal
 

@@ -1,5 +1,4 @@
 -- What the entry of the time says. Assumes nothing.
-use borrow.Author.Rules.{rules}
 use mathlib.Core.Path.{◌∙◌, ap}
 use Rattle.uplink.specs.UplinkEntry.{usage_of}
 use Rattle.uplink.proofs.ul_get_usage.Goals as goal

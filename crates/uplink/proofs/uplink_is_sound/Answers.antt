@@ -1,5 +1,4 @@
 -- Time, table and counters, each judged by its function. Assumes nothing.
-use borrow.Author.Rules.{rules}
 use Rattle.uplink.specs.Uplink.{sound_uplink}
 use Rattle.uplink.proofs.uplink_is_sound.Goals as goal
 

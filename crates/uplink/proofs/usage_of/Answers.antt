@@ -1,5 +1,4 @@
 -- No half taken, a marker, or the second half free or not. Assumes nothing.
-use borrow.Author.Rules.{rules}
 use Rattle.uplink.proofs.usage_of.Goals as goal
 
 pub returns-then-free1-free2 : goal.returns-then-free1-free2
