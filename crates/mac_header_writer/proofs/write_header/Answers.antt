@@ -6,16 +6,16 @@ use Rattle.mac_pdus.proofs.LengthLaws.{header-size}
 use Rattle.mac_writer.proofs.WriterLaws.{room-true, refused-address, refused-header, refused-room, header-written, passed-within}
 use Rattle.mac_header_writer.proofs.write_header.Goals as goal
 
-pub returns-then-h-ge16777216 : goal.returns-then-h-ge16777216
-returns-then-h-ge16777216 c = refused-address _ _ _ c.if-h-ge16777216.true
+pub returns-then-too_large : goal.returns-then-too_large
+returns-then-too_large c = refused-address _ _ _ (omega arith)
 
 pub returns-then-not-legal_to_write : goal.returns-then-not-legal_to_write
 returns-then-not-legal_to_write c =
-    refused-header _ _ _ c.if-h-ge16777216.false (sym c.legal_to_write.ensures ∙ c.if-not-legal_to_write.true)
+    refused-header _ _ _ (omega arith) (sym c.legal_to_write.ensures ∙ c.if-not-legal_to_write.true)
 
 pub returns-then-not-room_for : goal.returns-then-not-room_for
 returns-then-not-room_for c =
-    refused-room _ _ _ _ _ c.if-h-ge16777216.false (sym c.legal_to_write.ensures ∙ c.if-not-legal_to_write.false)
+    refused-room _ _ _ _ _ (omega arith) (sym c.legal_to_write.ensures ∙ c.if-not-legal_to_write.false)
     c.on_air-r.ensures
     c.compute_header_len-n.ensures.0 (sym c.room_for.ensures ∙ c.if-not-room_for.true)
 
@@ -32,6 +32,6 @@ put_resource-next-requires c =
 
 pub returns : goal.returns
 returns c =
-    header-written _ _ _ _ _ _ _ c.if-h-ge16777216.false (sym c.legal_to_write.ensures ∙ c.if-not-legal_to_write.false)
+    header-written _ _ _ _ _ _ _ (omega arith) (sym c.legal_to_write.ensures ∙ c.if-not-legal_to_write.false)
     c.on_air-r.ensures
     c.compute_header_len-n.ensures.0 (sym c.room_for.ensures ∙ c.if-not-room_for.false) c.put_resource-next.ensures
