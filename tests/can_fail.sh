@@ -67,6 +67,13 @@ row 's | `slot_of` | `is_valid` | `valid-true` | `says_nine`'
 passes "a row with each thing in its column" tests/names.sh
 restore docs/ARCHITECTURE.md
 
+# Wrong programs whose text is not there, or is there twice.
+for text in 'no such text' '=>'; do
+    sed -i "s/^old: .*/old: $text/" crates/questions/must-fail/too_late_is_9.edit
+    refuses "a wrong program that replaces $text" 'too_late_is_9.edit: its text does not stand once' tests/wrong_apply.sh
+    restore crates/questions/must-fail/too_late_is_9.edit
+done
+
 # Axioms, on made-up words of `rt ci`: a part for each crate, that of slotrun, or of another, with other axioms.
 library_of() { printf '== %s\nlogic=proved functions=1 sum=0\nrt: %s proved\n' "$1" "$1"; }
 for crate in $(sed -nE 's/^([a-z0-9_]+)( staticlib)?:.*/\1/p' crates.txt); do
