@@ -78,6 +78,7 @@ fn legal_frame18(pattern: u8, f: OptU8) -> bool
     }
 }
 
+#[tactic(auto, unfolding(mac_pdus::specs::Legal::legal_chan_alloc))]
 fn legal_chan_alloc(c: ChanAllocElement) -> bool
     ensures { result ≡ legal_chan_alloc c }
 {
@@ -105,6 +106,7 @@ pub fn legal_opt_chan_alloc(o: OptChanAlloc) -> bool
 }
 
 // Whether every field but those of the channel allocation has its width.
+#[tactic(auto, unfolding(mac_pdus::specs::Legal::within_widths))]
 fn within_widths(h: MacResource) -> bool
     ensures { result ≡ within_widths h }
 {
@@ -125,6 +127,7 @@ fn within_widths(h: MacResource) -> bool
 }
 
 // Whether all but the address, the label, the marker and the length are 0 or absent.
+#[tactic(auto, unfolding(mac_pdus::specs::Legal::all_absent))]
 fn all_absent(h: MacResource) -> bool
     ensures { result ≡ all_absent h }
 {
@@ -141,6 +144,7 @@ fn all_absent(h: MacResource) -> bool
 }
 
 // Whether address, label, marker, encryption and elements go together.
+#[tactic(auto, unfolding(mac_pdus::specs::Legal::legal_parts))]
 fn legal_parts(h: MacResource) -> bool
     ensures { result ≡ legal_parts h }
 {
@@ -158,6 +162,7 @@ fn legal_parts(h: MacResource) -> bool
 }
 
 // Question 6, but for what differs between its callers.
+#[tactic(auto, unfolding(mac_pdus::specs::Legal::legal_fields))]
 fn legal_fields(h: MacResource) -> bool
     ensures { result ≡ legal_fields h }
 {
@@ -180,6 +185,7 @@ fn parts_to_write(kind: AddressKind, label: OptU16, marker: OptU8) -> bool
 }
 
 // Question 6 for the header writer.
+#[tactic(auto, unfolding(mac_pdus::specs::Legal::legal_to_write))]
 pub fn legal_to_write(h: MacResource) -> bool
     ensures { result ≡ legal_to_write h }
 {
@@ -204,6 +210,7 @@ fn queued_kind(k: AddressKind) -> bool
 }
 
 // Question 6 for a queued record.
+#[tactic(auto, unfolding(mac_pdus::specs::Legal::legal_queued))]
 fn legal_queued(h: MacResource) -> bool
     ensures { result ≡ legal_queued h }
 {
@@ -213,6 +220,7 @@ fn legal_queued(h: MacResource) -> bool
 }
 
 // Question 6 for a record offered to the queue.
+#[tactic(auto, unfolding(mac_pdus::specs::Legal::legal_offered))]
 pub fn legal_offered(h: MacResource) -> bool
     ensures { result ≡ legal_offered h }
 {

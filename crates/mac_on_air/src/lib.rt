@@ -38,6 +38,7 @@ fn label_on_air(label: OptU16) -> Address
 }
 
 // The address that kind, number, label and marker are written as.
+#[tactic(auto, unfolding(mac_pdus::specs::Legal::address_on_air))]
 fn address_on_air(kind: AddressKind, n: u32, label: OptU16, marker: OptU8) -> Address
     ensures { result ≡ address_on_air kind n label marker }
 {
@@ -52,6 +53,7 @@ fn address_on_air(kind: AddressKind, n: u32, label: OptU16, marker: OptU8) -> Ad
 }
 
 // The header that an offered one is written as.
+#[tactic(auto, unfolding(mac_pdus::specs::Legal::on_air))]
 pub fn on_air(h: MacResource) -> ResourceHeader
     ensures { result ≡ on_air h }
 {
@@ -136,6 +138,7 @@ fn marker_of(a: Address) -> OptU8
 }
 
 // A header of the air as a caller offers it.
+#[tactic(auto, unfolding(mac_pdus::specs::Legal::offered))]
 pub fn offered(r: ResourceHeader) -> MacResource
     ensures { result ≡ offered r }
 {
@@ -164,6 +167,7 @@ pub fn offered(r: ResourceHeader) -> MacResource
 }
 
 // Whether the header writer would take the header.
+#[tactic(auto, unfolding(mac_pdus::specs::Legal::writer_takes))]
 pub fn writer_takes(r: ResourceHeader) -> bool
     ensures { result ≡ writer_takes r }
 {

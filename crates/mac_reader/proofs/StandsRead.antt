@@ -1,7 +1,7 @@
 -- The headers that stand in the bits of a block (`Stands`) are those that the reader lists. Assumes nothing.
-use mathlib.Core.Path.{◌≡◌, refl, sym, ap, ◌∙◌, subst}
+use mathlib.Core.Path.{◌≡◌, refl, sym, ap, ◌∙◌}
 use mathlib.Core.Bool.{true, or-true}
-use mathlib.Core.Logic.{◌⊎◌, inl, inr, ⊎_elim}
+use mathlib.Core.Logic.{inl, inr}
 use mathlib.Core.List.{List, [], ◌∷◌, ◌++◌}
 use Prim.Native.Nat.{ℕ, zero, suc, ◌+◌, ◌*◌, ◌≤◌, ◌<◌}
 use native.Mathlib.Omega.{arith}
@@ -12,7 +12,7 @@ use Rattle.mac_pdus.specs.declared.Address.TheVariants.{Null, Ssi, EventLabel, U
 use Rattle.mac_pdus.specs.declared.ResourceHeader.{ResourceHeader}
 use Rattle.mac_pdus.specs.declared.MacEndDl.{MacEndDl}
 use Rattle.mac_pdus.specs.declared.PduHeader.{PduHeader}
-use Rattle.mac_pdus.specs.Headers.{address_type, address_length, header_length, resource_bits, header_bits}
+use Rattle.mac_pdus.specs.Headers.{address_type, address_length, resource_bits, header_bits}
 use Rattle.mac_pdus.specs.Within.{EndWithin}
 use Rattle.mac_pdus.specs.Legal.{writer_takes}
 use Rattle.mac_pdus.proofs.LengthLaws.{header-size, header-none}

@@ -6,7 +6,7 @@ use mathlib.Core.List.{List, [], ◌∷◌}
 use Prim.Native.Nat.{ℕ, zero, suc, ◌+◌, ◌*◌, ◌≤◌, ◌<◌}
 use native.Mathlib.Omega.{arith}
 use lib.Dec.{ltb, leb, eqb}
-use borrow.Author.Tests.{ltb-true, lt-ltb, le-ltb, leb-true, not-true, not-false}
+use borrow.Author.Tests.{ltb-true, lt-ltb, le-ltb, leb-true}
 use Rattle.mac_pdus.specs.declared.MacEndDl.{MacEndDl}
 use Rattle.mac_pdus.proofs.Conjunctions.{false-not-true, and3}
 use Rattle.mac_pdus.specs.declared.PduHeader.{PduHeader}
@@ -91,15 +91,15 @@ neither true b h = refl
 neither false b h = h
 
 -- a MAC-END that is refused, and one that is taken
-pub end_refused : (w at : ℕ) (m : MacEndDl) (x y : ℕ) (b : Bool) → b ≡ octets_inside w at m.length_ind → not (eqb x 0 && eqb y 0 && b) ≡ true
+pub end_refused : (w at : ℕ) (m : MacEndDl) (x y : ℕ) (b : Bool) → b ≡ octets_inside w at m.length_ind → (eqb x 0 && eqb y 0 && b) ≡ false
     → Malformed ≡ end_step w at m x y
 unfolding end_step
-end_refused w at m x y b e h = rw (← e, not-true (eqb x 0 && eqb y 0 && b) h)
+end_refused w at m x y b e h = rw (← e, h)
 
-pub end-taken : (w at : ℕ) (m : MacEndDl) (x y : ℕ) (b : Bool) → b ≡ octets_inside w at m.length_ind → not (eqb x 0 && eqb y 0 && b) ≡ false
+pub end-taken : (w at : ℕ) (m : MacEndDl) (x y : ℕ) (b : Bool) → b ≡ octets_inside w at m.length_ind → (eqb x 0 && eqb y 0 && b) ≡ true
     → More (PduHeader.End m) (at + 8 * m.length_ind) ≡ end_step w at m x y
 unfolding end_step
-end-taken w at m x y b e h = rw (← e, not-false (eqb x 0 && eqb y 0 && b) h)
+end-taken w at m x y b e h = rw (← e, h)
 
 -- listings that are the same, and those that are not
 pub same-list : {ps hs : List PlacedHeader} → headers ps ≡ headers hs → ps ≡ hs

@@ -56,6 +56,7 @@ pub fn outcome_number(x: ReadOutcome) -> u8
 }
 
 // Whether a PDU of that many octets, 2 to 34, stands inside a block of `w` bits.
+#[tactic(auto, unfolding(crate::specs::Reader::octets_inside))]
 fn octets_inside(w: usize, at: usize, code: u8) -> bool
     requires { at + 4096 < 2 ^ 64 }
     ensures { result ≡ octets_inside w at code }
@@ -91,6 +92,7 @@ fn stops_after(r: ResourceHeader) -> bool
 }
 
 // Whether a MAC-RESOURCE may stand at `at` with a header that ends at `after`.
+#[tactic(auto, unfolding(crate::specs::Reader::well_placed))]
 fn well_placed(w: usize, at: usize, r: ResourceHeader, after: usize) -> bool
     requires { at + 4096 < 2 ^ 64 }
     ensures { result ≡ well_placed w at r after }

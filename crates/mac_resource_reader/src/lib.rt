@@ -198,7 +198,7 @@ fn read_elements(s: &[u8], at: usize, code: u8) -> ElementsRead
 // Reads the MAC-RESOURCE header at `at`, behind which there is room for the longest, 92 bits.
 pub fn read_resource(s: &[u8], at: usize) -> ResourceRead
     requires { (at + 92 ≤ 8 * length s.now) × (8 * length s.now < 2 ^ 64) }
-    ensures* { λ r. ⌜ r ≡ resource_at (bits_of s.now) at (λ r next. record { r = r; next = next }) ⌝ }
+    ensures { result ≡ resource_at (bits_of s.now) at (λ r next. record { r = r; next = next }) }
 {
     let a = at + 2;
     let b = a + 1;

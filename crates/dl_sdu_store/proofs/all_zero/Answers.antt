@@ -1,0 +1,15 @@
+-- What is or-ed so far is 0, and the rest is zero, exactly if all is zero.
+use mathlib.Core.Path.{refl, ◌∙◌}
+use native.Mathlib.Omega.{arith}
+use Rattle.dl_sdu_store.proofs.ZeroLaws.{or_turn, none_left}
+use Rattle.dl_sdu_store.proofs.all_zero.Goals as goal
+
+pub loop-i-init : goal.loop-i-init
+loop-i-init c = (omega arith, refl, refl)
+
+pub loop-i-preserved : goal.loop-i-preserved
+loop-i-preserved c =
+    (omega arith, c.loop-i.invariant.1, or_turn c.args.s.now c.loop-i.i c.loop-i.acc (omega arith) ∙ c.loop-i.invariant.2)
+
+pub returns : goal.returns
+returns c = none_left c.args.s.now c.loop-i.i c.loop-i.acc (omega arith) ∙ c.loop-i.invariant.2
