@@ -38,7 +38,7 @@ restore crates/bs_sched/src/lib.rt
 printf '\npub fn more() -> u8\n    ensures { λ r. ⌜ r ≡ 1 ⌝ }\n{\n    1\n}\n' >> crates/bs_sched/src/lib.rt
 refuses "a pub function of bs_sched without a row" 'bs_sched::more is an entry and has no row' tests/entries.sh
 restore crates/bs_sched/src/lib.rt
-printf '\n#[no_mangle]\npub extern "C" fn more() -> u8\n    ensures { λ r. ⌜ r ≡ 1 ⌝ }\n{\n    1\n}\n' >> crates/slotrun_c/src/lib.rt
+printf '\n#[unsafe(no_mangle)]\npub extern "C" fn more() -> u8\n    ensures { λ r. ⌜ r ≡ 1 ⌝ }\n{\n    1\n}\n' >> crates/slotrun_c/src/lib.rt
 refuses "an export without a row" 'slotrun_c::more is an entry and has no row' tests/entries.sh
 restore crates/slotrun_c/src/lib.rt
 sed -i 's/^| `ul_get_usage` | `bs_sched`.*/&\n| `empty_record` | `bs_sched` | none |/' docs/ARCHITECTURE.md
@@ -69,7 +69,7 @@ restore docs/ARCHITECTURE.md
 
 # Axioms, on made-up reports.
 mkdir logs
-for crate in $(sed -nE 's/^([a-z0-9_]+):.*/\1/p' crates.txt); do
+for crate in $(sed -nE 's/^([a-z0-9_]+)( staticlib)?:.*/\1/p' crates.txt); do
     echo 'logic=proved functions=1 sum=0' > "logs/$crate.say"
 done
 # report CRATE AXIOMS COUNT

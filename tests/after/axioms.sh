@@ -12,7 +12,7 @@ say() {
     bad=1
 }
 
-crates=$(sed -nE 's/^([a-z0-9_]+):.*/\1/p' crates.txt)
+crates=$(sed -nE 's/^([a-z0-9_]+)( staticlib)?:.*/\1/p' crates.txt)
 [ -n "$crates" ] || say "crates.txt has no crate"
 for crate in $crates; do
     report=$logs/$crate.say
