@@ -1,19 +1,18 @@
 -- Questions asked one after the other: laws of any list of them. Assumes nothing.
 use mathlib.Core.Path.{◌≡◌, refl, sym, ◌∙◌}
-use mathlib.Core.Bool.{Bool, true, false, true≢false, not, cond}
+use mathlib.Core.Bool.{Bool, true, false, true≢false, cond}
 use mathlib.Core.List.{List, [], ◌∷◌, ◌++◌}
 use Prim.Native.Nat.{ℕ, zero, suc, ◌≤◌}
 use native.Mathlib.Omega.{arith}
 use lib.ListN.{length, get_or}
-use borrow.Author.Tests.{not-true, not-false}
 use Rattle.questions.specs.Questions.{Question, question, ask, asked_number}
 
 -- what a test that the code negates has told
-pub said-no : {b : Bool} {x : Bool} → b ≡ x → not b ≡ true → x ≡ false
-said-no {b} e h = sym e ∙ not-true b h
+pub said-no : {b : Bool} {x : Bool} → b ≡ x → b ≡ false → x ≡ false
+said-no e h = sym e ∙ h
 
-pub said-yes : {b : Bool} {x : Bool} → b ≡ x → not b ≡ false → x ≡ true
-said-yes {b} e h = sym e ∙ not-false b h
+pub said-yes : {b : Bool} {x : Bool} → b ≡ x → b ≡ true → x ≡ true
+said-yes e h = sym e ∙ h
 
 -- question k of a list, counted from 0
 abbrev pub nth : ℕ → List Question → Question
