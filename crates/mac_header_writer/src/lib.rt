@@ -23,7 +23,8 @@ fn room_for(octets: usize, at: usize, n: usize) -> bool
 pub fn write_header(buf: &mut [u8], at: usize, h: MacResource) -> WriteReply
     ensures { WrittenAs buf.old at h result buf.new }
 {
-    if h.number >= 16777216 {
+    let too_large = h.number >= 16777216;
+    if too_large {
         return WriteReply::Refused(Refusal::Address);
     }
     if !mac_legal::legal_to_write(h) {

@@ -91,6 +91,7 @@ fn read_address(s: &[u8], at: usize) -> AddressRead
 }
 
 // Reads a channel allocation element, with the frame-18 pattern if the pattern is 0.
+#[tactic(auto, unfolding(mac_pdus::specs::Headers::chan_alloc_at, bitbuffer::specs::Bits::field))]
 fn read_chan_alloc(s: &[u8], at: usize) -> ChanAllocRead
     requires { (at + 27 ≤ 8 * length s.now) × (8 * length s.now < 2 ^ 64) }
     ensures { (result ≡ chan_alloc_at (bits_of s.now) at (λ c next. record { c = c; next = next })) × (result.next ≤ at + 27) }

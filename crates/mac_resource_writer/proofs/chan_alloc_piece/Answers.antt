@@ -8,9 +8,8 @@ use Rattle.mac_resource_writer.proofs.chan_alloc_piece.Goals as goal
 pub returns-in-Absent : goal.returns-in-Absent
 unfolding chan_alloc_bits
 returns-in-Absent c =
-    let s = c in
-    let a = s.args.c in
-    let h = s.requires in
+    let a = c.args.c in
+    let h = c.requires in
     let e = c.in-Absent.is in (
       omega arith,
       rw (e, append-nil) (cons 2 a.alloc_type h.alloc_type
@@ -24,9 +23,8 @@ returns-in-Absent c =
 pub returns-in-Of : goal.returns-in-Of
 unfolding chan_alloc_bits
 returns-in-Of c =
-    let s = c in
-    let a = s.args.c in
-    let h = s.requires in
+    let a = c.args.c in
+    let h = c.requires in
     let e = c.in-Of.is in (
       omega arith,
       rw e (cons 2 a.alloc_type h.alloc_type (cons 4 a.ts_assigned h.ts_assigned

@@ -16,6 +16,4 @@ put_opt_u8-b-requires c =
 
 pub returns : goal.returns
 returns c =
-    let q = c in
-    let p = q in
-    then p.put_opt_u8-a.ensures (then p.put_opt_u8-b.ensures q.put_opt_chan_alloc.ensures)
+    then c.put_opt_u8-a.ensures (then c.put_opt_u8-b.ensures c.put_opt_chan_alloc.ensures)

@@ -25,7 +25,4 @@ returns-in-Absent c = rw c.in-Absent.is c.put.ensures.1
 pub returns-in-Of : goal.returns-in-Of
 unfolding opt_chan_alloc_bits
 returns-in-Of c =
-    let q = c in
-    let p = q in
-    let k = p in
-    rw k.in-Of.is (then p.put-next.ensures.1 (wrote-piece k.chan_alloc_piece-p.ensures.1 q.put_piece.ensures.1))
+    rw c.in-Of.is (then c.put-next.ensures.1 (wrote-piece c.chan_alloc_piece-p.ensures.1 c.put_piece.ensures.1))

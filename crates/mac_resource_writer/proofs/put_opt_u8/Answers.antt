@@ -13,8 +13,7 @@ put-a-requires c = omega (arith, of_length c.args.width c.in-Of.is)
 
 pub put-requires-in-Of : goal.put-requires-in-Of
 put-requires-in-Of c =
-    let p = c in
-    omega (arith, of_length c.args.width p.in-Of.is)
+    omega (arith, of_length c.args.width c.in-Of.is)
 
 pub returns-in-Absent : goal.returns-in-Absent
 unfolding opt_bits
@@ -23,6 +22,4 @@ returns-in-Absent c = rw c.in-Absent.is c.put.ensures.1
 pub returns-in-Of : goal.returns-in-Of
 unfolding opt_bits
 returns-in-Of c =
-    let q = c in
-    let p = q in
-    rw p.in-Of.is (then p.put-a.ensures.1 q.put-in-Of.ensures.1)
+    rw c.in-Of.is (then c.put-a.ensures.1 c.put-in-Of.ensures.1)

@@ -18,13 +18,12 @@ put_piece-b-requires c = omega (arith, resource-length c.args.r)
 pub returns-then-code-eq0 : goal.returns-then-code-eq0
 unfolding resource_bits
 returns-then-code-eq0 c =
-    let p = c in
-    let r = p.args.r in
+    let r = c.args.r in
     let none = elements-none _ r.power_control_element r.slot_granting_element r.chan_alloc_element
-    (sym p.addr_type-code.ensures ∙ c.if-code-eq0.true) in
-    rw (none, append-nil) (then (wrote-piece p.fixed_piece-fixed.ensures.1
-    p.put_piece-a.ensures.1)
-    (wrote-piece p.address_piece-second.ensures.1 p.put_piece-b.ensures.1))
+    (sym c.addr_type-code.ensures ∙ c.if-code-eq0.true) in
+    rw (none, append-nil) (then (wrote-piece c.fixed_piece-fixed.ensures.1
+    c.put_piece-a.ensures.1)
+    (wrote-piece c.address_piece-second.ensures.1 c.put_piece-b.ensures.1))
 
 pub put_elements-requires : goal.put_elements-requires
 put_elements-requires c =
@@ -40,12 +39,10 @@ put_elements-requires c =
 pub returns : goal.returns
 unfolding resource_bits
 returns c =
-    let q = c in
-    let p = q in
-    let r = p.args.r in
+    let r = c.args.r in
     let tail = elements-other _ r.power_control_element r.slot_granting_element r.chan_alloc_element
-    (λ z. q.if-code-eq0.false (p.addr_type-code.ensures ∙ z)) in
-    rw tail (then (wrote-piece p.fixed_piece-fixed.ensures.1
-    p.put_piece-a.ensures.1)
-    (then (wrote-piece p.address_piece-second.ensures.1 p.put_piece-b.ensures.1)
-    q.put_elements.ensures))
+    (λ z. c.if-code-eq0.false (c.addr_type-code.ensures ∙ z)) in
+    rw tail (then (wrote-piece c.fixed_piece-fixed.ensures.1
+    c.put_piece-a.ensures.1)
+    (then (wrote-piece c.address_piece-second.ensures.1 c.put_piece-b.ensures.1)
+    c.put_elements.ensures))

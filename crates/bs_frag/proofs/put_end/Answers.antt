@@ -1,0 +1,8 @@
+-- The header with the fill bit of its fill, and what stands behind it.
+use Rattle.bitbuffer.proofs.Laws.{then}
+use native.Mathlib.Omega.{arith}
+use Rattle.bs_frag.proofs.put_end.Goals as goal
+
+pub returns : goal.returns
+returns c =
+    (omega arith, rw (← c.fill_flag.ensures.0) (then c.put_end-a.ensures.1 c.put_body.ensures.1))
