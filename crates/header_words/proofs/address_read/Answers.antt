@@ -1,6 +1,5 @@
 -- Type by type. Assumes nothing.
 use Rattle.header_words.proofs.HeaderLaws.{ssi-read, label-read, ussi-read, smi-read, ssi-label-read, ssi-marker-read, smi-label-read, other-type}
-use borrow.Author.Rules.{rules}
 use Rattle.header_words.proofs.address_read.Goals as goal
 
 pub returns-then-t-eq1 : goal.returns-then-t-eq1

@@ -1,5 +1,4 @@
 -- Field by field. Assumes nothing.
-use borrow.Author.Rules.{rules}
 use mathlib.Core.Path.{◌∙◌, ap}
 use Rattle.mac_pdus.specs.declared.OptChanAlloc.{OptChanAlloc}
 use Rattle.sched_words.proofs.WordLaws.{no-alloc}

@@ -1,11 +1,8 @@
 -- The words before i are zero. Assumes nothing.
-use mathlib.Core.Path.{◌≡◌, refl}
+use mathlib.Core.Path.{◌≡◌}
 use mathlib.Core.List.{◌++◌}
-use Prim.Native.Nat.{◌+◌, ◌≤◌, ◌-◌}
-use native.Mathlib.Omega.{arith}
+use Prim.Native.Nat.{◌≤◌, ◌-◌}
 use lib.ListN.{length, take, drop, replicate}
-use Rattle.header_words.proofs.HeaderLaws.{clear_next, clear-done}
-use borrow.Author.Rules.{rules}
 use Rattle.header_words.proofs.clear.Given as goal
 
 abbrev pub invariant-loop-i : goal.invariant-loop-i

@@ -1,7 +1,6 @@
 -- Word by word. Assumes nothing.
 use mathlib.Core.Path.{refl}
 use Rattle.header_words.specs.HeaderWords.{header_words}
-use borrow.Author.Rules.{rules}
 use Rattle.header_words.proofs.end_words.Goals as goal
 
 pub returns : goal.returns

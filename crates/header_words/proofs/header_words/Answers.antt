@@ -1,5 +1,4 @@
 -- Arm by arm. Assumes nothing.
-use borrow.Author.Rules.{rules}
 use Rattle.header_words.proofs.header_words.Goals as goal
 
 pub returns-in-Resource : goal.returns-in-Resource

@@ -6,7 +6,6 @@ use Rattle.mac_pdus.specs.declared.ResourceHeader.{ResourceHeader}
 use Rattle.mac_pdus.specs.declared.PduHeader.{PduHeader}
 use Rattle.sched_words.specs.Words.{word_at, same_words}
 use Rattle.header_words.specs.HeaderWords.{header_words, resource_words}
-use borrow.Author.Rules.{rules}
 use Rattle.header_words.proofs.is_resource.Goals as goal
 
 pub returns : goal.returns

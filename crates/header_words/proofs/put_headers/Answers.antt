@@ -1,13 +1,13 @@
 -- What is left to store still gives the words that all n give. Assumes nothing.
 use mathlib.Core.Path.{◌≡◌, sym, ap, ◌∙◌}
 use mathlib.Core.List.{List}
-use Prim.Native.Nat.{ℕ, ◌*◌, ◌≤◌, ◌-◌}
+use Prim.Native.Nat.{ℕ}
 use native.Mathlib.Omega.{arith}
-use lib.ListN.{length, drop, take, replicate}
+use lib.ListN.{length, take, replicate}
 use lib.Seq.{sets, length-take-le, get_or-take}
 use Rattle.mac_reader.specs.Reader.{most_pdus}
 use Rattle.sched_words.specs.Words.{words_of_all}
-use Rattle.header_words.specs.HeaderWords.{header_word_count, list_word_count, placed_words}
+use Rattle.header_words.specs.HeaderWords.{placed_words}
 use Rattle.header_words.proofs.HeaderLaws.{headers-next, headers-done, listed-words}
 use borrow.Author.Rules.{rules}
 use Rattle.header_words.proofs.put_headers.Goals as goal
@@ -48,6 +48,3 @@ returns c =
     let m : length (take a.n a.headers) ≡ a.n = length-take-le a.n a.headers (omega (arith, c.loop-k.invariant.1, c.loop-k.invariant.2)) in
     sym (headers-done (take a.n a.headers) c.loop-k.words _ c.loop-k.k (omega (arith, m))) ∙ c.loop-k.invariant.4
     ∙ listed-words a.n a.headers c.loop-k.invariant.1 c.loop-k.invariant.2
-
-pub loop-k-smaller : goal.loop-k-smaller
-loop-k-smaller c = omega arith

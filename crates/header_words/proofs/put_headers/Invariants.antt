@@ -1,15 +1,11 @@
 -- What is left to store still gives the words that all n give. Assumes nothing.
-use mathlib.Core.Path.{◌≡◌, sym, ap, ◌∙◌}
-use mathlib.Core.List.{List}
-use Prim.Native.Nat.{ℕ, ◌*◌, ◌≤◌, ◌-◌}
-use native.Mathlib.Omega.{arith}
+use mathlib.Core.Path.{◌≡◌}
+use Prim.Native.Nat.{◌*◌, ◌≤◌, ◌-◌}
 use lib.ListN.{length, drop, take, replicate}
-use lib.Seq.{sets, length-take-le, get_or-take}
+use lib.Seq.{sets}
 use Rattle.mac_reader.specs.Reader.{most_pdus}
 use Rattle.sched_words.specs.Words.{words_of_all}
 use Rattle.header_words.specs.HeaderWords.{header_word_count, list_word_count, placed_words}
-use Rattle.header_words.proofs.HeaderLaws.{headers-next, headers-done, listed-words}
-use borrow.Author.Rules.{rules}
 use Rattle.header_words.proofs.put_headers.Given as goal
 
 abbrev pub invariant-loop-k : goal.invariant-loop-k

@@ -1,6 +1,5 @@
 -- Field by field. Assumes nothing.
 use Rattle.header_words.specs.HeaderWords.{resource_read}
-use borrow.Author.Rules.{rules}
 use Rattle.header_words.proofs.resource_read.Goals as goal
 
 pub returns : goal.returns

@@ -5,7 +5,6 @@ use Rattle.mac_pdus.specs.declared.MacResource.{MacResource}
 use Rattle.mac_pdus.specs.Legal.{offered}
 use Rattle.header_words.specs.HeaderWords.{or_zero8, or_zero16, header_words}
 use Rattle.header_words.proofs.HeaderLaws.{ten-then}
-use borrow.Author.Rules.{rules}
 use Rattle.header_words.proofs.resource_words.Goals as goal
 
 pub returns : goal.returns

@@ -1,9 +1,6 @@
 -- The words from i on are the same exactly if all are. Assumes nothing.
-use mathlib.Core.Path.{◌≡◌, refl, ◌∙◌}
-use Prim.Native.Nat.{◌≤◌, ◌-◌}
+use mathlib.Core.Path.{refl, ◌∙◌}
 use native.Mathlib.Omega.{arith}
-use lib.ListN.{length, drop}
-use Rattle.sched_words.specs.Words.{same_words}
 use Rattle.header_words.proofs.HeaderLaws.{same_next, same-other, same-done}
 use borrow.Author.Rules.{rules}
 use Rattle.header_words.proofs.same_words.Goals as goal
@@ -15,9 +12,6 @@ pub returns-then-a-i : goal.returns-then-a-i
 returns-then-a-i c =
     let a = c.args in
     same-other a.a.now a.b.now c.loop-i.invariant.1 c.loop-i.i (omega arith) c.if-a-i.true ∙ c.loop-i.invariant.2
-
-pub loop-i-smaller : goal.loop-i-smaller
-loop-i-smaller c = omega arith
 
 pub loop-i-preserved : goal.loop-i-preserved
 loop-i-preserved c =

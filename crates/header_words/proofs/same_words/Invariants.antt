@@ -1,11 +1,8 @@
 -- The words from i on are the same exactly if all are. Assumes nothing.
-use mathlib.Core.Path.{◌≡◌, refl, ◌∙◌}
+use mathlib.Core.Path.{◌≡◌}
 use Prim.Native.Nat.{◌≤◌, ◌-◌}
-use native.Mathlib.Omega.{arith}
 use lib.ListN.{length, drop}
 use Rattle.sched_words.specs.Words.{same_words}
-use Rattle.header_words.proofs.HeaderLaws.{same_next, same-other, same-done}
-use borrow.Author.Rules.{rules}
 use Rattle.header_words.proofs.same_words.Given as goal
 
 abbrev pub invariant-loop-i : goal.invariant-loop-i

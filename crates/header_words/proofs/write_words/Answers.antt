@@ -3,7 +3,6 @@ use mathlib.Core.Path.{◌∙◌, ap}
 use Rattle.questions.proofs.AskLaws.{said-no, said-yes}
 use Rattle.mac_pdus.specs.Legal.{offered}
 use Rattle.header_words.proofs.WriteLaws.{other_length, no-resource, resource-written}
-use borrow.Author.Rules.{rules}
 use Rattle.header_words.proofs.write_words.Goals as goal
 
 pub returns-then-words-ne-HEADER_WORDS : goal.returns-then-words-ne-HEADER_WORDS
