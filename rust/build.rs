@@ -1,4 +1,4 @@
-// Links libbs_sched_c.a, which `rt staticlib bs_sched_c` writes. BS_SCHED_LIB names another folder that holds it.
+// Links libbs_sched_c.a, which `sh tools/static_library.sh bs_sched_c` writes. BS_SCHED_LIB names another folder that holds it.
 use std::env;
 use std::path::PathBuf;
 
@@ -10,7 +10,7 @@ fn main() {
     println!("cargo:rerun-if-changed={}", library.display());
     if !library.is_file() {
         eprintln!("{} is not there.", library.display());
-        eprintln!("Run `rt staticlib bs_sched_c` at the root of the repository, which writes target/staticlib/libbs_sched_c.a,");
+        eprintln!("Run `sh tools/static_library.sh bs_sched_c` at the root of the repository, which writes target/staticlib/libbs_sched_c.a,");
         eprintln!("or set BS_SCHED_LIB to the folder that holds libbs_sched_c.a.");
         std::process::exit(1);
     }

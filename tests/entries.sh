@@ -1,5 +1,5 @@
 #!/bin/sh
-# No entry relies on its caller. The entries are found in the code: every function marked #[no_mangle], every `pub` function of
+# No entry relies on its caller. The entries are found in the code: every function marked #[unsafe(no_mangle)], every `pub` function of
 # bs_sched, and the three on buffers of their own. None has a `requires`; each has its row in the table "Entries" of
 # docs/ARCHITECTURE.md, | `function` | `crate` | .., and the table has no other.
 # And every `pub` function has a promise (`ensures`), but for the five of `show`.
@@ -39,7 +39,7 @@ awk '
         mangled = "-"
     }
     /^ *\/\// { next }
-    /^ *#\[no_mangle\]/ { mangled = "no_mangle" }
+    /^ *#\[unsafe\(no_mangle\)\]/ { mangled = "no_mangle" }
     /^ *(pub )?(extern "C" )?fn / {
         if (in_head) print_head()
         in_head = 1

@@ -7,11 +7,11 @@ set -eu
 cd "$(dirname "$0")/../.."
 work=$(mktemp -d)
 trap 'rm -rf "$work"' EXIT
-rt staticlib bs_sched_c > /dev/null 2>&1
+sh tools/static_library.sh bs_sched_c > /dev/null 2>&1
 cc -std=c11 -O2 -Iinclude tests/beside/times.c target/staticlib/libbs_sched_c.a -o "$work/times"
 "$work/times"
 . tests/beside/published.sh
-rt staticlib slotrun_c > /dev/null 2>&1
+sh tools/static_library.sh slotrun_c > /dev/null 2>&1
 build --profile fast -p bench
 build --release -p original
 tests/rust/target/release/gen 1 --count "${1:-8}" --commands 300 --dir "$work/streams"

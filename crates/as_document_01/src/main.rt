@@ -12,9 +12,9 @@ ghost use Rattle.as_document_01.specs.Lines.{arises_now, arises_at, lines_as_doc
 
 use dl_record::Record;
 use interpreter::Command;
-use libc::{STDIN_FILENO, STDOUT_FILENO};
 use sched_core::Station;
 use sizes::{BLOCK_WIDTH, PER_TIMESLOT, QUEUE_PLACES};
+use std::io;
 
 // The lines that are as document 01 has them: all, or those of the commands before the first build in which the rule arises.
 #[derive(Clone, Copy)]
@@ -115,17 +115,13 @@ fn lines_as_document_01(input: &[u8]) -> Lines
     Lines::All
 }
 
-fn main() {
-    let mut input = io::large_buffer();
-    let got = io::read_full(STDIN_FILENO, &mut input);
+fn main(rt: HostRuntime) -> io::Result<()> {
+    let mut reader = rt.stdin();
+    let mut input = [0u8; 65536];
+    let got = reading::read_full(&mut reader, &mut input)?;
     let lines = lines_as_document_01(&input[..got]);
     match lines {
-        Lines::All => {
-            io::write_all(STDOUT_FILENO, b"all\n");
-        }
-        Lines::Before(n) => {
-            io::print_decimal(STDOUT_FILENO, n as u64);
-            io::write_all(STDOUT_FILENO, b"\n");
-        }
+        Lines::All => println!(rt; "all"),
+        Lines::Before(n) => println!(rt; "{n}"),
     }
 }

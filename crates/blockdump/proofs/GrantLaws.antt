@@ -8,7 +8,7 @@ use native.Mathlib.Omega.{arith}
 use lib.Dec.{eqb}
 use lib.ListN.{length, length-append, take, drop, get_or}
 use Rattle.lists.proofs.Every.{All}
-use Rattle.tdma_time.specs.Time.{usables}
+use Rattle.tdma_time.specs.Time.{first_usable, usables}
 use Rattle.slot_codes.specs.Codes.{slot_counts, slots_granted}
 use Rattle.uplink.specs.HalfSlot.{Half, first_half, second_half, halves_at, halves_of_slots}
 use Rattle.uplink.specs.Request.{halves_of, ms_half_slots}
@@ -56,7 +56,7 @@ module _ (t cap delay block : ℕ) where
 length-usables : (t n k : ℕ) → length (usables t n k) ≡ k
 unfolding usables
 length-usables t n zero = refl
-length-usables t n (suc k) = ap suc (length-usables t _ k)
+length-usables t n (suc k) = ap suc (length-usables t (first_usable t n + 1) k)
 
 length_at : (hs : List Half) (c : ℕ) → length (halves_at hs c) ≡ length hs
 unfolding halves_at

@@ -43,8 +43,7 @@ fn read_answer(n: u8, count: u8) -> BsSchedRead
 }
 
 // The headers of a block, each with its bit position.
-#[unsafe(no_mangle)]
-pub extern "C" fn bs_sched_read_block(block: &[u8], headers: &mut [u32]) -> BsSchedRead
+pub fn bs_sched_read_block(block: &[u8], headers: &mut [u32]) -> BsSchedRead
     ensures { read_left result headers.new ≡ read_block_left block.now headers.old }
 {
     if headers.len() != LIST_WORDS {
@@ -78,8 +77,7 @@ fn written_of(r: WriteReply) -> BsSchedWritten
 }
 
 // One MAC-RESOURCE header, from bit `at` on.
-#[unsafe(no_mangle)]
-pub extern "C" fn bs_sched_write_header(buf: &mut [u8], at: u64, header: &[u32]) -> BsSchedWritten
+pub fn bs_sched_write_header(buf: &mut [u8], at: u64, header: &[u32]) -> BsSchedWritten
     ensures { HeaderWritten buf.old at header.now result buf.new }
 {
     let reply = header_words::write_words(buf, at as usize, header);
@@ -102,8 +100,7 @@ fn fill_of(r: FillRemoval) -> BsSchedFill
 }
 
 // The fill bits at the end of the bits from `start` up to `end`.
-#[unsafe(no_mangle)]
-pub extern "C" fn bs_sched_fill_bits(buf: &[u8], start: u64, end: u64) -> BsSchedFill
+pub fn bs_sched_fill_bits(buf: &[u8], start: u64, end: u64) -> BsSchedFill
     ensures { result ≡ fill_struct (fill_reply buf.now start end) }
 {
     let answer = fillbits::get_num_fill_bits(buf, start as usize, end as usize);

@@ -46,8 +46,7 @@ fn unsound() -> u8
 }
 
 // A new station at a time. Queue and store of a new station are all 0.
-#[unsafe(no_mangle)]
-pub extern "C" fn bs_sched_new(station: &mut [u32], h: u16, m: u8, f: u8, t: u8) -> u8
+pub fn bs_sched_new(station: &mut [u32], h: u16, m: u8, f: u8, t: u8) -> u8
     ensures { station_left result station.new ≡ new_left station.old (time_at h m f t) }
 {
     let time = time_at(h, m, f, t);
@@ -64,8 +63,7 @@ pub extern "C" fn bs_sched_new(station: &mut [u32], h: u16, m: u8, f: u8, t: u8)
 }
 
 // One slot on.
-#[unsafe(no_mangle)]
-pub extern "C" fn bs_sched_advance(station: &mut [u32]) -> u8
+pub fn bs_sched_advance(station: &mut [u32]) -> u8
     ensures { station_left result station.new ≡ advance_left station.old }
 {
     if station.len() != STATION_WORDS {
@@ -79,8 +77,7 @@ pub extern "C" fn bs_sched_advance(station: &mut [u32]) -> u8
 }
 
 // Who holds the slot at a time: both halves, the first, the second.
-#[unsafe(no_mangle)]
-pub extern "C" fn bs_sched_slot_owner(station: &[u32], h: u16, m: u8, f: u8, t: u8) -> BsSchedOwners
+pub fn bs_sched_slot_owner(station: &[u32], h: u16, m: u8, f: u8, t: u8) -> BsSchedOwners
     ensures { result ≡ owner_answer station.now (time_at h m f t) }
 {
     let time = time_at(h, m, f, t);
@@ -98,8 +95,7 @@ pub extern "C" fn bs_sched_slot_owner(station: &[u32], h: u16, m: u8, f: u8, t: 
 }
 
 // How the slot at a time is used.
-#[unsafe(no_mangle)]
-pub extern "C" fn bs_sched_usage(station: &[u32], h: u16, m: u8, f: u8, t: u8) -> BsSchedUsage
+pub fn bs_sched_usage(station: &[u32], h: u16, m: u8, f: u8, t: u8) -> BsSchedUsage
     ensures { result ≡ usage_answer station.now (time_at h m f t) }
 {
     let time = time_at(h, m, f, t);
@@ -155,8 +151,7 @@ fn row_of(timeslot: u8) -> usize
 }
 
 // A request for capacity.
-#[unsafe(no_mangle)]
-pub extern "C" fn bs_sched_request(
+pub fn bs_sched_request(
     station: &mut [u32],
     queue: &mut [u32],
     store: &[u8],
@@ -191,8 +186,7 @@ pub extern "C" fn bs_sched_request(
 }
 
 // An acknowledgement of a random access is queued.
-#[unsafe(no_mangle)]
-pub extern "C" fn bs_sched_enqueue_ack(
+pub fn bs_sched_enqueue_ack(
     station: &mut [u32],
     queue: &mut [u32],
     store: &[u8],
@@ -225,8 +219,7 @@ pub extern "C" fn bs_sched_enqueue_ack(
 }
 
 // A record is queued with its SDU. It is offered as 23 words, as in the queue; its kind and its sent bits do not count.
-#[unsafe(no_mangle)]
-pub extern "C" fn bs_sched_enqueue(
+pub fn bs_sched_enqueue(
     station: &mut [u32],
     queue: &mut [u32],
     store: &mut [u8],
@@ -275,8 +268,7 @@ pub extern "C" fn bs_sched_enqueue(
 }
 
 // The block of the current slot is built.
-#[unsafe(no_mangle)]
-pub extern "C" fn bs_sched_build(
+pub fn bs_sched_build(
     station: &mut [u32],
     queue: &mut [u32],
     store: &mut [u8],

@@ -3,6 +3,7 @@
 #![tactic(auto)]
 
 use bs_sched_c::reply::BsSchedBuilt;
+use std::io;
 
 // The lengths of the SDUs, in bits.
 const LENGTHS: [u16; 12] = [0, 1, 221, 222, 223, 224, 225, 226, 476, 477, 2047, 2048];
@@ -33,53 +34,59 @@ fn new_station() -> [u32; 228] {
 }
 
 // A tag that comes back.
-fn tag(t: u16) {
-    show::number(t as u64);
+fn tag(rt: &impl Print, t: u16) -> io::Result<()> {
+    show::number(rt, t as u64)
 }
 
 // A block and the tags that come back with it.
-fn line(block: &[u8], b: BsSchedBuilt) {
-    show::word(b"B 0");
-    show::octets(block);
+fn line(rt: &impl Print, block: &[u8], b: BsSchedBuilt) -> io::Result<()> {
+    show::word(rt, b"B 0")?;
+    show::octets(rt, block)?;
     let tags = b.tags;
     let count = b.tag_count as usize;
     let mut i = 0;
     while i < 16 {
         if i < count {
-            tag(tags[i]);
+            tag(rt, tags[i])?;
         }
         i += 1;
     }
-    show::end();
+    show::end(rt)
 }
 
 // Builds until nothing is queued.
-fn build_all(station: &mut [u32], queue: &mut [u32], store: &mut [u8]) {
+fn build_all(
+    rt: &impl Print,
+    station: &mut [u32],
+    queue: &mut [u32],
+    store: &mut [u8],
+) -> io::Result<()> {
     let mut left: usize = 200;
     while 0 < left {
         left -= 1;
         let mut block = [0u8; 34];
         let b = bs_sched_c::bs_sched_build(station, queue, store, &mut block);
         if b.built == 0 {
-            return;
+            return Ok(());
         }
-        line(&block, b);
+        line(rt, &block, b)?;
     }
+    Ok(())
 }
 
 // One record, sent in as many blocks as it takes.
-fn alone(bits: u16) {
+fn alone(rt: &impl Print, bits: u16) -> io::Result<()> {
     let sdu = octets();
     let mut station = new_station();
     let mut queue = [0u32; 1472];
     let mut store = [0u8; 16384];
     let r = record(1000 + bits as u32, bits, bits);
     let _n = bs_sched_c::bs_sched_enqueue(&mut station, &mut queue, &mut store, 1, &r, &sdu);
-    build_all(&mut station, &mut queue, &mut store);
+    build_all(rt, &mut station, &mut queue, &mut store)
 }
 
 // Sixteen records of one length.
-fn sixteen(bits: u16) {
+fn sixteen(rt: &impl Print, bits: u16) -> io::Result<()> {
     let sdu = octets();
     let mut station = new_station();
     let mut queue = [0u32; 1472];
@@ -88,16 +95,17 @@ fn sixteen(bits: u16) {
         let r = record(2000 + j, 16 * (j as u16) + bits % 16, bits);
         let _n = bs_sched_c::bs_sched_enqueue(&mut station, &mut queue, &mut store, 1, &r, &sdu);
     }
-    build_all(&mut station, &mut queue, &mut store);
+    build_all(rt, &mut station, &mut queue, &mut store)
 }
 
-fn main() {
+fn main(rt: HostRuntime) -> io::Result<()> {
     for i in 0..12 {
         let bits = LENGTHS[i];
-        alone(bits);
+        alone(&rt, bits)?;
     }
     for k in 0..12 {
         let bits = LENGTHS[k];
-        sixteen(bits);
+        sixteen(&rt, bits)?;
     }
+    Ok(())
 }

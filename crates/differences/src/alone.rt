@@ -2,22 +2,23 @@
 use mac_pdus::{AddressKind, ChanAllocElement, MacResource, OptChanAlloc};
 use mac_writer::WriteReply;
 use optional::{OptU8, OptU16};
+use std::io;
 
 // The reply of the header writer, and whether its buffer is altered.
-fn written(text: &[u8], h: MacResource) {
+fn written(rt: &impl Print, text: &[u8], h: MacResource) -> io::Result<()> {
     let before = [0xffu8; 12];
     let mut s = [0xffu8; 12];
     let reply = mac_header_writer::write_header(&mut s, 0, h);
-    show::word(text);
+    show::word(rt, text)?;
     match reply {
-        WriteReply::Refused(r) => show::number(questions::number(r) as u64),
-        WriteReply::Next(_) => show::number(0),
+        WriteReply::Refused(r) => show::number(rt, questions::number(r) as u64)?,
+        WriteReply::Next(_) => show::number(rt, 0)?,
     }
-    if check::same(&s, &before) {
-        show::word(b", nothing altered\n");
-        return;
+    if s == before {
+        show::word(rt, b", nothing altered\n")?;
+        return Ok(());
     }
-    show::word(b", written\n");
+    show::word(rt, b", written\n")
 }
 
 // A header with such an address, label, marker and channel allocation.
@@ -71,36 +72,41 @@ fn marked(kind: AddressKind, number: u32, label: OptU16, marker: OptU8) -> MacRe
     header(kind, number, label, marker, OptChanAlloc::Absent)
 }
 
-fn allocations() {
-    written(b"R11 direction 3 written alone:", allocating(3, 0));
-    written(b"R11 direction 0 written alone:", allocating(0, 0));
-    written(b"R11 extended carrier written alone:", allocating(3, 1));
+fn allocations(rt: &impl Print) -> io::Result<()> {
+    written(rt, b"R11 direction 3 written alone:", allocating(3, 0))?;
+    written(rt, b"R11 direction 0 written alone:", allocating(0, 0))?;
+    written(rt, b"R11 extended carrier written alone:", allocating(3, 1))
 }
 
-fn markers() {
+fn markers(rt: &impl Print) -> io::Result<()> {
     let none = OptU16::Absent;
     let label = OptU16::Of(5);
     let marker = OptU8::Of(4);
     written(
+        rt,
         b"R20 SSI with a marker written alone:",
         marked(AddressKind::Ssi, 1, none, marker),
-    );
+    )?;
     written(
+        rt,
         b"R20 USSI with a marker written alone:",
         marked(AddressKind::Ussi, 1, none, marker),
-    );
+    )?;
     written(
+        rt,
         b"R20 SMI with a marker written alone:",
         marked(AddressKind::Smi, 1, none, marker),
-    );
+    )?;
     written(
+        rt,
         b"R20 marker without an address written alone:",
         marked(AddressKind::Absent, 0, none, marker),
-    );
+    )?;
     written(
+        rt,
         b"R20 label and marker written alone:",
         marked(AddressKind::Ssi, 1, label, marker),
-    );
+    )
 }
 
 // A null PDU with such a power control element.
@@ -121,16 +127,17 @@ fn null(power: OptU8) -> MacResource {
     }
 }
 
-fn nulls() {
-    written(b"R32 null PDU written alone:", null(OptU8::Absent));
+fn nulls(rt: &impl Print) -> io::Result<()> {
+    written(rt, b"R32 null PDU written alone:", null(OptU8::Absent))?;
     written(
+        rt,
         b"R32 null PDU with power control written alone:",
         null(OptU8::Of(3)),
-    );
+    )
 }
 
-pub(crate) fn run() {
-    allocations();
-    markers();
-    nulls();
+pub(crate) fn run(rt: &impl Print) -> io::Result<()> {
+    allocations(rt)?;
+    markers(rt)?;
+    nulls(rt)
 }

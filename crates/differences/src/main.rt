@@ -11,12 +11,14 @@ mod reading;
 mod starting;
 mod values;
 
-fn main() {
-    calls::run();
-    starting::run();
-    lengths::run();
-    offers::run();
-    alone::run();
-    reading::run();
-    values::run();
+use std::io;
+
+fn main(rt: HostRuntime) -> io::Result<()> {
+    calls::run(&rt)?;
+    starting::run(&rt)?;
+    lengths::run(&rt)?;
+    offers::run(&rt)?;
+    alone::run(&rt)?;
+    reading::run(&rt)?;
+    values::run(&rt)
 }

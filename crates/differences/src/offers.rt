@@ -1,5 +1,6 @@
 // Records offered to the queue of a new station, as words.
 use crate::memory;
+use std::io;
 
 // The words of a record with an SSI and an SDU of one octet.
 fn plain() -> [u32; 23] {
@@ -22,7 +23,7 @@ fn allocating() -> [u32; 23] {
 }
 
 // What the queue answers, and whether state, queue or store are altered.
-fn offered(text: &[u8], record: [u32; 23]) {
+fn offered(rt: &impl Print, text: &[u8], record: [u32; 23]) -> io::Result<()> {
     let mut station = memory::new_station();
     let mut queue = [0u32; 1472];
     let mut store = [0u8; 16384];
@@ -31,47 +32,47 @@ fn offered(text: &[u8], record: [u32; 23]) {
     let words = queue;
     let cells = store;
     let n = bs_sched_c::bs_sched_enqueue(&mut station, &mut queue, &mut store, 1, &record, &sdu);
-    show::word(text);
-    memory::number(n);
-    memory::compared(&state, &station, &words, &queue, &cells, &store);
+    show::word(rt, text)?;
+    memory::number(rt, n)?;
+    memory::compared(rt, &state, &station, &words, &queue, &cells, &store)
 }
 
-fn plain_records() {
+fn plain_records(rt: &impl Print) -> io::Result<()> {
     let mut w = plain();
-    offered(b"R9 no label queued:", w);
+    offered(rt, b"R9 no label queued:", w)?;
     w[7] = 6;
-    offered(b"R9 label queued:", w);
+    offered(rt, b"R9 label queued:", w)?;
     w = plain();
     w[5] = 1;
-    offered(b"R10 encryption 1 queued:", w);
+    offered(rt, b"R10 encryption 1 queued:", w)?;
     w = plain();
     w[4] = 2;
-    offered(b"R14 position 2 queued:", w);
+    offered(rt, b"R14 position 2 queued:", w)?;
     w = plain();
     w[1] = 3;
-    offered(b"R15 address kind 3 queued:", w);
+    offered(rt, b"R15 address kind 3 queued:", w)
 }
 
-fn allocations() {
+fn allocations(rt: &impl Print) -> io::Result<()> {
     let mut w = allocating();
-    offered(b"R11 direction 3 queued:", w);
+    offered(rt, b"R11 direction 3 queued:", w)?;
     w[14] = 0;
-    offered(b"R11 direction 0 queued:", w);
+    offered(rt, b"R11 direction 0 queued:", w)?;
     w = allocating();
     w[18] = 1;
-    offered(b"R11 extended carrier queued:", w);
+    offered(rt, b"R11 extended carrier queued:", w)?;
     w = allocating();
     w[20] = 0;
-    offered(b"R12 pattern 0 without frame-18 pattern queued:", w);
+    offered(rt, b"R12 pattern 0 without frame-18 pattern queued:", w)?;
     w = allocating();
     w[19] = 1;
-    offered(b"R13 pattern 1 with frame-18 pattern queued:", w);
+    offered(rt, b"R13 pattern 1 with frame-18 pattern queued:", w)?;
     w = allocating();
     w[17] = 4096;
-    offered(b"R14 carrier 4096 queued:", w);
+    offered(rt, b"R14 carrier 4096 queued:", w)
 }
 
-pub(crate) fn run() {
-    plain_records();
-    allocations();
+pub(crate) fn run(rt: &impl Print) -> io::Result<()> {
+    plain_records(rt)?;
+    allocations(rt)
 }

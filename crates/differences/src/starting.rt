@@ -4,6 +4,7 @@ ghost use Rattle.std.specs.Prelude.{◌≤◌};
 use crate::{calls, memory};
 use mac_pdus::PduHeader;
 use mac_reader::PlacedHeader;
+use std::io;
 
 const RECORD: u32 = 2;
 
@@ -53,95 +54,95 @@ fn placed(queue: [u32; 1472], at: usize, r: [u32; 23]) -> [u32; 1472]
 }
 
 // The header of a PDU and where it stands; nothing behind the last.
-fn listed(p: PlacedHeader, i: usize, count: usize) {
+fn listed(rt: &impl Print, p: PlacedHeader, i: usize, count: usize) -> io::Result<()> {
     if count <= i {
-        return;
+        return Ok(());
     }
-    show::word(b" at");
-    show::number(p.at as u64);
+    show::word(rt, b" at")?;
+    show::number(rt, p.at as u64)?;
     let h = p.header;
     match h {
         PduHeader::Resource(r) => {
             let a = r.address;
-            calls::address(a);
+            calls::address(rt, a)?;
         }
-        PduHeader::Frag(_) => show::word(b" MAC-FRAG"),
-        PduHeader::End(_) => show::word(b" MAC-END"),
+        PduHeader::Frag(_) => show::word(rt, b" MAC-FRAG")?,
+        PduHeader::End(_) => show::word(rt, b" MAC-END")?,
     }
-    show::word(b";");
+    show::word(rt, b";")
 }
 
 // The headers of a block: there are three at most.
-fn headers(block: &[u8]) {
+fn headers(rt: &impl Print, block: &[u8]) -> io::Result<()> {
     let b = mac_reader::read_block(block);
     let all = b.headers;
     let first = all[0];
-    listed(first, 0, b.count);
+    listed(rt, first, 0, b.count)?;
     let second = all[1];
-    listed(second, 1, b.count);
+    listed(rt, second, 1, b.count)?;
     let third = all[2];
-    listed(third, 2, b.count);
+    listed(rt, third, 2, b.count)
 }
 
 // How many records stay.
-fn staying(count: u32) {
-    show::word(b" left");
-    show::number(count as u64);
-    show::word(b":");
+fn staying(rt: &impl Print, count: u32) -> io::Result<()> {
+    show::word(rt, b" left")?;
+    show::number(rt, count as u64)?;
+    show::word(rt, b":")
 }
 
 // A record that stays: its number, its kind and how much of it is sent; nothing for an empty place.
-fn stays(number: u32, kind: u32, sent: u32) {
+fn stays(rt: &impl Print, number: u32, kind: u32, sent: u32) -> io::Result<()> {
     if number == 0 {
-        return;
+        return Ok(());
     }
-    show::word(b" SSI");
-    show::number(number as u64);
+    show::word(rt, b" SSI")?;
+    show::number(rt, number as u64)?;
     if kind == WAITING {
-        show::word(b" waiting;");
-        return;
+        show::word(rt, b" waiting;")?;
+        return Ok(());
     }
-    show::word(b" started, sent");
-    show::number(sent as u64);
-    show::word(b";");
+    show::word(rt, b" started, sent")?;
+    show::number(rt, sent as u64)?;
+    show::word(rt, b";")
 }
 
 // The block of a queue with so many records for timeslot 1, and what it leaves, two records at most. Each SDU is all zero.
-fn built(text: &[u8], count: u32, queue: [u32; 1472]) {
+fn built(rt: &impl Print, text: &[u8], count: u32, queue: [u32; 1472]) -> io::Result<()> {
     let mut station = memory::new_station();
     station[224] = count;
     let mut left = queue;
     let mut store = [0u8; 16384];
     let mut block = [0u8; 34];
     let _built = bs_sched_c::bs_sched_build(&mut station, &mut left, &mut store, &mut block);
-    show::word(text);
-    headers(&block);
-    staying(station[224]);
-    stays(left[2], left[0], left[22]);
-    stays(left[25], left[23], left[45]);
-    show::end();
+    show::word(rt, text)?;
+    headers(rt, &block)?;
+    staying(rt, station[224])?;
+    stays(rt, left[2], left[0], left[22])?;
+    stays(rt, left[25], left[23], left[45])?;
+    show::end(rt)
 }
 
 // 44 bits are left; header 74 waits; a record with 100 bits to be sent goes on behind it.
-fn started_goes_on() {
+fn started_goes_on(rt: &impl Print) -> io::Result<()> {
     let empty = [0u32; 1472];
     let one = placed(empty, 0, plain(WAITING, 1, 181, 0));
     let two = placed(one, 23, allocating(plain(WAITING, 2, 0, 0)));
     let three = placed(two, 46, plain(STARTED, 3, 300, 200));
-    built(b"D7 started behind header 74:", 3, three);
+    built(rt, b"D7 started behind header 74:", 3, three)
 }
 
 // 84 bits are left; header 88 waits; a MAC-END of 16 bits goes in behind it; header 43 in the 68 left does not start.
-fn held_behind_an_end() {
+fn held_behind_an_end(rt: &impl Print) -> io::Result<()> {
     let empty = [0u32; 1472];
     let one = placed(empty, 0, plain(WAITING, 1, 141, 0));
     let two = placed(one, 23, granted(allocating(plain(WAITING, 2, 0, 0))));
     let three = placed(two, 46, plain(STARTED, 3, 203, 200));
     let four = placed(three, 69, plain(RECORD, 4, 26, 0));
-    built(b"D7 MAC-END behind header 88:", 4, four);
+    built(rt, b"D7 MAC-END behind header 88:", 4, four)
 }
 
-pub(crate) fn run() {
-    started_goes_on();
-    held_behind_an_end();
+pub(crate) fn run(rt: &impl Print) -> io::Result<()> {
+    started_goes_on(rt)?;
+    held_behind_an_end(rt)
 }

@@ -1,32 +1,33 @@
 // Words and numbers on standard output, for the programs that show results.
 #![tactic(auto)]
 
+use std::io;
 
 // A word, as it is.
-pub fn word(text: &[u8]) {
-    io::write_all(1, text);
+pub fn word(rt: &impl Print, text: &[u8]) -> io::Result<()> {
+    rt.write_all(text)
 }
 
 // A number in decimal, after a space.
-pub fn number(n: u64) {
-    word(b" ");
-    io::print_decimal(1, n);
+pub fn number(rt: &impl Print, n: u64) -> io::Result<()> {
+    print!(rt; " {n}")
 }
 
 // An octet in hexadecimal, after nothing.
-pub fn octet(x: u8) {
-    io::print_hex(1, x as u64, 2);
+pub fn octet(rt: &impl Print, x: u8) -> io::Result<()> {
+    print!(rt; "{x:02x}")
 }
 
 // The octets of a buffer in hexadecimal, after a space.
-pub fn octets(s: &[u8]) {
-    word(b" ");
-    for i in 0..s.len() {
-        octet(s[i]);
+pub fn octets(rt: &impl Print, s: &[u8]) -> io::Result<()> {
+    word(rt, b" ")?;
+    for x in s {
+        octet(rt, *x)?;
     }
+    Ok(())
 }
 
 // The end of a line.
-pub fn end() {
-    word(b"\n");
+pub fn end(rt: &impl Print) -> io::Result<()> {
+    word(rt, b"\n")
 }

@@ -11,8 +11,8 @@ ghost use Rattle.slotrun.specs.Turned.{Turned, ReadTurn};
 
 use dl_record::Record;
 use interpreter::RunAnswer;
-use libc::{STDIN_FILENO, STDOUT_FILENO};
 use sched_core::Station;
+use std::io::Read;
 
 // What a turn leaves: the station and its queue, how many octets of the input are kept, and whether there may be more.
 #[derive(Clone, Copy)]
@@ -49,22 +49,20 @@ fn keep_rest(input: &mut [u8], from: usize, to: usize) -> usize
     i
 }
 
-// Reads once behind the octets that are held, and answers how many there are then.
-fn read_more(input: &mut [u8], held: usize) -> usize
+// Reads once behind the octets that are held, and answers how many there are then. A read that fails brings none.
+fn read_more(reader: &mut impl Read, input: &mut [u8], held: usize) -> usize
     requires { held ≤ length input.old }
     ensures { (held ≤ result) × (result ≤ length input.old) × (take held input.new ≡ take held input.old) }
 {
-    let size = input.len();
-    let got = libc::read(STDIN_FILENO, &mut input[held..]);
-    let n = io::count(got, &input[held..]);
-    if size - held < n {
-        return size;
+    match reader.read(&mut input[held..]) {
+        Ok(n) => held + n,
+        Err(_) => held,
     }
-    held + n
 }
 
-// Runs the commands that are whole, and prints what they print.
+// Runs the commands that are whole, and prints what they print. Whether it arrives is not looked at.
 fn run_and_print(
+    rt: &impl Print,
     station: Station,
     queue: [Record; sizes::QUEUE_PLACES],
     store: &mut [u8],
@@ -80,25 +78,26 @@ fn run_and_print(
 {
     let r = interpreter::run(station, queue, store, stage, input, out);
     let count = r.count;
-    io::write_all(STDOUT_FILENO, &out[..count]);
+    let _ = rt.write_all(&out[..count]);
     r
 }
 
 // "An unknown or cut command prints E and ends."
-fn goes_on(input: &[u8], taken: usize, more: bool) -> bool
+fn goes_on(rt: &impl Print, input: &[u8], taken: usize, more: bool) -> bool
     ensures { result ≡ more && not (is_unknown (drop taken input.now)) }
 {
     if more & !is_unknown(input, taken) {
         return true;
     }
     if taken < input.len() {
-        io::write_all(STDOUT_FILENO, b"E\n");
+        let _ = rt.write_all(b"E\n");
     }
     false
 }
 
 // Runs what is whole of the first `all` octets, and keeps the rest of them at the front. `more`: there may be more to read.
 fn run_and_keep(
+    rt: &impl Print,
     station: Station,
     queue: [Record; sizes::QUEUE_PLACES],
     store: &mut [u8],
@@ -113,9 +112,9 @@ fn run_and_keep(
     ensures { Turned (session (memory station queue store.old) stage.old) (take all input.old)
         more result store.new stage.new input.new out.old out.new }
 {
-    let r = run_and_print(station, queue, store, stage, &input[..all], out);
+    let r = run_and_print(rt, station, queue, store, stage, &input[..all], out);
     let taken = r.taken;
-    let reads_on = goes_on(&input[..all], taken, more);
+    let reads_on = goes_on(rt, &input[..all], taken, more);
     let next = r.station;
     let left = r.queue;
     let kept = keep_rest(input, taken, all);
@@ -129,6 +128,8 @@ fn run_and_keep(
 
 // One turn.
 fn read_and_run(
+    rt: &impl Print,
+    reader: &mut impl Read,
     station: Station,
     queue: [Record; sizes::QUEUE_PLACES],
     store: &mut [u8],
@@ -142,9 +143,9 @@ fn read_and_run(
     ensures { ReadTurn (session (memory station queue store.old) stage.old) (take held input.old)
         result store.new stage.new input.new out.old out.new }
 {
-    let all = read_more(input, held);
+    let all = read_more(reader, input, held);
     let more = held < all;
-    run_and_keep(station, queue, store, stage, input, all, more, out)
+    run_and_keep(rt, station, queue, store, stage, input, all, more, out)
 }
 
 // What is read at a time, with what was kept of the last.
@@ -154,19 +155,28 @@ fn empty_input() -> [u8; 256]
     [0; 256]
 }
 
-fn main() {
+fn main(rt: HostRuntime) {
+    let mut reader = rt.stdin();
     let mut station = interpreter::begin::first_station();
     let mut queue = interpreter::begin::empty_queue();
     let mut store = interpreter::begin::empty_store();
     let mut stage = interpreter::begin::empty_stage();
     let mut input = empty_input();
-    let mut out = io::large_buffer();
+    let mut out = [0u8; 65536];
     let mut held = 0;
     let mut turns = u64::MAX;
     while turns > 0 {
         turns -= 1;
         let x = read_and_run(
-            station, queue, &mut store, &mut stage, &mut input, held, &mut out,
+            &rt,
+            &mut reader,
+            station,
+            queue,
+            &mut store,
+            &mut stage,
+            &mut input,
+            held,
+            &mut out,
         );
         if !x.goes_on {
             return;

@@ -4,6 +4,7 @@ ghost use Rattle.std.specs.Prelude.{◌≡◌, ◌≤◌};
 
 use dl_record::Record;
 use optional::{OptU8, OptU16};
+use std::io;
 
 // A record without SDU whose header has an SSI, a usage marker and a grant: 57 bits.
 fn with_marker_and_grant() -> Record
@@ -24,49 +25,52 @@ fn with_sdu(bits: u16) -> Record
 }
 
 // Where its PDU ends, in the last 60 bits of a block: at 208 if there is none.
-fn in_60_bits(bits: u16, may_start: bool)
+fn in_60_bits(rt: &impl Print, bits: u16, may_start: bool) -> io::Result<()>
     requires { bits ≤ 2048 }
 {
     let r = with_sdu(bits);
     if !dl_record::header_is_legal(r) {
-        return;
+        return Ok(());
     }
     let store = [0u8; 256];
     let mut block = [0u8; 34];
     let chunk = bs_frag_chunk::get_next_chunk(&mut block, 208, 268, &store, 0, r, may_start);
-    show::word(b" to");
-    show::number(chunk.next as u64);
+    show::word(rt, b" to")?;
+    show::number(rt, chunk.next as u64)
 }
 
-fn may_start() {
-    show::word(b"header 43, 60 bits left, 17 and 18 bits of SDU, may start:");
-    in_60_bits(17, true);
-    in_60_bits(18, true);
-    show::word(b" may not:");
-    in_60_bits(17, false);
-    in_60_bits(18, false);
-    show::end();
+fn may_start(rt: &impl Print) -> io::Result<()> {
+    show::word(
+        rt,
+        b"header 43, 60 bits left, 17 and 18 bits of SDU, may start:",
+    )?;
+    in_60_bits(rt, 17, true)?;
+    in_60_bits(rt, 18, true)?;
+    show::word(rt, b" may not:")?;
+    in_60_bits(rt, 17, false)?;
+    in_60_bits(rt, 18, false)?;
+    show::end(rt)
 }
 
 // The PDU of a record with marker and grant.
-fn header_57() {
+fn header_57(rt: &impl Print) -> io::Result<()> {
     let r = with_marker_and_grant();
     if !dl_record::header_is_legal(r) {
-        return;
+        return Ok(());
     }
     let store = [0u8; 256];
     let mut block = [0u8; 34];
     let chunk = bs_frag_chunk::get_next_chunk(&mut block, 208, 268, &store, 0, r, true);
-    show::word(b"header 57, 60 bits left:");
-    show::octets(&block);
-    show::word(b" to");
-    show::number(chunk.next as u64);
-    show::word(b" length");
-    show::number(bitbuffer::read_bits(&block, 215, 6));
-    show::end();
+    show::word(rt, b"header 57, 60 bits left:")?;
+    show::octets(rt, &block)?;
+    show::word(rt, b" to")?;
+    show::number(rt, chunk.next as u64)?;
+    show::word(rt, b" length")?;
+    show::number(rt, bitbuffer::read_bits(&block, 215, 6))?;
+    show::end(rt)
 }
 
-pub(crate) fn run() {
-    header_57();
-    may_start();
+pub(crate) fn run(rt: &impl Print) -> io::Result<()> {
+    header_57(rt)?;
+    may_start(rt)
 }

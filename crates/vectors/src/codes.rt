@@ -1,61 +1,63 @@
 // Document 01, "Request and grant": the tables of codes, and the grant octet.
 use basic_slotgrant::BasicSlotgrant;
 use reservation_requirement::{RequirementRead, ReservationRequirement};
+use std::io;
 
 // What a requirement code asks for, and the capacity that answers it.
-fn requirement(code: u8) {
-    show::word(b"requirement");
-    show::number(code as u64);
+fn requirement(rt: &impl Print, code: u8) -> io::Result<()> {
+    show::word(rt, b"requirement")?;
+    show::number(rt, code as u64)?;
     match ReservationRequirement::try_from(code) {
         RequirementRead::Of(r) => {
-            show::word(b" wants");
-            show::number(r.to_req_slotcount() as u64);
-            show::word(b" and is granted capacity");
-            show::number(slot_codes::capacity_for(code, false) as u64);
-            show::word(b" or, in the second half,");
-            show::number(slot_codes::capacity_for(code, true) as u64);
-            show::end();
+            show::word(rt, b" wants")?;
+            show::number(rt, r.to_req_slotcount() as u64)?;
+            show::word(rt, b" and is granted capacity")?;
+            show::number(rt, slot_codes::capacity_for(code, false) as u64)?;
+            show::word(rt, b" or, in the second half,")?;
+            show::number(rt, slot_codes::capacity_for(code, true) as u64)?;
+            show::end(rt)?;
         }
-        RequirementRead::Unknown => show::word(b" is no code\n"),
+        RequirementRead::Unknown => show::word(rt, b" is no code\n")?,
     }
+    Ok(())
 }
 
 // What a capacity code grants.
-fn capacity(code: u8) {
-    show::word(b"capacity");
-    show::number(code as u64);
-    show::word(b" grants");
-    show::number(slot_codes::slots_granted(code) as u64);
-    show::end();
+fn capacity(rt: &impl Print, code: u8) -> io::Result<()> {
+    show::word(rt, b"capacity")?;
+    show::number(rt, code as u64)?;
+    show::word(rt, b" grants")?;
+    show::number(rt, slot_codes::slots_granted(code) as u64)?;
+    show::end(rt)
 }
 
 // A grant octet, and the octet of the grant that it is read as.
-fn octet(x: u8) {
+fn octet(rt: &impl Print, x: u8) -> io::Result<()> {
     let grant = BasicSlotgrant::from_octet(x);
     let capacity = grant.capacity_allocation;
     let delay = grant.granting_delay;
-    show::word(b"octet ");
-    show::octet(x);
-    show::word(b" is capacity");
-    show::number(capacity.into_raw() as u64);
-    show::word(b" delay");
-    show::number(delay.into_raw() as u64);
-    show::word(b" and is written ");
-    show::octet(grant.to_octet());
-    show::end();
+    show::word(rt, b"octet ")?;
+    show::octet(rt, x)?;
+    show::word(rt, b" is capacity")?;
+    show::number(rt, capacity.into_raw() as u64)?;
+    show::word(rt, b" delay")?;
+    show::number(rt, delay.into_raw() as u64)?;
+    show::word(rt, b" and is written ")?;
+    show::octet(rt, grant.to_octet())?;
+    show::end(rt)
 }
 
-pub(crate) fn run() {
+pub(crate) fn run(rt: &impl Print) -> io::Result<()> {
     for code in 0..17 {
-        requirement(code);
+        requirement(rt, code)?;
     }
     for code in 0..16 {
-        capacity(code);
+        capacity(rt, code)?;
     }
-    octet(0x00);
-    octet(0x10);
-    octet(0xad);
-    octet(0xf0);
-    octet(0x1e);
-    octet(0xff);
+    octet(rt, 0x00)?;
+    octet(rt, 0x10)?;
+    octet(rt, 0xad)?;
+    octet(rt, 0xf0)?;
+    octet(rt, 0x1e)?;
+    octet(rt, 0xff)
 }

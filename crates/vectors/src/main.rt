@@ -10,13 +10,15 @@ mod pdus;
 mod time;
 mod uplink_requests;
 
-fn main() {
-    time::run();
-    codes::run();
-    bits::run();
-    fill::run();
-    uplink_requests::run();
-    pdus::run();
-    chunks::run();
-    blocks::run();
+use std::io;
+
+fn main(rt: HostRuntime) -> io::Result<()> {
+    time::run(&rt)?;
+    codes::run(&rt)?;
+    bits::run(&rt)?;
+    fill::run(&rt)?;
+    uplink_requests::run(&rt)?;
+    pdus::run(&rt)?;
+    chunks::run(&rt)?;
+    blocks::run(&rt)
 }

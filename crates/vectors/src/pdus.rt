@@ -4,127 +4,132 @@ use mac_pdus::{
 };
 use mac_writer::WriteReply;
 use optional::{OptU8, OptU16};
+use std::io;
 
 // A field that may be absent, or -.
-fn field(o: OptU8) {
+fn field(rt: &impl Print, o: OptU8) -> io::Result<()> {
     match o {
-        OptU8::Absent => show::word(b" -"),
-        OptU8::Of(x) => show::number(x as u64),
+        OptU8::Absent => show::word(rt, b" -")?,
+        OptU8::Of(x) => show::number(rt, x as u64)?,
     }
+    Ok(())
 }
 
 // The address type, and what follows it.
-fn address(a: Address) {
+fn address(rt: &impl Print, a: Address) -> io::Result<()> {
     match a {
-        Address::Null => show::word(b" null"),
+        Address::Null => show::word(rt, b" null")?,
         Address::Ssi(n) => {
-            show::word(b" SSI");
-            show::number(n as u64);
+            show::word(rt, b" SSI")?;
+            show::number(rt, n as u64)?;
         }
         Address::EventLabel(e) => {
-            show::word(b" label");
-            show::number(e as u64);
+            show::word(rt, b" label")?;
+            show::number(rt, e as u64)?;
         }
         Address::Ussi(n) => {
-            show::word(b" USSI");
-            show::number(n as u64);
+            show::word(rt, b" USSI")?;
+            show::number(rt, n as u64)?;
         }
         Address::Smi(n) => {
-            show::word(b" SMI");
-            show::number(n as u64);
+            show::word(rt, b" SMI")?;
+            show::number(rt, n as u64)?;
         }
         Address::SsiEventLabel(n, e) => {
-            show::word(b" SSI");
-            show::number(n as u64);
-            show::word(b" label");
-            show::number(e as u64);
+            show::word(rt, b" SSI")?;
+            show::number(rt, n as u64)?;
+            show::word(rt, b" label")?;
+            show::number(rt, e as u64)?;
         }
         Address::SsiUsageMarker(n, m) => {
-            show::word(b" SSI");
-            show::number(n as u64);
-            show::word(b" marker");
-            show::number(m as u64);
+            show::word(rt, b" SSI")?;
+            show::number(rt, n as u64)?;
+            show::word(rt, b" marker")?;
+            show::number(rt, m as u64)?;
         }
         Address::SmiEventLabel(n, e) => {
-            show::word(b" SMI");
-            show::number(n as u64);
-            show::word(b" label");
-            show::number(e as u64);
+            show::word(rt, b" SMI")?;
+            show::number(rt, n as u64)?;
+            show::word(rt, b" label")?;
+            show::number(rt, e as u64)?;
         }
     }
+    Ok(())
 }
 
 // A channel allocation, or -.
-fn chan_alloc(a: OptChanAlloc) {
+fn chan_alloc(rt: &impl Print, a: OptChanAlloc) -> io::Result<()> {
     match a {
-        OptChanAlloc::Absent => show::word(b" -"),
+        OptChanAlloc::Absent => show::word(rt, b" -")?,
         OptChanAlloc::Of(c) => {
             let frame18 = c.frame18_mon_pattern;
-            show::number(c.alloc_type as u64);
-            show::number(c.ts_assigned as u64);
-            show::number(c.ul_dl_assigned as u64);
-            show::number(c.clch_permission as u64);
-            show::number(c.cell_change_flag as u64);
-            show::number(c.carrier_num as u64);
-            show::number(c.mon_pattern as u64);
-            field(frame18);
+            show::number(rt, c.alloc_type as u64)?;
+            show::number(rt, c.ts_assigned as u64)?;
+            show::number(rt, c.ul_dl_assigned as u64)?;
+            show::number(rt, c.clch_permission as u64)?;
+            show::number(rt, c.cell_change_flag as u64)?;
+            show::number(rt, c.carrier_num as u64)?;
+            show::number(rt, c.mon_pattern as u64)?;
+            field(rt, frame18)?;
         }
     }
+    Ok(())
 }
 
-fn resource(r: ResourceHeader) {
+fn resource(rt: &impl Print, r: ResourceHeader) -> io::Result<()> {
     let a = r.address;
     let power = r.power_control_element;
     let grant = r.slot_granting_element;
     let alloc = r.chan_alloc_element;
-    show::word(b" MAC-RESOURCE fill");
-    show::number(r.fill_bits as u64);
-    show::word(b" position");
-    show::number(r.pos_of_grant as u64);
-    show::word(b" encryption");
-    show::number(r.encryption_mode as u64);
-    show::word(b" random access");
-    show::number(r.random_access_flag as u64);
-    show::word(b" length");
-    show::number(r.length_ind as u64);
-    address(a);
-    show::word(b" power");
-    field(power);
-    show::word(b" grant");
-    field(grant);
-    show::word(b" allocation");
-    chan_alloc(alloc);
-    show::end();
+    show::word(rt, b" MAC-RESOURCE fill")?;
+    show::number(rt, r.fill_bits as u64)?;
+    show::word(rt, b" position")?;
+    show::number(rt, r.pos_of_grant as u64)?;
+    show::word(rt, b" encryption")?;
+    show::number(rt, r.encryption_mode as u64)?;
+    show::word(rt, b" random access")?;
+    show::number(rt, r.random_access_flag as u64)?;
+    show::word(rt, b" length")?;
+    show::number(rt, r.length_ind as u64)?;
+    address(rt, a)?;
+    show::word(rt, b" power")?;
+    field(rt, power)?;
+    show::word(rt, b" grant")?;
+    field(rt, grant)?;
+    show::word(rt, b" allocation")?;
+    chan_alloc(rt, alloc)?;
+    show::end(rt)
 }
 
-fn header(h: PduHeader) {
+fn header(rt: &impl Print, h: PduHeader) -> io::Result<()> {
     match h {
-        PduHeader::Resource(r) => resource(r),
+        PduHeader::Resource(r) => resource(rt, r)?,
         PduHeader::Frag(f) => {
-            show::word(b" MAC-FRAG fill");
-            show::number(f.fill_bits as u64);
-            show::end();
+            show::word(rt, b" MAC-FRAG fill")?;
+            show::number(rt, f.fill_bits as u64)?;
+            show::end(rt)?;
         }
         PduHeader::End(e) => {
-            show::word(b" MAC-END fill");
-            show::number(e.fill_bits as u64);
-            show::word(b" position");
-            show::number(e.pos_of_grant as u64);
-            show::word(b" length");
-            show::number(e.length_ind as u64);
-            show::end();
+            show::word(rt, b" MAC-END fill")?;
+            show::number(rt, e.fill_bits as u64)?;
+            show::word(rt, b" position")?;
+            show::number(rt, e.pos_of_grant as u64)?;
+            show::word(rt, b" length")?;
+            show::number(rt, e.length_ind as u64)?;
+            show::end(rt)?;
         }
     }
+    Ok(())
 }
 
 // A block as the reader lists it: the number, and the headers with their bit positions.
-pub(crate) fn read(block: &[u8]) {
-    show::word(b"block");
-    show::octets(block);
+pub(crate) fn read(rt: &impl Print, block: &[u8]) -> io::Result<()> {
+    show::word(rt, b"block")?;
+    show::octets(rt, block)?;
     let b = mac_reader::read_block(block);
     let outcome = b.outcome;
-    show::number(mac_reader::outcome_number(outcome) as u64);
-    show::end();
+    show::number(rt, mac_reader::outcome_number(outcome) as u64)?;
+    show::end(rt)?;
     let headers = b.headers;
     let count = b.count;
     let mut i = 0;
@@ -132,13 +137,14 @@ pub(crate) fn read(block: &[u8]) {
         if i < count {
             let placed = headers[i];
             let h = placed.header;
-            show::word(b"  at");
-            show::number(placed.at as u64);
-            show::word(b":");
-            header(h);
+            show::word(rt, b"  at")?;
+            show::number(rt, placed.at as u64)?;
+            show::word(rt, b":")?;
+            header(rt, h)?;
         }
         i += 1;
     }
+    Ok(())
 }
 
 // A header with an address of kind SSI and nothing else.
@@ -160,21 +166,21 @@ fn plain(length: u8, number: u32) -> MacResource {
 }
 
 // The reply of the header writer, and its buffer.
-fn written(at: usize, h: MacResource) {
+fn written(rt: &impl Print, at: usize, h: MacResource) -> io::Result<()> {
     let mut s = [0xffu8; 12];
     let reply = mac_header_writer::write_header(&mut s, at, h);
-    show::word(b"written at");
-    show::number(at as u64);
-    show::word(b":");
+    show::word(rt, b"written at")?;
+    show::number(rt, at as u64)?;
+    show::word(rt, b":")?;
     match reply {
-        WriteReply::Refused(r) => show::number(questions::number(r) as u64),
+        WriteReply::Refused(r) => show::number(rt, questions::number(r) as u64)?,
         WriteReply::Next(n) => {
-            show::number(0);
-            show::number(n as u64);
+            show::number(rt, 0)?;
+            show::number(rt, n as u64)?;
         }
     }
-    show::octets(&s);
-    show::end();
+    show::octets(rt, &s)?;
+    show::end(rt)
 }
 
 // A header with every part, 88 bits.
@@ -234,7 +240,7 @@ fn allocated() -> MacResource {
 }
 
 // The example block of document 01, the null PDU published in the source, a first fragment, and what is refused.
-fn blocks() {
+fn blocks(rt: &impl Print) -> io::Result<()> {
     let mut block = [0u8; 34];
     block[0] = 0x20;
     block[1] = 0x39;
@@ -242,39 +248,39 @@ fn blocks() {
     block[5] = 0x44;
     block[6] = 0x10;
     block[8] = 0x10;
-    read(&block);
+    read(rt, &block)?;
     block[33] = 0x01;
-    read(&block);
+    read(rt, &block)?;
     block[33] = 0x08;
-    read(&block);
+    read(rt, &block)?;
     let mut null = [0u8; 34];
     null[1] = 0x10;
     null[2] = 0x80;
-    read(&null);
+    read(rt, &null)?;
     null[1] = 0x08;
-    read(&null);
-    read(&null[1..]);
+    read(rt, &null)?;
+    read(rt, &null[1..])?;
     let mut parts = [0u8; 34];
     // MAC-END with fill, three octets, and then MAC-FRAG
     parts[0] = 0x70;
     parts[1] = 0x60;
     parts[2] = 0x80;
     parts[3] = 0x40;
-    read(&parts);
+    read(rt, &parts)?;
     // a type that is neither 00 nor 01
     parts[3] = 0x80;
-    read(&parts);
+    read(rt, &parts)
 }
 
-pub(crate) fn run() {
-    blocks();
-    written(0, plain(63, 1));
-    written(3, plain(7, 0xffffff));
-    written(0, longest());
-    written(9, longest());
-    written(0, allocated());
-    written(0, plain(0, 1));
-    written(0, plain(7, 0x1000000));
-    written(54, plain(7, 1));
-    written(18446744073709551615, plain(7, 1));
+pub(crate) fn run(rt: &impl Print) -> io::Result<()> {
+    blocks(rt)?;
+    written(rt, 0, plain(63, 1))?;
+    written(rt, 3, plain(7, 0xffffff))?;
+    written(rt, 0, longest())?;
+    written(rt, 9, longest())?;
+    written(rt, 0, allocated())?;
+    written(rt, 0, plain(0, 1))?;
+    written(rt, 0, plain(7, 0x1000000))?;
+    written(rt, 54, plain(7, 1))?;
+    written(rt, 18446744073709551615, plain(7, 1))
 }
