@@ -1,5 +1,5 @@
 -- The words of a record fit, word by word. Assumes nothing.
-use Rattle.std.proofs.Common.{◌≡◌, ℕ, zero, suc, ◌+◌, ◌-◌, ◌%◌, ◌≤◌, Bool, true, ◌&&◌, eqb, ltb, leb, List, [], ◌∷◌, ◌++◌, length, get_or, take, drop, replicate, sym, refl, ap, ◌∙◌, ap₂, arith, length-drop, drop-cons, drop-drop, eq-eqb, eqb-true}
+use Rattle.std.proofs.Common.{◌≡◌, ℕ, zero, suc, ◌%◌, ◌≤◌, Bool, true, ◌&&◌, eqb, ltb, leb, List, [], ◌∷◌, ◌++◌, length, get_or, take, drop, replicate, sym, refl, ap, ◌∙◌, ap₂, arith, length-drop, drop-cons, drop-drop, eq-eqb, eqb-true}
 use mathlib.Core.Bool.{and_assoc, and-true}
 use Rattle.dl_record.proofs.Tests.{same_test}
 use Rattle.optional.proofs.Tests.{and_left, and_right}

@@ -1,5 +1,5 @@
 -- The words of a station fit, part by part. Assumes nothing.
-use Rattle.std.proofs.Common.{◌≡◌, ℕ, ◌+◌, ◌-◌, ◌*◌, ◌^◌, ◌<◌, ◌≤◌, Bool, true, ◌&&◌, ltb, leb, List, ◌++◌, length, get_or, drop, sym, refl, ap, ◌∙◌, ap₂, arith, drop-drop}
+use Rattle.std.proofs.Common.{◌≡◌, ℕ, ◌+◌, ◌*◌, ◌^◌, ◌<◌, ◌≤◌, Bool, true, ◌&&◌, ltb, leb, List, ◌++◌, length, get_or, drop, sym, refl, ap, ◌∙◌, ap₂, arith, drop-drop}
 use mathlib.Core.Bool.{and_assoc, and-true}
 use Rattle.sched_words.specs.Words.{words_of_all, read_all, same_words, time_words, time_from, entry_words, entry_from, words_of_row, row_from, four_from, table_words}
 use Rattle.sched_words.specs.Words.{table_from, station_words, station_read}

@@ -1,5 +1,5 @@
 -- Field by field. Assumes nothing.
-use Rattle.std.proofs.Common.{ap, ◌∙◌, rules}
+use Rattle.std.proofs.Common.{ap, ◌∙◌}
 use Rattle.mac_pdus.specs.declared.OptChanAlloc.{OptChanAlloc}
 use Rattle.sched_words.proofs.WordLaws.{no-alloc, alloc-present}
 use Rattle.sched_words.proofs.queue.alloc_from.Goals as goal

@@ -1,5 +1,4 @@
 -- Arm by arm. Assumes nothing.
-use Rattle.std.proofs.Common.{rules}
 use Rattle.sched_words.proofs.queue.alloc_words.Goals as goal
 
 pub returns : goal.returns

@@ -1,5 +1,4 @@
 -- The words, the record and the cell. Assumes nothing.
-use Rattle.std.proofs.Common.{rules}
 use Rattle.sched_words.proofs.WordsQueue.{filled-place}
 use Rattle.sched_words.proofs.queue.filled_is_sound.Goals as goal
 

@@ -1,5 +1,5 @@
 -- Field by field. Assumes nothing.
-use Rattle.std.proofs.Common.{◌∙◌, rules}
+use Rattle.std.proofs.Common.{◌∙◌}
 use Rattle.dl_record.specs.Record.{offered_record}
 use Rattle.sched_words.specs.Words.{word_at, offered_from}
 use Rattle.sched_words.proofs.queue.offered_from.Goals as goal

@@ -1,5 +1,5 @@
 -- Words that fit are read. Assumes nothing.
-use Rattle.std.proofs.Common.{Bool, cond, sym, ap, ◌∙◌, rules}
+use Rattle.std.proofs.Common.{Bool, cond, sym, ap, ◌∙◌}
 use Rattle.questions.proofs.AskLaws.{said-no, said-yes}
 use Rattle.sched_words.specs.Words.{header_from, illegal_header}
 use Rattle.sched_words.proofs.queue.offered_header.Goals as goal

@@ -1,5 +1,5 @@
 -- The words of the record are stored. Assumes nothing.
-use Rattle.std.proofs.Common.{ℕ, ◌*◌, List, ap, ◌∙◌, rules}
+use Rattle.std.proofs.Common.{ℕ, ◌*◌, List, ap, ◌∙◌}
 use lib.Seq.{sets}
 use Rattle.sched_words.specs.Words.{record_word_count}
 use Rattle.sched_words.proofs.queue.put_record.Goals as goal

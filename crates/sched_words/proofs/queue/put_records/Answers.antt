@@ -1,10 +1,8 @@
 -- What is left to store still gives the words that all n give. Assumes nothing.
-use Rattle.std.proofs.Common.{◌≡◌, ◌+◌, ◌-◌, ◌*◌, ◌≤◌, length, take, drop, sym, refl, ◌∙◌, arith, length-take-le, get_or-take, rules}
-use lib.Seq.{sets}
+use Rattle.std.proofs.Common.{◌≡◌, length, take, sym, refl, ◌∙◌, arith, length-take-le, get_or-take, rules}
 use Rattle.sizes.specs.Sizes.{per_timeslot}
 use Rattle.dl_record.specs.Record.{empty_record}
 use Rattle.dl_queue.proofs.PushLaws.{rec_at}
-use Rattle.sched_words.specs.Words.{record_word_count, queue_words}
 use Rattle.sched_words.proofs.TimeslotWords.{records-start, records-next, records-done}
 use Rattle.sched_words.proofs.queue.put_records.Goals as goal
 
@@ -37,6 +35,3 @@ pub returns : goal.returns
 returns c =
     let a = c.args in
     sym (records-done (take a.n a.records) c.loop-j.words _ c.loop-j.j (omega (arith, c.loop-j.invariant.1))) ∙ c.loop-j.invariant.4
-
-pub loop-j-smaller : goal.loop-j-smaller
-loop-j-smaller c = omega arith

@@ -1,11 +1,8 @@
 -- What is left to store still gives the words that all n give. Assumes nothing.
-use Rattle.std.proofs.Common.{◌≡◌, ◌+◌, ◌-◌, ◌*◌, ◌≤◌, length, take, drop, sym, refl, ◌∙◌, arith, length-take-le, get_or-take, rules}
+use Rattle.std.proofs.Common.{◌≡◌, ◌+◌, ◌-◌, ◌*◌, ◌≤◌, length, take, drop}
 use lib.Seq.{sets}
 use Rattle.sizes.specs.Sizes.{per_timeslot}
-use Rattle.dl_record.specs.Record.{empty_record}
-use Rattle.dl_queue.proofs.PushLaws.{rec_at}
 use Rattle.sched_words.specs.Words.{record_word_count, queue_words}
-use Rattle.sched_words.proofs.TimeslotWords.{records-start, records-next, records-done}
 use Rattle.sched_words.proofs.queue.put_records.Given as goal
 
 abbrev pub invariant-loop-j : goal.invariant-loop-j

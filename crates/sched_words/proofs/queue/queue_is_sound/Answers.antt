@@ -1,7 +1,6 @@
 -- Each place so far is sound, and so is each timeslot; one place that is not decides. Assumes nothing.
-use Rattle.std.proofs.Common.{◌≡◌, ℕ, ◌+◌, ◌-◌, ◌*◌, ◌<◌, ◌≤◌, true, false, ltb, length, get_or, sym, ◌∙◌, arith, rules, below_more, le-ltb, lt-ltb}
-use borrow.Author.Tests.{not-true, not-false}
-use Rattle.sizes.specs.Sizes.{timeslots, per_timeslot}
+use Rattle.std.proofs.Common.{◌≡◌, ℕ, ◌+◌, ◌*◌, true, false, ltb, get_or, sym, ◌∙◌, arith, rules, below_more, le-ltb, lt-ltb}
+use Rattle.sizes.specs.Sizes.{per_timeslot}
 use Rattle.sched_words.proofs.WordsQueue.{sound_at, Timeslot, slots-sound, place-told, too_many, place-fails}
 use Rattle.sched_words.proofs.queue.queue_is_sound.Goals as goal
 

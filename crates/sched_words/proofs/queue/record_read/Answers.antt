@@ -1,5 +1,5 @@
 -- Field by field. Assumes nothing.
-use Rattle.std.proofs.Common.{get_or, rules}
+use Rattle.std.proofs.Common.{get_or}
 use Rattle.sched_words.specs.Words.{record_read}
 use Rattle.sched_words.proofs.queue.record_read.Goals as goal
 

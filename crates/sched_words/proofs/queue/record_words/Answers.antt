@@ -1,5 +1,5 @@
 -- Word by word. Assumes nothing.
-use Rattle.std.proofs.Common.{◌∷◌, rules}
+use Rattle.std.proofs.Common.{◌∷◌}
 use Rattle.sched_words.specs.Words.{record_words}
 use Rattle.sched_words.proofs.WordLaws.{ten-words}
 use Rattle.sched_words.proofs.queue.record_words.Goals as goal

@@ -1,5 +1,5 @@
 -- The first i records are read. Assumes nothing.
-use Rattle.std.proofs.Common.{◌≡◌, ℕ, ◌+◌, ◌-◌, ◌*◌, ◌≤◌, ◌++◌, length, take, drop, replicate, sym, refl, ap, ◌∙◌, arith, length-drop, length-take-le, get_or-drop, get_or-take, rules}
+use Rattle.std.proofs.Common.{◌≡◌, ℕ, ◌+◌, ◌*◌, ◌++◌, length, take, drop, replicate, sym, refl, ap, ◌∙◌, arith, length-drop, length-take-le, get_or-drop, get_or-take, rules}
 use Rattle.sizes.specs.Sizes.{per_timeslot, queue_places}
 use Rattle.dl_record.specs.Record.{empty_record}
 use Rattle.sched_words.specs.Words.{record_word_count, record_read, records_read}
@@ -41,6 +41,3 @@ returns c =
     let e : c.loop-k.k ≡ n = omega arith in
     c.loop-k.invariant.2 ∙ ap (λ (i : ℕ). take i (take per_timeslot (drop c.args.first (records_read c.args.words.now)))
     ++ drop i (replicate per_timeslot empty_record)) e
-
-pub loop-k-smaller : goal.loop-k-smaller
-loop-k-smaller c = omega arith

@@ -1,5 +1,5 @@
 -- The words of the time, and of the entry that is emptied. Assumes nothing.
-use Rattle.std.proofs.Common.{ℕ, ◌+◌, ◌-◌, ◌*◌, List, [], ◌∷◌, ap, ◌∙◌, rules}
+use Rattle.std.proofs.Common.{ℕ, ◌+◌, ◌-◌, ◌*◌, List, [], ◌∷◌, ap, ◌∙◌}
 use lib.Seq.{sets}
 use Rattle.tdma_time.specs.Time.{next_time}
 use Rattle.sched_words.proofs.StationWords.{time-valid, advanced-words}

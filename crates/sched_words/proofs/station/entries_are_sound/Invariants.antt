@@ -1,6 +1,6 @@
 -- What is sound so far, and what is left of the entries, decide. Assumes nothing.
-use Rattle.std.proofs.Common.{◌≡◌, ◌-◌, ◌≤◌, ◌&&◌, refl, ◌∙◌, arith, rules}
-use Rattle.sched_words.proofs.SoundStation.{judged_from, judged-turn, judged-done}
+use Rattle.std.proofs.Common.{◌≡◌, ◌-◌, ◌≤◌, ◌&&◌}
+use Rattle.sched_words.proofs.SoundStation.{judged_from}
 use Rattle.sched_words.proofs.station.entries_are_sound.Given as goal
 
 abbrev pub invariant-loop-i : goal.invariant-loop-i

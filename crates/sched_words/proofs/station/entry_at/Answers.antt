@@ -1,5 +1,5 @@
 -- The entry stands in the row of the timeslot, in the column of the frame. Assumes nothing.
-use Rattle.std.proofs.Common.{ap, ◌∙◌, arith, length-drop, rules}
+use Rattle.std.proofs.Common.{ap, ◌∙◌, arith, length-drop}
 use Rattle.sched_words.specs.Words.{entry_from}
 use Rattle.lists.proofs.Lists.{rest}
 use Rattle.sched_words.proofs.StationWords.{entry-words}

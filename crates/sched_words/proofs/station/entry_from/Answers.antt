@@ -1,5 +1,4 @@
 -- Field by field. Assumes nothing.
-use Rattle.std.proofs.Common.{rules}
 use Rattle.sched_words.proofs.station.entry_from.Goals as goal
 
 pub returns : goal.returns

@@ -1,5 +1,4 @@
 -- With no first half the others are 0, else each is in its range. Assumes nothing.
-use Rattle.std.proofs.Common.{rules}
 use Rattle.sched_words.proofs.SoundStation.{vacant-sound, taken-sound}
 use Rattle.sched_words.proofs.station.entry_is_sound.Goals as goal
 

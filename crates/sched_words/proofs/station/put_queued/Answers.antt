@@ -1,5 +1,5 @@
 -- The last four words. Assumes nothing.
-use Rattle.std.proofs.Common.{ℕ, List, ap, ◌∙◌, rules}
+use Rattle.std.proofs.Common.{ℕ, List, ap, ◌∙◌}
 use lib.Seq.{sets}
 use Rattle.sched_words.proofs.StationWords.{queued-words}
 use Rattle.sched_words.proofs.station.put_queued.Goals as goal

@@ -1,9 +1,7 @@
 -- What is left to store still gives the words that the whole row gives. Assumes nothing.
-use Rattle.std.proofs.Common.{◌≡◌, ◌+◌, ◌-◌, ◌*◌, ◌≤◌, length, drop, sym, refl, ◌∙◌, add-zero, arith, rules}
+use Rattle.std.proofs.Common.{◌≡◌, ◌+◌, ◌-◌, ◌*◌, ◌≤◌, length, drop}
 use lib.Seq.{sets}
-use Rattle.uplink.specs.UplinkEntry.{empty_entry}
-use Rattle.sched_words.specs.Words.{entry_words, words_of_row}
-use Rattle.sched_words.proofs.WordLaws.{length-joined, joined-next, joined-done}
+use Rattle.sched_words.specs.Words.{words_of_row}
 use Rattle.sched_words.proofs.station.put_row.Given as goal
 
 abbrev pub invariant-loop-i : goal.invariant-loop-i

@@ -1,5 +1,5 @@
 -- The words of the counters, of the numbers queued and of the row. Assumes nothing.
-use Rattle.std.proofs.Common.{ℕ, ◌+◌, ◌*◌, List, [], get_or, set, ap, ◌∙◌, ap₂, rules}
+use Rattle.std.proofs.Common.{ℕ, ◌+◌, ◌*◌, List, [], get_or, set, ap, ◌∙◌, ap₂}
 use lib.Seq.{sets}
 use Rattle.uplink.specs.Uplink.{uplink_of}
 use Rattle.uplink.specs.UplinkEntry.{Table}

@@ -1,5 +1,5 @@
 -- One run of words after another. Assumes nothing.
-use Rattle.std.proofs.Common.{◌≡◌, ℕ, List, length, refl, ap, ◌∙◌, subst, rules}
+use Rattle.std.proofs.Common.{◌≡◌, ℕ, List, length, refl, ap, ◌∙◌, subst}
 use lib.Seq.{sets}
 use Rattle.uplink.specs.UplinkEntry.{Table}
 use Rattle.sched_words.specs.Words.{Stored, table_words, station_words}

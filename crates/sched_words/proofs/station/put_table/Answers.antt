@@ -1,5 +1,5 @@
 -- Row after row. Assumes nothing.
-use Rattle.std.proofs.Common.{refl, rules}
+use Rattle.std.proofs.Common.{refl}
 use Rattle.sched_words.proofs.WordLaws.{stored_on}
 use Rattle.sched_words.proofs.station.put_table.Goals as goal
 

@@ -1,5 +1,5 @@
 -- Words of a sound station stand for what is read from them. Assumes nothing.
-use Rattle.std.proofs.Common.{ap, ◌∙◌, rules}
+use Rattle.std.proofs.Common.{ap, ◌∙◌}
 use Rattle.sched_words.specs.Words.{four_from}
 use Rattle.lists.proofs.Lists.{rest}
 use Rattle.sched_words.proofs.StationWords.{counts-read}

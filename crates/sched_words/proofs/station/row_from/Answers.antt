@@ -1,5 +1,5 @@
 -- The first i entries are read. Assumes nothing.
-use Rattle.std.proofs.Common.{◌≡◌, ◌-◌, ◌*◌, ◌≤◌, ◌++◌, take, drop, replicate, sym, refl, ap, ◌∙◌, arith, length-drop, rules}
+use Rattle.std.proofs.Common.{◌*◌, replicate, sym, refl, ap, ◌∙◌, arith, length-drop}
 use Rattle.uplink.specs.UplinkEntry.{empty_entry}
 use Rattle.sched_words.specs.Words.{entry_from, row_from}
 use Rattle.lists.proofs.Lists.{rest}
@@ -26,6 +26,3 @@ pub returns : goal.returns
 returns c =
     let ws = c.args.words.now in
     c.loop-i.invariant.1 ∙ filled-whole c.loop-i.i (row_from ws) (replicate 18 empty_entry) (omega (arith, length-parts entry_from 3 18 ws)) (omega arith)
-
-pub loop-i-smaller : goal.loop-i-smaller
-loop-i-smaller c = omega arith

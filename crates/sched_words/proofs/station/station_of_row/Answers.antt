@@ -1,5 +1,5 @@
 -- Field by field, as the words of a sound station stand for them. Assumes nothing.
-use Rattle.std.proofs.Common.{replicate, ap, ◌∙◌, rules}
+use Rattle.std.proofs.Common.{replicate, ap, ◌∙◌}
 use Rattle.sizes.specs.Sizes.{timeslots}
 use Rattle.uplink.specs.Uplink.{uplink_of}
 use Rattle.sched_core.specs.Station.{station_of}

@@ -1,5 +1,5 @@
 -- The words fit, and the time is in range. Assumes nothing.
-use Rattle.std.proofs.Common.{◌&&◌, ap, ◌∙◌, rules}
+use Rattle.std.proofs.Common.{◌&&◌, ap, ◌∙◌}
 use Rattle.tdma_time.specs.Time.{valid}
 use Rattle.sched_words.proofs.station.time_is_sound.Goals as goal
 

@@ -1,5 +1,5 @@
 -- Words of a sound station stand for what is read from them. Assumes nothing.
-use Rattle.std.proofs.Common.{◌∙◌, rules}
+use Rattle.std.proofs.Common.{◌∙◌}
 use Rattle.sched_words.proofs.StationWords.{time-read}
 use Rattle.sched_words.proofs.station.time_of.Goals as goal
 

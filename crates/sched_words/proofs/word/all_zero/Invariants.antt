@@ -1,7 +1,6 @@
 -- What is or-ed so far is 0, and the rest is zero, exactly if all is zero. Assumes nothing.
-use Rattle.std.proofs.Common.{◌≡◌, ◌-◌, ◌≤◌, ◌&&◌, eqb, length, drop, refl, ◌∙◌, arith, rules}
+use Rattle.std.proofs.Common.{◌≡◌, ◌-◌, ◌≤◌, ◌&&◌, eqb, length, drop}
 use Rattle.dl_sdu_store.specs.Cells.{all_zero}
-use Rattle.dl_sdu_store.proofs.ZeroLaws.{or_turn, none_left}
 use Rattle.sched_words.proofs.word.all_zero.Given as goal
 
 abbrev pub invariant-loop-i : goal.invariant-loop-i

@@ -1,5 +1,4 @@
 -- The last kind is that of every other word. Assumes nothing.
-use Rattle.std.proofs.Common.{rules}
 use Rattle.sched_words.proofs.WordLaws.{started-kind}
 use Rattle.sched_words.proofs.word.kind_of.Goals as goal
 

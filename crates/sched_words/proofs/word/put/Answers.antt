@@ -1,6 +1,5 @@
 -- What is left to store still gives the words that the whole gives. Assumes nothing.
-use Rattle.std.proofs.Common.{◌≡◌, ◌+◌, ◌-◌, ◌≤◌, length, drop, sym, refl, ◌∙◌, add-zero, arith, rules}
-use lib.Seq.{sets}
+use Rattle.std.proofs.Common.{sym, refl, ◌∙◌, add-zero, arith, rules}
 use Rattle.sched_words.proofs.WordLaws.{store-next, store-done}
 use Rattle.sched_words.proofs.word.put.Goals as goal
 
@@ -13,6 +12,3 @@ loop-i-preserved c =
 
 pub returns : goal.returns
 returns c = sym (store-done _ c.args.src.now c.args.at c.loop-i.i (search rules)) ∙ c.loop-i.invariant.2
-
-pub loop-i-smaller : goal.loop-i-smaller
-loop-i-smaller c = omega arith

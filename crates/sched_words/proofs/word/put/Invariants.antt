@@ -1,7 +1,6 @@
 -- What is left to store still gives the words that the whole gives. Assumes nothing.
-use Rattle.std.proofs.Common.{◌≡◌, ◌+◌, ◌-◌, ◌≤◌, length, drop, sym, refl, ◌∙◌, add-zero, arith, rules}
+use Rattle.std.proofs.Common.{◌≡◌, ◌+◌, ◌-◌, ◌≤◌, length, drop}
 use lib.Seq.{sets}
-use Rattle.sched_words.proofs.WordLaws.{store-next, store-done}
 use Rattle.sched_words.proofs.word.put.Given as goal
 
 abbrev pub invariant-loop-i : goal.invariant-loop-i

@@ -1,5 +1,4 @@
 -- A word that is too great, and one that is not. Assumes nothing.
-use Rattle.std.proofs.Common.{rules}
 use Rattle.sched_words.proofs.WordLaws.{saturated-low, saturated-high}
 use Rattle.sched_words.proofs.word.saturated16.Goals as goal
 

@@ -1,0 +1,70 @@
+-- The time, the words, the state, then the entry of the time. Assumes nothing.
+use borrow.Author.Rules.{rules}
+use mathlib.Core.Path.{◌≡◌, ◌∙◌, ap}
+use mathlib.Core.Bool.{true}
+use mathlib.Core.List.{List}
+use Prim.Native.Nat.{ℕ}
+use Rattle.questions.proofs.AskLaws.{said-no, said-yes}
+use Rattle.tdma_time.specs.declared.TdmaTime.{TdmaTime}
+use Rattle.tdma_time.specs.Time.{valid, slot_of}
+use Rattle.tdma_time.proofs.TimeLaws.{true-valid}
+use Rattle.uplink.specs.UplinkEntry.{entry_at}
+use Rattle.sched_core.specs.Questions.{sound_station}
+use Rattle.sched_words.specs.Words.{station_from}
+use Rattle.bs_sched_c.specs.Exports.{time_at, no_owners_struct, entry_owners, owner_answer}
+use Rattle.bs_sched_c.proofs.LeftLaws.{no-time, no-station-then, is-station-then, owner-unsound, owner-yes}
+use Rattle.bs_sched_c.proofs.bs_sched_slot_owner.Goals as goal
+use Rattle.bs_sched_c.proofs.bs_sched_slot_owner.Goals.{After-is_valid, Else-not-is_valid, Else-not-station_is_sound, Start}
+
+abbrev time : Start → TdmaTime
+time s = time_at s.args.h s.args.m s.args.f s.args.t
+
+abbrev words : Start → List ℕ
+words s = s.args.station.now
+
+-- back to the start
+abbrev start : After-is_valid → Start
+start v = v
+
+valid-is : (v : After-is_valid) → v.is_valid.result ≡ valid (time (start v))
+valid-is v = v.is_valid.ensures ∙ ap valid v.time_at-time.ensures
+
+valid-time : (e : Else-not-is_valid) → valid (time (start e)) ≡ true
+valid-time e = said-yes (valid-is e) e.if-not-is_valid.false
+
+sound : (c : Else-not-station_is_sound) → sound_station (station_from (start c).args.station.now) ≡ true
+sound c = said-yes c.station_is_sound.ensures c.if-not-station_is_sound.false
+
+pub returns-then-not-is_valid : goal.returns-then-not-is_valid
+unfolding owner_answer
+returns-then-not-is_valid c =
+    let s = start c in
+    rw (c.no_owners.ensures, c.unsound.ensures) (no-time (words s) _ no_owners_struct (time s) (said-no (valid-is c) c.if-not-is_valid.true))
+
+pub returns-then-station-ne-STATION_WORDS : goal.returns-then-station-ne-STATION_WORDS
+unfolding owner_answer
+returns-then-station-ne-STATION_WORDS c =
+    let s = start c in
+    rw (c.no_owners-then-station-ne-STATION_WORDS.ensures, c.other_length.ensures) (no-station-then (words s) _ no_owners_struct (time s) (valid-time c) c.if-station-ne-STATION_WORDS.true)
+
+pub returns-then-not-station_is_sound : goal.returns-then-not-station_is_sound
+unfolding owner_answer
+returns-then-not-station_is_sound c =
+    let s = start c in
+    is-station-then (words s) _ no_owners_struct (time s) (valid-time c) c.if-station-ne-STATION_WORDS.false
+    (c.no_owners-then-not-station_is_sound.ensures ∙ ap no_owners_struct c.unsound-then-not-station_is_sound.ensures
+    ∙ owner-unsound (station_from s.args.station.now) (time s) (said-no c.station_is_sound.ensures c.if-not-station_is_sound.true))
+
+pub entry_at-e-requires : goal.entry_at-e-requires
+entry_at-e-requires c =
+    (c.if-station-ne-STATION_WORDS.false, sound (goal.at.entry_at-e-requires c).Else-not-station_is_sound, true-valid _ (said-yes c.is_valid.ensures c.if-not-is_valid.false))
+
+pub returns : goal.returns
+unfolding owner_answer
+returns c =
+    let s = start c in
+    let ws = s.args.station.now in
+    let x = ap (λ (y : TdmaTime). entry_at (station_from ws).uplink.rows (slot_of y)) c.time_at-time.ensures in
+    is-station-then (words s) _ no_owners_struct (time s) (valid-time c) c.if-station-ne-STATION_WORDS.false
+    (c.owners_of.ensures ∙ ap entry_owners (c.entry_at-e.ensures ∙ x)
+    ∙ owner-yes (station_from ws) (time s) (sound c) (valid-time c))
