@@ -1,4 +1,4 @@
-// Links libslotrun_c.a, which `tools/static_library.sh slotrun_c` writes.
+// Links libslotrun_c.a, which `sh tools/static_library.sh slotrun_c` writes.
 fn main() {
     let folder = format!("{}/../target/staticlib", std::env::var("CARGO_MANIFEST_DIR").unwrap());
     println!("cargo:rerun-if-changed={folder}/libslotrun_c.a");

@@ -27,18 +27,18 @@ refuses() {
 restore() { cp "$sources/$1" "$1"; }
 
 mkdir "$work/copy"
-cp -r crates crates.txt docs tests tools "$work/copy"
+tar -cf - --exclude='crates/*/out' crates crates.txt docs tests tools | tar -xf - -C "$work/copy"
 cd "$work/copy"
 
 # Entries.
 passes "the sources" tests/entries.sh
-sed -i 's/^pub fn advance(.*/&\n    requires { ⌜ true ≡ true ⌝ }/' crates/bs_sched/src/lib.rt
+sed -i 's/^pub fn advance(.*/&\n    requires { true ≡ true }/' crates/bs_sched/src/lib.rt
 refuses "an entry with a requires" 'advance has a requires' tests/entries.sh
 restore crates/bs_sched/src/lib.rt
-printf '\npub fn more() -> u8\n    ensures { λ r. ⌜ r ≡ 1 ⌝ }\n{\n    1\n}\n' >> crates/bs_sched/src/lib.rt
+printf '\npub fn more() -> u8\n    ensures { result ≡ 1 }\n{\n    1\n}\n' >> crates/bs_sched/src/lib.rt
 refuses "a pub function of bs_sched without a row" 'bs_sched::more is an entry and has no row' tests/entries.sh
 restore crates/bs_sched/src/lib.rt
-printf '\n#[unsafe(no_mangle)]\npub extern "C" fn more() -> u8\n    ensures { λ r. ⌜ r ≡ 1 ⌝ }\n{\n    1\n}\n' >> crates/slotrun_c/src/lib.rt
+printf '\n#[unsafe(no_mangle)]\npub extern "C" fn more() -> u8\n    ensures { result ≡ 1 }\n{\n    1\n}\n' >> crates/slotrun_c/src/lib.rt
 refuses "an export without a row" 'slotrun_c::more is an entry and has no row' tests/entries.sh
 restore crates/slotrun_c/src/lib.rt
 sed -i 's/^| `ul_get_usage` | `bs_sched`.*/&\n| `empty_record` | `bs_sched` | none |/' docs/ARCHITECTURE.md
@@ -55,70 +55,100 @@ row() {
 }
 row 's | `is_valid` | | |'
 refuses "a function as a definition" '`is_valid` in the column Definition is no definition' tests/names.sh
-row 's | | `slotOf` | |'
-refuses "a definition as a function" '`slotOf` in the column Function is no function' tests/names.sh
+row 's | | `slot_of` | |'
+refuses "a definition as a function" '`slot_of` in the column Function is no function' tests/names.sh
 row 's | | | `is_valid` |'
 refuses "a function as a theorem" '`is_valid` in the column Theorem is no theorem' tests/names.sh
-row 's | | | | `slotOf`'
-refuses "a definition as a wrong program" '`slotOf` in the column Wrong_program is no edit' tests/names.sh
+row 's | | | | `slot_of`'
+refuses "a definition as a wrong program" '`slot_of` in the column Wrong_program is no edit' tests/names.sh
 row '`no_such_name` | | | |'
 refuses "a name that nothing has" '`no_such_name` stands nowhere' tests/names.sh
-row 's | `slotOf` | `is_valid` | `valid-true` | `says_nine`'
+row 's | `slot_of` | `is_valid` | `valid-true` | `says_nine`'
 passes "a row with each thing in its column" tests/names.sh
 restore docs/ARCHITECTURE.md
 
-# Axioms, on made-up reports.
-mkdir logs
-for crate in $(sed -nE 's/^([a-z0-9_]+)( staticlib)?:.*/\1/p' crates.txt); do
-    echo 'logic=proved functions=1 sum=0' > "logs/$crate.say"
+# Wrong programs whose text is not there, or is there twice.
+for text in 'no such text' '=>'; do
+    sed -i "s/^old: .*/old: $text/" crates/questions/must-fail/too_late_is_9.edit
+    refuses "a wrong program that replaces $text" 'too_late_is_9.edit: its text does not stand once' tests/wrong_apply.sh
+    restore crates/questions/must-fail/too_late_is_9.edit
 done
-# report CRATE AXIOMS COUNT
-report() { printf 'axioms %s\nlogic=proved functions=1 axioms=%s sum=0\n' "$2" "$3" > "logs/$1.say"; }
-report slotrun 'libc: libc::read, libc::write (2 of the 50 declared)' 2
-passes "libc's axioms in a program" tests/after/axioms.sh logs
-report slotrun 'libc: libc::read, libc::write (2 of the 50 declared)' 3
-refuses "an axiom that is not named" 'slotrun: 3 axioms are counted' tests/after/axioms.sh logs
-report slotrun 'other: other::assumed (1 of the 1 declared)' 1
-refuses "another axiom in a program" 'slotrun rests on other::assumed' tests/after/axioms.sh logs
-echo 'logic=proved functions=1 foreign=slotrun::assumed sum=0' > logs/slotrun.say
-refuses "a C function of a program's own" 'slotrun declares C functions' tests/after/axioms.sh logs
-echo 'logic=not-proved' > logs/slotrun.say
-refuses "a program that is not proved" 'slotrun: no report' tests/after/axioms.sh logs
-rm logs/slotrun.say
-refuses "a crate without a report" 'slotrun: no report' tests/after/axioms.sh logs
-echo 'logic=proved functions=1 sum=0' > logs/slotrun.say
-report ul_search 'libc: libc::read (1 of the 50 declared)' 1
-refuses "an axiom in a library" 'ul_search is a library' tests/after/axioms.sh logs
 
-# The logs of wrong programs, made up of stored ones.
+# Axioms, on made-up words of `rt ci`: a part for each crate, that of slotrun, or of another, with other axioms.
+library_of() { printf '== %s\nlogic=proved functions=1 sum=0\nrt: %s proved\n' "$1" "$1"; }
+for crate in $(sed -nE 's/^([a-z0-9_]+)( staticlib)?:.*/\1/p' crates.txt); do
+    library_of "$crate"
+done > all
+# report CRATE LINE..: the lines of its part
+report() {
+    crate=$1
+    shift
+    awk -v head="== $crate" '$0 == head { skip = 3 } skip { skip--; next } 1' all > said
+    {
+        echo "== $crate"
+        printf '%s\n' "$@"
+        echo "rt: $crate proved"
+    } >> said
+}
+two='axioms libc: libc::read, libc::write (2 of the 50 declared)'
+report slotrun "$two" 'logic=proved functions=1 axioms=2 sum=0'
+passes "libc's axioms in a program" tests/after/axioms.sh said
+report slotrun "$two" 'axioms std: none reached of the 2 declared' 'logic=proved functions=1 axioms=3 sum=0'
+refuses "an axiom that is not named" 'slotrun: 3 axioms are counted' tests/after/axioms.sh said
+report slotrun 'axioms other: other::assumed (1 of the 1 declared)' 'logic=proved functions=1 axioms=1 sum=0'
+refuses "another axiom in a program" 'slotrun rests on axioms of other' tests/after/axioms.sh said
+report slotrun 'logic=proved functions=1 foreign=slotrun::assumed sum=0'
+refuses "a C function of a program's own" 'slotrun declares C functions' tests/after/axioms.sh said
+report slotrun 'logic=not-proved'
+refuses "a program that is not proved" 'slotrun: no report' tests/after/axioms.sh said
+sed '/^== slotrun$/,/^rt: slotrun proved$/d' all > said
+refuses "a crate without a report" 'slotrun: no report' tests/after/axioms.sh said
+echo 'rt: slotrun is kept: an earlier run on this machine proved the same files over the same libraries' >> said
+passes "a crate that is kept" tests/after/axioms.sh said
+report ul_search "$two" 'logic=proved functions=1 axioms=2 sum=0'
+refuses "an axiom in a library" 'ul_search is a library' tests/after/axioms.sh said
+
+# The lines on wrong programs, made up of stored ones.
+fact=$(cat tests/logs/fact/omega.log)
+# as_told EDIT LINE: the stored line, said of the edit CRATE/NAME.edit.
+as_told() { echo "$2" | sed "s|^rt: must-fail [^ ]*:|rt: must-fail $1:|"; }
+count_of_edits=$(ls crates/*/must-fail/*.edit | wc -l)
 for edit in crates/*/must-fail/*.edit; do
     crate=${edit#crates/}
-    name=${edit##*/}
-    last=refused/${crate%%/*}/${name%.edit}
-    mkdir -p "$last"
-    cp tests/logs/fact/omega.log "$last/.log"
+    last=${crate%%/*}/${edit##*/}
+    as_told "$last" "$fact"
+done > all
+passes "a fact for each edit" tests/after/refused_by_a_fact.sh all
+sed '$d' all > but_one
+for unfit in tests/logs/unfit/*.log; do
+    if ! grep -q '^rt: must-fail ' "$unfit"; then continue; fi
+    { cat but_one; as_told "$last" "$(head -n 1 "$unfit")"; } > said
+    refuses "an edit that is not refused by a fact, $unfit" "not by a fact: $last" tests/after/refused_by_a_fact.sh said
 done
-passes "a log of a fact for each edit" tests/after/refused_by_a_fact.sh refused
-cp tests/logs/unfit/pattern.log "$last/.log"
-refuses "an edit that is not refused by a fact" "not by a fact: $last" tests/after/refused_by_a_fact.sh refused
-rm "$last/.log"
-refuses "an edit without a log" "no log: $last" tests/after/refused_by_a_fact.sh refused
-mkdir -p refused/other/other
-cp tests/logs/fact/omega.log "$last/.log"
-cp tests/logs/fact/omega.log refused/other/other/.log
-refuses "a log of another edit" 'logs in refused for' tests/after/refused_by_a_fact.sh refused
-refuses "no logs" 'refused by a fact: 0 logs' tests/after/refused_by_a_fact.sh
+refuses "an edit of which nothing is said" "not tried: $last" tests/after/refused_by_a_fact.sh but_one
+{ cat all; as_told other/other.edit "$fact"; } > said
+refuses "a line on another edit" 'it is there: other/other.edit' tests/after/refused_by_a_fact.sh said
+: > said
+refuses "nothing said" 'refused by a fact: 0 edits were tried' tests/after/refused_by_a_fact.sh said
+# says_ok REFUSED: the line that `rt ci` ends with.
+says_ok() { echo "rt: ok; handles allowed: none; must-fail edits: $1; every proof and must-fail edit was done in this run" > said; }
+says_ok "$count_of_edits refused"
+passes "as many refused as there are" tests/after/ok.sh said
+says_ok "$((count_of_edits - 1)) refused, 1 bad"
+refuses "a bad edit" "there are $count_of_edits must-fail edits" tests/after/ok.sh said
+says_ok "$((count_of_edits - 1)) refused"
+refuses "an edit that is gone" "there are $count_of_edits must-fail edits" tests/after/ok.sh said
+: > said
+refuses "no last line" 'rt ci says: nothing' tests/after/ok.sh said
 
-# Wrong programs beside the gate, with a check that leaves a stored log for each and ends as it is told.
-mkdir bin target
+# Wrong programs beside the gate, with a check that says a stored line of each and ends as it is told.
+mkdir bin
 cat > bin/rt << 'END'
 #!/bin/sh
 [ "$1" = must-fail ] || exit 0
 for edit in "crates/$2/must-fail"/*.edit; do
-    mkdir -p "target/must-fail/$2/$(basename "$edit" .edit)"
-    cp "$STORED" "target/must-fail/$2/$(basename "$edit" .edit)/.log"
+    sed "s|^rt: must-fail [^ ]*:|rt: must-fail $2/${edit##*/}:|" "$STORED"
 done
-echo 'rt: as told'
 exit "$ENDS"
 END
 chmod +x bin/rt
@@ -127,8 +157,10 @@ export PATH STORED ENDS
 passes "wrong programs refused by a fact" tests/beside/wrong_programs.sh questions
 ENDS=1
 refuses "a wrong program that is not refused" 'not all are refused' tests/beside/wrong_programs.sh questions
-ENDS=0 STORED=$PWD/tests/logs/unfit/pattern.log
+ENDS=0 STORED=$PWD/tests/logs/unfit/names.log
 refuses "a wrong program that is not refused by a fact" 'not by a fact: ' tests/beside/wrong_programs.sh questions
+STORED=/dev/null
+refuses "a wrong program that is not tried" 'not tried: ' tests/beside/wrong_programs.sh questions
 
 # Answers to streams: one stream, in line 14 of which W-201's rule arises, a program that prints a stored answer and one that says where.
 find tests/oracle -type f ! -name 'two_started.*' ! -name '*.sh' -delete

@@ -17,7 +17,7 @@ done
 
 # What there is: KIND NAME.
 {
-    find crates \( -path '*/specs/*.antt' -o -path '*/proofs/*.antt' \) -print0 | xargs -0 awk '
+    find crates -name out -prune -o \( -path '*/specs/*.antt' -o -path '*/proofs/*.antt' \) -print0 | xargs -0 awk '
         /^[^ ]/ { in_data = 0 }
         /^ *(--|use |mod )/ { next }
         {
@@ -40,7 +40,7 @@ done
         }' crates/*/src/*.rt
     find crates tests/wrong -name '*.edit' | sed 's|.*/||; s|\.edit$||; s|^|edit |'
     sed -nE 's/^([a-z0-9_]+)( staticlib)?:.*/crate \1/p' crates.txt
-    find crates \( -name '*.rt' -o -name '*.antt' -o -name '*.edit' \) -print0 | xargs -0 grep -hoE '[A-Za-z0-9_-]+' | awk '!seen[$0]++ { print "any", $0 }'
+    find crates -name out -prune -o \( -name '*.rt' -o -name '*.antt' -o -name '*.edit' \) -print0 | xargs -0 grep -hoE '[A-Za-z0-9_-]+' | awk '!seen[$0]++ { print "any", $0 }'
 } > "$work/there"
 
 # What is named: DOCUMENT:LINE COLUMN KIND NAME.

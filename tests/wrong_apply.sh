@@ -5,19 +5,37 @@ set -eu
 cd "$(dirname "$0")/.."
 bad=0
 
-# fits CRATE EDIT
+# fits CRATE EDIT: each text is there once, in what the pairs before it made.
 fits() {
-    while IFS= read -r line; do
-        case $line in
-        'file: '*) file=crates/$1/${line#file: } ;;
-        'old: '*)
-            if [ "$(grep -cF -- "${line#old: }" "$file")" != 1 ]; then
-                echo "wrong programs: $2: its text does not stand in one line of $file"
-                bad=1
-            fi
-            ;;
-        esac
-    done < "$2"
+    awk -v crate="crates/$1" -v edit="$2" '
+        function count_of(text, piece,    n, at) {
+            while ((at = index(text, piece)) > 0) {
+                n++
+                text = substr(text, at + 1)
+            }
+            return n + 0
+        }
+        function read(file,    line, all) {
+            while ((getline line < file) > 0) all = all line "\n"
+            close(file)
+            return all
+        }
+        /^file: / {
+            file = crate "/" substr($0, 7)
+            if (!(file in text)) text[file] = read(file)
+        }
+        /^old: / {
+            old = substr($0, 6)
+            if (count_of(text[file], old) != 1) {
+                print "wrong programs: " edit ": its text does not stand once in " file
+                bad = 1
+            }
+        }
+        /^new: / {
+            at = index(text[file], old)
+            text[file] = substr(text[file], 1, at - 1) substr($0, 6) substr(text[file], at + length(old))
+        }
+        END { exit bad }' "$2" || bad=1
 }
 
 gate=0

@@ -3,12 +3,12 @@
 # for, for those of tests/oracle/differences. A stream in which the rule of document 02, W-201, arises is held to the Rust up to the first
 # block in which it does, and over all to its answer in tests/oracle/w201. Which streams these are the program `as_document_01` says.
 # docs/DIFFERENCES.md says how the answers were made. It prints only what is wrong, and with a program named also how many streams agree.
-# usage: oracle_answers.sh [PROGRAM [ASKED]]     in the place of target/bin/slotrun and target/bin/as_document_01
+# usage: oracle_answers.sh [PROGRAM [ASKED]]     in the place of those that `rt ci` left in crates/*/out
 set -eu
 cd "$(dirname "$0")/../.."
 title=oracle
-program=${1:-target/bin/slotrun}
-asked=${2:-target/bin/as_document_01}
+program=${1:-crates/slotrun/out/slotrun}
+asked=${2:-crates/as_document_01/out/as_document_01}
 . tests/oracle/as_the_rust.sh
 [ -x "$program" ] || wrong "$program is not there"
 [ -x "$asked" ] || wrong "$asked is not there"

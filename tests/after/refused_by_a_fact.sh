@@ -1,26 +1,26 @@
 #!/bin/sh
-# Run behind `rt ci`: there is a log for each must-fail edit and no other, and each says that the edit was refused because a fact no
-# longer holds, and not because a proof file no longer fits the code (tools/fact.sh). It prints only what is wrong, and with a folder
-# named also how many logs it read.
-# usage: refused_by_a_fact.sh [LOGS]     LOGS: in the place of target/must-fail
+# Run behind `rt ci`, on what it printed: it says of each must-fail edit, in a line of its own, by what it was refused, and that is a fact that
+# no longer holds, and not a proof file that no longer fits the code (tools/fact.sh). It prints only what is wrong.
+# usage: refused_by_a_fact.sh [LOG]     LOG: what `rt ci` printed, in the place of the file that the variable LOG names
 set -eu
 cd "$(dirname "$0")/../.."
-logs=${1:-target/must-fail}
-set --
+log=${1:-$LOG}
+work=$(mktemp -d)
+trap 'rm -rf "$work"' EXIT
 for edit in crates/*/must-fail/*.edit; do
     crate=${edit#crates/}
-    name=${edit##*/}
-    set -- "$@" "$logs/${crate%%/*}/${name%.edit}/.log"
-done
+    echo "${crate%%/*}/${edit##*/}"
+done | sort > "$work/edits"
+sed -nE 's/^rt: must-fail ([^ ]*): .*/\1/p' "$log" | sort > "$work/tried"
 bad=0
-found=$(find "$logs" -name .log 2> /dev/null | wc -l)
-if [ "$found" != $# ]; then
-    echo "refused by a fact: $found logs in $logs for $# edits"
+if ! diff "$work/edits" "$work/tried" > "$work/differ"; then
+    echo "refused by a fact: $(wc -l < "$work/tried") edits were tried, and there are $(wc -l < "$work/edits"):"
+    sed -nE 's/^< (.*)/not tried: \1/p; s/^> (.*)/tried once more than it is there: \1/p' "$work/differ"
     bad=1
 fi
-said=$(sh tools/fact.sh "$@") || bad=1
+grep '^rt: must-fail ' "$log" > "$work/lines" || true
+said=$(sh tools/fact.sh "$work/lines") || bad=1
 if [ "$bad" != 0 ]; then
     echo "$said" | grep -E '^(no log|not by a fact): ' || true
     exit 1
 fi
-[ "$logs" = target/must-fail ] || echo "refused by a fact: all $# edits of crates/*/must-fail, as their logs say"

@@ -2,15 +2,16 @@
 # Beside the gate: `slotrun` and the published Rust on 2,000 fresh random streams of 300 commands, each up to the first block in which the
 # rule of document 02, W-201, arises; the program `as_document_01` says where. It needs cargo and the published files (published.sh);
 # where they are absent it says so and does nothing.
-# usage: fresh_streams.sh [SEED [COUNT [PROGRAM [ASKED]]]]     the streams of the seeds SEED, SEED + 1, ..
+# usage: fresh_streams.sh [SEED [COUNT [PROGRAM [ASKED]]]]     the streams of the seeds SEED, SEED + 1, ..; the programs are those that `rt ci` or
+# `rt run` left in crates/*/out
 set -eu
 cd "$(dirname "$0")/../.."
 . tests/beside/published.sh
 title="fresh streams"
 seed=${1:-$(od -An -N4 -tu4 /dev/urandom | tr -d ' ')}
 count=${2:-2000}
-program=${3:-target/bin/slotrun}
-asked=${4:-target/bin/as_document_01}
+program=${3:-crates/slotrun/out/slotrun}
+asked=${4:-crates/as_document_01/out/as_document_01}
 . tests/oracle/as_the_rust.sh
 [ -x "$program" ] || wrong "$program is not there"
 [ -x "$asked" ] || wrong "$asked is not there"

@@ -2,7 +2,7 @@
 """Beside the gate: what would notice a wrong definition? A proof says that code equals its definition, so a definition that is wrong, and code
 that is wrong with it, is noticed only by results from outside. For each row of noticed.txt a wrong version of the code (an edit of
 crates/*/must-fail or tests/wrong) is built without proof and run by the program of the row, which must print something else than it should.
-`streams` is slotrun on the streams of tests/oracle, one after another, with the Rust's answers, or those of tests/oracle/w201.
+`streams` is slotrun on each stream of tests/oracle, with the Rust's answers, or those of tests/oracle/w201.
 usage: noticed.py [NAME..]     the rows whose edit has one of these names (all)
 """
 import glob
@@ -14,27 +14,35 @@ import sys
 import tempfile
 
 root = os.path.dirname(os.path.dirname(os.path.dirname(os.path.abspath(__file__))))
-expected = 'native program at -O0 ended and wrote what is expected'
 
 
-def streams():
-    """One input of all streams that do not end with E, each on a new station with the stage cleared, and what must be printed."""
-    given, printed = b'', b''
+def write(path, octets):
+    with open(path, 'wb') as f:
+        f.write(octets)
+
+
+def streams(folder):
+    """A case for `rt try` of each stream: its octets, and what must be printed."""
     for name in sorted(glob.glob(root + '/tests/oracle/*.hex') + glob.glob(root + '/tests/oracle/differences/*.hex')):
-        by_w201 = f'{root}/tests/oracle/w201/{os.path.basename(name)[:-4]}.out'
-        out = open(by_w201 if os.path.exists(by_w201) else name[:-4] + '.out', 'rb').read()
-        if out.endswith(b'E\n'):
-            continue
-        octets = bytes.fromhex(''.join(re.sub('#.*', '', line) for line in open(name)))
-        if octets[:1] != b'\x54':
-            given += bytes.fromhex('540000010101')
-            printed += b'T 0\n'
-        for i in range(8):
-            given += b'\x53' + bytes([i]) + bytes(32)
-            printed += b'S 0\n'
-        given += octets
-        printed += out
-    return given, printed
+        case = os.path.basename(name)[:-4]
+        by_w201 = f'{root}/tests/oracle/w201/{case}.out'
+        out = by_w201 if os.path.exists(by_w201) else name[:-4] + '.out'
+        write(f'{folder}/{case}', bytes.fromhex(''.join(re.sub('#.*', '', line) for line in open(name))))
+        shutil.copy(out, f'{folder}/{case}.stdout')
+
+
+def cases(program, work):
+    """The folder of the cases of a row's program."""
+    folder = f'{work}/cases/{program}'
+    if not os.path.exists(folder):
+        os.makedirs(folder)
+        if program == 'streams':
+            streams(folder)
+        else:
+            given = f'{root}/crates/{program}/stdin'
+            write(f'{folder}/it', open(given, 'rb').read() if os.path.exists(given) else b'')
+            shutil.copy(f'{root}/crates/{program}/stdout', f'{folder}/it.stdout')
+    return folder
 
 
 def edited(edit, crate, work):
@@ -57,21 +65,19 @@ def edited(edit, crate, work):
 
 def notices(program, work):
     """Whether the program prints something else than it should. A version that does not compile is no answer."""
-    ran = subprocess.run(['rt', 'try', 'slotrun' if program == 'streams' else program], cwd=work, capture_output=True, text=True)
+    where = f"{work}/crates/{'slotrun' if program == 'streams' else program}"
+    ran = subprocess.run(['rt', 'try', '--cases', cases(program, work)], cwd=where, capture_output=True, text=True)
     said = ran.stdout + ran.stderr
-    if 'native program at -O0' not in said:
+    if not re.search('^cases=', said, re.M):
         sys.exit(f'noticed: {program} was not built: {said[-300:]}')
-    return expected not in said
+    return ran.returncode != 0
 
 
 def main():
     work = tempfile.mkdtemp()
     try:
-        shutil.copytree(root + '/crates', work + '/crates')
+        shutil.copytree(root + '/crates', work + '/crates', ignore=shutil.ignore_patterns('out'))
         shutil.copy(root + '/crates.txt', work)
-        given, printed = streams()
-        open(work + '/crates/slotrun/stdin', 'wb').write(given)
-        open(work + '/crates/slotrun/stdout', 'wb').write(printed)
         rows = [line.split() for line in open(root + '/tests/beside/noticed.txt') if line.strip() and not line.startswith('#')]
         bad = count = 0
         for program in sorted({row[1] for row in rows}):

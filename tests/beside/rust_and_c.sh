@@ -1,12 +1,12 @@
 #!/bin/sh
 # Beside the gate: the Rust crate's tests with its examples, and C programs over include/bs_sched.h, as C and as C++, on
-# target/staticlib/libbs_sched_c.a, which `tools/static_library.sh bs_sched_c` writes. It needs cargo and a C and C++ compiler. Where valgrind is
+# target/staticlib/libbs_sched_c.a, which `sh tools/static_library.sh bs_sched_c` writes. It needs cargo and a C and C++ compiler. Where valgrind is
 # there, the C program and the Rust tests of single calls run under it too.
 set -eu
 cd "$(dirname "$0")/../.."
 library=$PWD/target/staticlib
 archive=$library/libbs_sched_c.a
-[ -f "$archive" ] || { echo "rust and c: run tools/static_library.sh bs_sched_c first"; exit 1; }
+[ -f "$archive" ] || { echo "rust and c: run sh tools/static_library.sh bs_sched_c first"; exit 1; }
 work=$(mktemp -d)
 trap 'rm -rf "$work"' EXIT
 

@@ -1,6 +1,6 @@
 #!/bin/sh
 # Beside the gate: the published Rust answers the streams of tests/oracle anew. Then it stands beside libbs_sched_c.a, which
-# `tools/static_library.sh bs_sched_c` writes to target/staticlib (BS_SCHED_LIB names another folder), in any history, on any uplink table and on any
+# `sh tools/static_library.sh bs_sched_c` writes to target/staticlib (BS_SCHED_LIB names another folder), in any history, on any uplink table and on any
 # queue: the same calls, and all that the two hold compared. It needs cargo and the published files (published.sh); where they are
 # absent it says so and does nothing.
 # usage: rust_beside.sh [SEED [TIMES]]     TIMES: so many times as many histories, tables, queues and headers (1)
@@ -9,7 +9,7 @@ cd "$(dirname "$0")/../.."
 . tests/beside/published.sh
 BS_SCHED_LIB=${BS_SCHED_LIB:-$PWD/target/staticlib}
 export BS_SCHED_LIB
-[ -f "$BS_SCHED_LIB/libbs_sched_c.a" ] || { echo "rust beside: run tools/static_library.sh bs_sched_c first"; exit 1; }
+[ -f "$BS_SCHED_LIB/libbs_sched_c.a" ] || { echo "rust beside: run sh tools/static_library.sh bs_sched_c first"; exit 1; }
 seed=${1:-$(od -An -N4 -tu4 /dev/urandom | tr -d ' ')}
 times=${2:-1}
 work=$(mktemp -d)

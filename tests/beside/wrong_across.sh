@@ -12,8 +12,7 @@ for name in "$@"; do
     edit=$PWD/tests/across/$name.edit
     by=$(sed -n 's/^refused by: //p' "$edit")
     rm -rf "$work/crates" "$work/crates.txt"
-    cp -a crates crates.txt "$work"
-    [ -d "$work/target" ] || cp -a target "$work"
+    tar -cf - --exclude='crates/*/out' crates crates.txt | tar -xf - -C "$work"
     (cd "$work/crates/$(sed -n 's/^in: //p' "$edit")" && python3 - "$edit" <<'END'
 import sys
 name = old = None
@@ -29,7 +28,11 @@ for line in open(sys.argv[1]).read().splitlines():
         open(name, 'w').write(text.replace(old, value))
 END
     )
-    if (cd "$work" && rt check "$by") > "$work/log" 2>&1; then
+    # The crate that is edited still proves, and those between.
+    for below in $(sed -n "s/^$by[^:]*://p" crates.txt); do
+        (cd "$work/crates/$below" && rt lib) > "$work/log" 2>&1 || { echo "$name: refused below $by, by $below"; status=1; continue 2; }
+    done
+    if (cd "$work/crates/$by" && rt check) > "$work/log" 2>&1; then
         echo "$name: NOT REFUSED by $by"
         status=1
     elif said=$(sh tools/fact.sh "$work/log"); then

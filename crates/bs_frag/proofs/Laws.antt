@@ -19,7 +19,8 @@ use Rattle.mac_pdus.specs.Headers.{resource_bits, frag_bits, end_bits, header_bi
 use Rattle.mac_reader.specs.PduList.{Pdu, header, body, pdu_bits, block_bits}
 use Rattle.dl_record.specs.declared.Record.{Record}
 use Rattle.dl_record.specs.Kind.{is_started}
-use Rattle.bs_frag.specs.NextPdu.{fill_flag, header_of, header_size, whole_pdu, first_pdu, frag_pdu, end_pdu, end_octets, Next, begin_with, begin, continue, next}
+use Rattle.bs_frag.specs.NextPdu.{fill_flag, header_of, header_size, whole_pdu, first_pdu, frag_pdu, end_pdu, end_octets, Next, begin_with, begin, continue}
+use Rattle.bs_frag.specs.NextPdu.{next}
 use Rattle.bs_frag.specs.NextPdu.{sdu_at, Chunked}
 use Rattle.bs_frag.specs.declared.ChunkOutcome.{ChunkOutcome}
 use Rattle.bs_frag.specs.declared.ChunkOutcome.TheVariants.{Finished, Waiting, Started}

@@ -1,5 +1,6 @@
 -- A record's next PDU in the room that is left in a block: document 01, section "Block", and document 02, W-201. Assumes nothing.
-use Rattle.std.specs.Prelude.{◌≡◌, Bool, true, ◌||◌, not, cond, List, [], ◌∷◌, ◌++◌, ℕ, zero, suc, ◌+◌, ◌-◌, ◌*◌, ◌/◌, ◌^◌, ◌<◌, ◌≤◌, min, leb, ltb, length, take}
+use Rattle.std.specs.Prelude.{◌≡◌, Bool, true, ◌||◌, not, cond, List, [], ◌∷◌, ◌++◌, ℕ, zero, suc, ◌+◌, ◌-◌, ◌*◌, ◌/◌, ◌^◌, ◌<◌, ◌≤◌, min, leb, ltb, length}
+use Rattle.std.specs.Prelude.{take}
 use Rattle.sizes.specs.Sizes.{sdu_bits, block_width}
 use Rattle.bitbuffer.specs.Bits.{bits_of, part, Wrote}
 use Rattle.fillbits.specs.Fill.{fill_wanted, fill_bits}

@@ -69,11 +69,13 @@ module _ (ns : List ℕ) (rs : List Record) (s : List ℕ) (t : ℕ) (inside : t
       (left-all OctetItem (λ k n x q. q) cell_sdu true block_width (in_order (merge_cells own))
       (order-all OctetItem (merge_cells own)
       (merge-all (always zero_cell) keep OctetItem (λ g x k t p q. q) (λ g k p. zero-octets) own
-      (queue-octets (get_or ns t 0) (drop (per_timeslot * t) rs) (drop (cell_octets * (per_timeslot * t)) s) (octets-drop (cell_octets * (per_timeslot * t)) s h)))))
+      (queue-octets (get_or ns t 0) (drop (per_timeslot * t) rs) (drop (cell_octets * (per_timeslot * t)) s)
+      (octets-drop (cell_octets * (per_timeslot * t)) s h)))))
 
   -- the four lists after a build; the memory stays sound
   pub build-holds : Octets s
-      → HoldsQueues (set (queues_of ns rs s) t (built_of ns rs s t).left) (with_queue ns rs t (built_of ns rs s t).left) (with_cells s t (built_of ns rs s t).left)
+      → HoldsQueues (set (queues_of ns rs s) t (built_of ns rs s t).left) (with_queue ns rs t (built_of ns rs s t).left)
+      (with_cells s t (built_of ns rs s t).left)
   build-holds h =
       record {
         lists = queues-set ns rs s t (built_of ns rs s t).left inside (λ u h. (queue-at ns rs s sound u h).0) places size few cells;
@@ -82,7 +84,9 @@ module _ (ns : List ℕ) (rs : List Record) (s : List ℕ) (t : ℕ) (inside : t
       }
 
   -- the block reads as the headers of the PDUs that were written, at their positions
-  pub build-read : read_block block_octets (block_of block_octets (block_bits (built_of ns rs s t).pdus)) ≡ reply_of (headers (placed 0 (built_of ns rs s t).pdus))
+  pub build-read : read_block block_octets (block_of block_octets (block_bits (built_of ns rs s t).pdus))
+      ≡ reply_of (headers (placed 0 (built_of ns rs s t).pdus))
   unfolding built_of built_from build_list merged_queue
   build-read =
-      built-read cell_sdu block_octets true (in_order (merged_queue ns rs s t)) (omega arith) (omega arith) (all-loaded (in_order (merged_queue ns rs s t)) taken)
+      built-read cell_sdu block_octets true (in_order (merged_queue ns rs s t)) (omega arith) (omega arith)
+      (all-loaded (in_order (merged_queue ns rs s t)) taken)

@@ -68,7 +68,8 @@ module _ (d : List ℕ) (first : ℕ) (s fs : List ℕ) (room : cell_octets * fi
   copy-turn h = turn (drop (cell_octets * get_or fs p 0) s) (source-place s (get_or fs p 0) h)
 
   pub zero_turn : per_timeslot ≤ get_or fs p 0
-      → paste l (cell_octets * first + cell_octets * p) (replicate cell_octets 0) cell_octets ≡ paste d (cell_octets * first) (arranged s fs) (cell_octets * (p + 1))
+      → paste l (cell_octets * first + cell_octets * p) (replicate cell_octets 0) cell_octets
+      ≡ paste d (cell_octets * first) (arranged s fs) (cell_octets * (p + 1))
   unfolding zero_cell
   zero_turn h = turn (replicate cell_octets 0) (zero-take (replicate cell_octets 0) refl ∙ source-none s (get_or fs p 0) h)
 

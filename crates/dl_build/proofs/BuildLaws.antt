@@ -66,7 +66,8 @@ module _ {C : Type 0} (fresh : Item C → C) (join : Item C → C → C) where
   pub merge-kept : (xs : List (Item C)) → All Kept (merge fresh join xs)
   unfolding merge
   merge-kept xs =
-      puts-kept (only is_grant_or_ack xs) (only is_kept xs) (all-weaken _ Kept (λ x q. q.1) (only is_kept xs) (only-all (λ (x : Item C). Unit) is_kept xs (any xs)))
+      puts-kept (only is_grant_or_ack xs) (only is_kept xs) (all-weaken _ Kept (λ x q. q.1) (only is_kept xs)
+      (only-all (λ (x : Item C). Unit) is_kept xs (any xs)))
 
 stored-all : (xs : List (Item (List ℕ))) → All Kept xs → All SoundItem xs → All OneCell xs → All StoredItem xs
 stored-all [] a b c = tt
@@ -110,7 +111,8 @@ module _ (n : ℕ) (rs : List Record) (s : List ℕ) (few : n ≤ per_timeslot) 
       (order-all OneCell (merge_cells (queue_of n rs s)) (cells-each (merge_cells (queue_of n rs s)) own-cells)))
 
   -- behind the first n places there is nothing before a build and nothing after it
-  pub built-behind : (w : ℕ) → Octets s → drop (cell_octets * n) (cells_of per_timeslot (built_from w n rs s).left) ≡ drop (cell_octets * n) (take timeslot_octets s)
+  pub built-behind : (w : ℕ) → Octets s → drop (cell_octets * n) (cells_of per_timeslot (built_from w n rs s).left)
+      ≡ drop (cell_octets * n) (take timeslot_octets s)
   built-behind w o =
       cells-behind per_timeslot n (built_from w n rs s).left (built-few w) few (built-cells w)
       ∙ sym

@@ -125,5 +125,10 @@ build-writes ns rs s t inside places size sound some =
     let own : List (Item (List ℕ)) = queue_of (get_or ns t 0) (drop (per_timeslot * t) rs) (drop (cell_octets * (per_timeslot * t)) s) in
     let stored = merged-stored ns rs s t inside places size sound in
     let many =
-    merge-some (always zero_cell) keep own (omega (arith, length-queue (get_or ns t 0) (drop (per_timeslot * t) rs) (drop (cell_octets * (per_timeslot * t)) s))) in
-    send-writes block_width (in_order (merge_cells own)) (omega arith) (order-all StoredItem (merge_cells own) stored) (order-some (merge_cells own) stored many)
+    merge-some (always zero_cell) keep own (omega (
+      arith,
+      length-queue (get_or ns t 0) (drop (per_timeslot * t) rs)
+          (drop (cell_octets * (per_timeslot * t)) s),
+    )) in
+    send-writes block_width (in_order (merge_cells own)) (omega arith) (order-all StoredItem (merge_cells own) stored)
+    (order-some (merge_cells own) stored many)

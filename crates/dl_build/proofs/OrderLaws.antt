@@ -188,4 +188,5 @@ order-all P xs h =
 pub order-map : {C D : Type 0} (f : Record → C → D) (xs : List (Item C)) → map (reload f) (in_order xs) ≡ in_order (map (reload f) xs)
 unfolding in_order
 order-map {C} {D} f xs =
-    map-append (reload f) (only is_underway xs) (only is_record xs) ∙ ap₂ (λ (a b : List (Item D)). a ++ b) (only-map f is_underway xs) (only-map f is_record xs)
+    map-append (reload f) (only is_underway xs) (only is_record xs)
+    ∙ ap₂ (λ (a b : List (Item D)). a ++ b) (only-map f is_underway xs) (only-map f is_record xs)

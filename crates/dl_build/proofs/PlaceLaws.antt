@@ -106,7 +106,8 @@ take-bits_of zero s = refl
 take-bits_of (suc n) [] = let e : 8 * suc n ≡ suc (8 * n + 7) = omega arith in ap (λ (k : ℕ). take k []) e
 take-bits_of (suc n) (x ∷ s) =
     let e : 8 * suc n ≡ length (value_bits 8 x) + 8 * n = omega (arith, length-value_bits 8 x) in
-    ap (λ (k : ℕ). take k (value_bits 8 x ++ bits_of s)) e ∙ take-append-add (value_bits 8 x) (bits_of s) (8 * n) ∙ ap (◌++◌ (value_bits 8 x)) (take-bits_of n s)
+    ap (λ (k : ℕ). take k (value_bits 8 x ++ bits_of s)) e ∙ take-append-add (value_bits 8 x) (bits_of s) (8 * n)
+    ∙ ap (◌++◌ (value_bits 8 x)) (take-bits_of n s)
 
 -- the SDU in the cell of a place is the one that is read at the place
 pub place-sdu : (store : List ℕ) (first p n : ℕ) → p < per_timeslot → n ≤ sdu_bits

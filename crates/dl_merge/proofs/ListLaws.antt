@@ -32,7 +32,8 @@ module _ {C : Type 0} where
   records-snoc (suc k) [] x h = refl
   records-snoc (suc k) (y ∷ xs) x h = ap (λ (l : List Record). y.rec ∷ l) (records-snoc k xs x (omega arith))
 
-  pub records-at : (k : ℕ) (xs : List (Item C)) (i : ℕ) (d : Item C) → i < length xs → length xs ≤ k → get_or (records_of k xs) i empty_record ≡ (get_or xs i d).rec
+  pub records-at : (k : ℕ) (xs : List (Item C)) (i : ℕ) (d : Item C) → i < length xs → length xs ≤ k
+      → get_or (records_of k xs) i empty_record ≡ (get_or xs i d).rec
   unfolding records_of
   records-at zero xs i d h b = absurd (omega arith)
   records-at (suc k) [] i d h b = absurd (omega arith)

@@ -43,7 +43,8 @@ only-both [] = refl
 only-both {C} (x ∷ xs) = go (is_grant_or_ack x.rec.kind) (only-both xs)
   where
     go : (b : Bool) → length (only is_grant_or_ack xs) + length (only is_kept xs) ≡ length xs
-        → length (cond b (x ∷ only is_grant_or_ack xs) (only is_grant_or_ack xs)) + length (cond (not b) (x ∷ only is_kept xs) (only is_kept xs)) ≡ suc (length xs)
+        → length (cond b (x ∷ only is_grant_or_ack xs) (only is_grant_or_ack xs)) + length (cond (not b) (x ∷ only is_kept xs) (only is_kept xs))
+        ≡ suc (length xs)
     go true ih = omega arith
     go false ih = omega arith
 

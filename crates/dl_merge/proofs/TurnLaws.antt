@@ -63,7 +63,8 @@ module _ (rs : List Record) (i : ℕ) (out : List Record) (from : List ℕ) (k :
       (sym (ap (only is_kept) (counted-more i rs) ∙ only-pass is_kept (counted 0 i rs) x (ap not e)))
       (holds-snoc (kept_up_to i rs) out from k (get_or rs i empty_record) i b h)
 
-  pub kept-fail : is_grant_or_ack (get_or rs i empty_record).kind ≡ true → ArraysHold (kept_up_to i rs) out from k → ArraysHold (kept_up_to (i + 1) rs) out from k
+  pub kept-fail : is_grant_or_ack (get_or rs i empty_record).kind ≡ true → ArraysHold (kept_up_to i rs) out from k
+      → ArraysHold (kept_up_to (i + 1) rs) out from k
   kept-fail e h =
       holds_as (kept_up_to i rs) (kept_up_to (i + 1) rs) out from k
       (sym (ap (only is_kept) (counted-more i rs) ∙ only-fail is_kept (counted 0 i rs) (item (get_or rs i empty_record) i) (ap not e))) h
@@ -115,7 +116,8 @@ module _ (n : ℕ) (rs : List Record) (j : ℕ) (out : List Record) (from : List
       → takes_number (get_or rs j empty_record).number (get_or out f empty_record) ≡ b
       → takes_number (get_or rs j empty_record).number (get_or (joins n j rs) f (item empty_record per_timeslot)).rec ≡ b
   seen f b h few holds e =
-      ap (takes_number (get_or rs j empty_record).number) (sym (records-at per_timeslot (joins n j rs) f (item empty_record per_timeslot) (omega arith) (omega arith))
+      ap (takes_number (get_or rs j empty_record).number) (sym
+      (records-at per_timeslot (joins n j rs) f (item empty_record per_timeslot) (omega arith) (omega arith))
       ∙ ap (λ (l : List Record). get_or l f empty_record) (sym holds.recs)) ∙ e
 
   pub joins-found : (f : ℕ) → k ≤ per_timeslot → is_grant_or_ack (get_or rs j empty_record).kind ≡ true → f < k
@@ -128,7 +130,8 @@ module _ (n : ℕ) (rs : List Record) (j : ℕ) (out : List Record) (from : List
       let g : Record = get_or rs j empty_record in
       let y : Record = (get_or xs f d).rec in
       let b : f < length xs = omega arith in
-      let same : get_or out f empty_record ≡ y = ap (λ (l : List Record). get_or l f empty_record) holds.recs ∙ records-at per_timeslot xs f d b (omega arith) in
+      let same : get_or out f empty_record ≡ y = ap (λ (l : List Record). get_or l f empty_record) holds.recs
+      ∙ records-at per_timeslot xs f d b (omega arith) in
       let new : joins n (j + 1) rs ≡ set xs f (item (joined g y) (get_or xs f d).load) =
       joins-more e ∙ put-at (always no_place) keep (item g j) xs f d b (λ q l. seen q false (omega arith) few holds (before q l))
       (seen f true h few holds here) in

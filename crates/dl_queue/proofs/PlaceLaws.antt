@@ -26,7 +26,8 @@ empty-bits r clean = go (is_empty r) refl
     go false e = refl
 
 pub step : (k n : ℕ) (rs : List Record) (s : List ℕ)
-    → sound_places (suc k) n rs s ≡ sound_place (ltb 0 n) (get_or rs 0 empty_record) (take cell_octets s) && sound_places k (n - 1) (drop 1 rs) (drop cell_octets s)
+    → sound_places (suc k) n rs s
+    ≡ sound_place (ltb 0 n) (get_or rs 0 empty_record) (take cell_octets s) && sound_places k (n - 1) (drop 1 rs) (drop cell_octets s)
 unfolding sound_places
 step k zero rs s = refl
 step k (suc n) rs s =
@@ -89,7 +90,8 @@ module _ (ns : List ℕ) (rs : List Record) (s : List ℕ) (t : ℕ) (less : t <
       (drop-cons ns t 0 less ∙ ap (λ (j : ℕ). get_or ns t 0 ∷ drop j ns) a)
       ∙ ap₂ (λ (l : List Record) (m : List ℕ). leb (get_or ns t 0) per_timeslot
       && sound_places per_timeslot (get_or ns t 0) (drop (per_timeslot * t) rs) (drop (timeslot_octets * t) s) && sound_queue (drop (t + 1) ns) l m)
-      (drop-drop per_timeslot (per_timeslot * t) rs ∙ ap (λ (j : ℕ). drop j rs) b) (drop-drop timeslot_octets (timeslot_octets * t) s ∙ ap (λ (j : ℕ). drop j s) d)
+      (drop-drop per_timeslot (per_timeslot * t) rs ∙ ap (λ (j : ℕ). drop j rs) b)
+      (drop-drop timeslot_octets (timeslot_octets * t) s ∙ ap (λ (j : ℕ). drop j s) d)
 
   pub queue-many : per_timeslot < get_or ns t 0 → false ≡ sound_queue (drop t ns) (drop (per_timeslot * t) rs) (drop (timeslot_octets * t) s)
   queue-many h =
@@ -122,7 +124,8 @@ place-seen b rs p d s h =
     ap₂ (λ (r : Record) (n : ℕ). sound_place b r (take n (drop (cell_octets * p) s))) (get_d_any rs p d empty_record h) e
 
 pub places-start : (n : ℕ) (rs : List Record) (s : List ℕ) (f : ℕ)
-    → sound_places (per_timeslot - 0) (n - 0) (drop (f + 0) rs) (drop (cell_octets * (f + 0)) s) ≡ sound_places per_timeslot n (drop f rs) (drop (cell_octets * f) s)
+    → sound_places (per_timeslot - 0) (n - 0) (drop (f + 0) rs) (drop (cell_octets * (f + 0)) s)
+    ≡ sound_places per_timeslot n (drop f rs) (drop (cell_octets * f) s)
 places-start n rs s f =
     let a : n - 0 ≡ n = omega arith in
     let b : f + 0 ≡ f = omega arith in

@@ -34,7 +34,8 @@ cell-shift a s i =
 
 -- ---- a list of a timeslot by its places
 
-pub queue-agree : (n : ℕ) (rs rs' : List Record) (s s' : List ℕ) → ((i : ℕ) → i < n → rec_at rs i ≡ rec_at rs' i) → ((i : ℕ) → i < n → cell_at s i ≡ cell_at s' i)
+pub queue-agree : (n : ℕ) (rs rs' : List Record) (s s' : List ℕ) → ((i : ℕ) → i < n → rec_at rs i ≡ rec_at rs' i)
+    → ((i : ℕ) → i < n → cell_at s i ≡ cell_at s' i)
     → queue_of n rs s ≡ queue_of n rs' s'
 unfolding queue_of
 queue-agree zero rs rs' s s' f g = refl
@@ -120,7 +121,8 @@ module _ (ns : List ℕ) (rs : List Record) (s : List ℕ) (t n : ℕ) (r : Reco
   queue-old u m ne =
       queue-agree m (drop (per_timeslot * u) (set rs (per_timeslot * t + n) r)) (drop (per_timeslot * u) rs)
       (drop (cell_octets * (per_timeslot * u)) (paste s (cell_octets * (per_timeslot * t + n)) c cell_octets)) (drop (cell_octets * (per_timeslot * u)) s)
-      (λ i h. rec-shift (per_timeslot * u) (set rs (per_timeslot * t + n) r) i ∙ rec-old (per_timeslot * u + i) (ne i h) ∙ sym (rec-shift (per_timeslot * u) rs i))
+      (λ i h. rec-shift (per_timeslot * u) (set rs (per_timeslot * t + n) r) i ∙ rec-old (per_timeslot * u + i) (ne i h)
+      ∙ sym (rec-shift (per_timeslot * u) rs i))
       (λ i h. cell-shift (per_timeslot * u) (paste s (cell_octets * (per_timeslot * t + n)) c cell_octets) i ∙ cell-old (per_timeslot * u + i) (ne i h)
       ∙ sym (cell-shift (per_timeslot * u) s i))
 

@@ -77,7 +77,8 @@ module _ (ns : List ℕ) (rs : List Record) (s : List ℕ) (t : ℕ) (xs : List 
 
   pub cell_in : (i : ℕ) → i < per_timeslot → cell_at (drop (cell_octets * (per_timeslot * t)) s') i ≡ cell_at (cells_of per_timeslot xs) i
   cell_in i h =
-      let whole : length s' ≡ length s = length-paste s (cell_octets * (per_timeslot * t)) (cells_of per_timeslot xs) timeslot_octets (omega arith) cells-full in
+      let whole : length s' ≡ length s = length-paste s (cell_octets * (per_timeslot * t)) (cells_of per_timeslot xs) timeslot_octets
+      (omega arith) cells-full in
       cell-shift (per_timeslot * t) s' i
       ∙ parts-agree cell_octets (cell_octets * (per_timeslot * t + i)) (cell_octets * i) s' (cells_of per_timeslot xs) (omega (arith, whole))
       (omega (arith, cells-full))
@@ -122,7 +123,8 @@ module _ (ns : List ℕ) (rs : List Record) (s : List ℕ) (t : ℕ) (xs : List 
       here =
           seen t inside
           ∙ ap (λ (m : ℕ). queue_of m (drop (per_timeslot * t) rs') (drop (cell_octets * (per_timeslot * t)) s')) (get_or-set_same ns t (length xs) 0 inside)
-          ∙ queue-agree (length xs) (drop (per_timeslot * t) rs') (records_of per_timeslot xs) (drop (cell_octets * (per_timeslot * t)) s') (cells_of per_timeslot xs)
+          ∙ queue-agree (length xs) (drop (per_timeslot * t) rs') (records_of per_timeslot xs) (drop (cell_octets * (per_timeslot * t)) s')
+          (cells_of per_timeslot xs)
           (λ i h. rec-in i (omega arith)) (λ i h. cell_in i (omega arith))
           ∙ queue-back per_timeslot xs few cells
           ∙ sym (get_or-set_same (queues_of ns rs s) t xs [] (rw length-queues inside))

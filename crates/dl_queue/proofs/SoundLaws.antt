@@ -64,7 +64,8 @@ places-all (suc k) n rs s f =
 -- ---- timeslot by timeslot
 
 pub queue-at : (ns : List ℕ) (rs : List Record) (s : List ℕ) → sound_queue ns rs s ≡ true → (u : ℕ) → u < length ns
-    → (get_or ns u 0 ≤ per_timeslot) × (sound_places per_timeslot (get_or ns u 0) (drop (per_timeslot * u) rs) (drop (cell_octets * (per_timeslot * u)) s) ≡ true)
+    → (get_or ns u 0 ≤ per_timeslot) × (sound_places per_timeslot (get_or ns u 0) (drop (per_timeslot * u) rs)
+    (drop (cell_octets * (per_timeslot * u)) s) ≡ true)
 unfolding sound_queue
 queue-at [] rs s e u h = absurd (omega arith)
 queue-at (n ∷ ns) rs s e zero h =
@@ -82,7 +83,8 @@ queue-at (n ∷ ns) rs s e (suc u) h =
 
 pub queue-all : (ns : List ℕ) (rs : List Record) (s : List ℕ)
     → ((u : ℕ) → u < length ns
-    → (get_or ns u 0 ≤ per_timeslot) × (sound_places per_timeslot (get_or ns u 0) (drop (per_timeslot * u) rs) (drop (cell_octets * (per_timeslot * u)) s) ≡ true))
+    → (get_or ns u 0 ≤ per_timeslot) × (sound_places per_timeslot (get_or ns u 0) (drop (per_timeslot * u) rs)
+    (drop (cell_octets * (per_timeslot * u)) s) ≡ true))
     → sound_queue ns rs s ≡ true
 unfolding sound_queue
 queue-all [] rs s f = refl
@@ -165,12 +167,14 @@ set-sound ns rs s t xs inside places size few cells sound e =
         ∙ places-at per_timeslot (length xs) (records_of per_timeslot xs) (cells_of per_timeslot xs) own i h)
 
     at : (u : ℕ) → u < length ns → (b : Bool) → eqb u t ≡ b → (get_or (set ns t (length xs)) u 0 ≤ per_timeslot)
-        × (sound_places per_timeslot (get_or (set ns t (length xs)) u 0) (drop (per_timeslot * u) after-rs) (drop (cell_octets * (per_timeslot * u)) after-s) ≡ true)
+        × (sound_places per_timeslot (get_or (set ns t (length xs)) u 0) (drop (per_timeslot * u) after-rs)
+        (drop (cell_octets * (per_timeslot * u)) after-s) ≡ true)
     at u h true b =
         let q : t ≡ u = sym (eqb-true u t b) in
         let c : get_or (set ns t (length xs)) t 0 ≡ length xs = get_or-set_same ns t (length xs) 0 inside in
         subst (λ (v : ℕ). (get_or (set ns t (length xs)) v 0 ≤ per_timeslot) ×
-        (sound_places per_timeslot (get_or (set ns t (length xs)) v 0) (drop (per_timeslot * v) after-rs) (drop (cell_octets * (per_timeslot * v)) after-s) ≡ true)) q
+        (sound_places per_timeslot (get_or (set ns t (length xs)) v 0) (drop (per_timeslot * v) after-rs)
+        (drop (cell_octets * (per_timeslot * v)) after-s) ≡ true)) q
         (rw c few, ap (λ (m : ℕ). sound_places per_timeslot m (drop (per_timeslot * t) after-rs) (drop (cell_octets * (per_timeslot * t)) after-s)) c ∙ here)
     at u h false b =
         let ne : u ≡ t → ⊥ = eqb-false u t b in
@@ -236,18 +240,21 @@ push-sound ns rs s t n r c inside count few places size full sound e =
         (cell_at (drop (cell_octets * (per_timeslot * t)) after-s) j) ≡ true) (sym (eqb-true i n b)) new-place
     place i h false b =
         let ne : i ≡ n → ⊥ = eqb-false i n b in
-        ap (λ (q : Bool). sound_place q (rec_at (drop (per_timeslot * t) after-rs) i) (cell_at (drop (cell_octets * (per_timeslot * t)) after-s) i)) (one_more i ne)
+        ap (λ (q : Bool). sound_place q (rec_at (drop (per_timeslot * t) after-rs) i) (cell_at (drop (cell_octets * (per_timeslot * t)) after-s) i))
+        (one_more i ne)
         ∙ old-place t i (λ q. ne (omega arith)) (ltb i n) ∙ places-at per_timeslot n (drop (per_timeslot * t) rs)
         (drop (cell_octets * (per_timeslot * t)) s) was i h
 
     at : (u : ℕ) → u < length ns → (b : Bool) → eqb u t ≡ b → (get_or (set ns t (n + 1)) u 0 ≤ per_timeslot)
-        × (sound_places per_timeslot (get_or (set ns t (n + 1)) u 0) (drop (per_timeslot * u) after-rs) (drop (cell_octets * (per_timeslot * u)) after-s) ≡ true)
+        × (sound_places per_timeslot (get_or (set ns t (n + 1)) u 0) (drop (per_timeslot * u) after-rs)
+        (drop (cell_octets * (per_timeslot * u)) after-s) ≡ true)
     at u h true b =
         let q : t ≡ u = sym (eqb-true u t b) in
         let k : get_or (set ns t (n + 1)) t 0 ≡ n + 1 = get_or-set_same ns t (n + 1) 0 inside in
         let fits : n + 1 ≤ per_timeslot = omega arith in
         subst (λ (v : ℕ). (get_or (set ns t (n + 1)) v 0 ≤ per_timeslot) ×
-        (sound_places per_timeslot (get_or (set ns t (n + 1)) v 0) (drop (per_timeslot * v) after-rs) (drop (cell_octets * (per_timeslot * v)) after-s) ≡ true)) q (
+        (sound_places per_timeslot (get_or (set ns t (n + 1)) v 0) (drop (per_timeslot * v) after-rs)
+        (drop (cell_octets * (per_timeslot * v)) after-s) ≡ true)) q (
           rw k fits,
           ap (λ (m : ℕ). sound_places per_timeslot m (drop (per_timeslot * t) after-rs) (drop (cell_octets * (per_timeslot * t)) after-s)) k
               ∙ places-all per_timeslot (n + 1) (drop (per_timeslot * t) after-rs) (drop (cell_octets * (per_timeslot * t)) after-s)

@@ -7,7 +7,8 @@ use lib.Dec.{eqb}
 use borrow.Author.Tests.{lt-ltb, eqb-true}
 use Rattle.optional.specs.declared.OptU16.{OptU16}
 use Rattle.optional.proofs.Tests.{and_intro}
-use Rattle.mac_pdus.specs.Legal.{fits, absent_u8, absent_u16, opt_fits, label_fits, has_address, queued_kind, legal_opt_chan_alloc, within_widths, all_absent, legal_parts}
+use Rattle.mac_pdus.specs.Legal.{fits, absent_u8, absent_u16, opt_fits, label_fits, has_address, queued_kind, legal_opt_chan_alloc, within_widths}
+use Rattle.mac_pdus.specs.Legal.{all_absent, legal_parts}
 use Rattle.mac_pdus.specs.Legal.{legal_fields, legal_queued}
 use Rattle.mac_pdus.proofs.Conjunctions.{false-not-true, and3, and4, and7, and10}
 use Rattle.dl_record.specs.declared.Record.{Record}

@@ -111,7 +111,8 @@ clean-split s n h k =
     ∙ ap (λ (l : List ℕ). drop r (bits_of l)) (drop-cons s q 0 k ∙ ap (λ (m : ℕ). x ∷ drop m s) (sym (add-one q)))
     ∙ drop-append-le r (value_bits 8 x) (bits_of t) fits
     ∙ ap (λ (l : List ℕ). l ++ bits_of t) (drop-value_bits x r small) in
-    sym (ap all_zero cut ∙ zero-append (value_bits (8 - r) x) (bits_of t) ∙ ap₂ ◌&&◌ (zero-value_bits (8 - r) x ∙ sym (shl_zero x r small)) (zero-bits_of t tidy))
+    sym (ap all_zero cut ∙ zero-append (value_bits (8 - r) x) (bits_of t)
+    ∙ ap₂ ◌&&◌ (zero-value_bits (8 - r) x ∙ sym (shl_zero x r small)) (zero-bits_of t tidy))
 
 pub clean-over : (s : List ℕ) (n : ℕ) → length s ≤ n / 8 → true ≡ clean_past n s
 unfolding clean_past all_zero

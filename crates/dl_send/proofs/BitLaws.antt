@@ -16,7 +16,8 @@ use Rattle.mac_pdus.specs.declared.ChanAllocElement.{ChanAllocElement}
 use Rattle.mac_pdus.specs.declared.OptChanAlloc.{OptChanAlloc}
 use Rattle.mac_pdus.specs.declared.ResourceHeader.{ResourceHeader}
 use Rattle.mac_pdus.specs.declared.PduHeader.{PduHeader}
-use Rattle.mac_pdus.specs.Headers.{opt_bits, address_type, address_bits, frame18_bits, chan_alloc_bits, opt_chan_alloc_bits, fixed_bits, elements_bits, resource_bits}
+use Rattle.mac_pdus.specs.Headers.{opt_bits, address_type, address_bits, frame18_bits, chan_alloc_bits, opt_chan_alloc_bits, fixed_bits, elements_bits}
+use Rattle.mac_pdus.specs.Headers.{resource_bits}
 use Rattle.mac_pdus.specs.Headers.{frag_bits, end_bits, header_bits}
 use Rattle.mac_reader.specs.PduList.{Pdu, header, body, pdu_bits, block_bits}
 use Rattle.bs_frag.specs.NextPdu.{fill_flag}

@@ -1,7 +1,6 @@
 // Values that may be absent, one enum for each width in use.
 #![tactic(auto)]
 
-
 #[derive(Clone, Copy)]
 pub enum OptU8 {
     Absent,

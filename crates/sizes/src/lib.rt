@@ -1,7 +1,6 @@
 // Document 01's sizes. specs/Sizes.antt has the sentence over each.
 #![tactic(auto)]
 
-
 pub const TIMESLOTS: usize = 4;
 
 // The places of a timeslot, and those of the queue.

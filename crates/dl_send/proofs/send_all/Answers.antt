@@ -34,7 +34,8 @@ get_next_chunk-chunk-requires c =
       inside = omega (arith, c.requires.can_send.cells);
       bounded = c.requires.can_send.stored;
       sendable =
-          subst Sendable (sym (record-at a.order a.records c.loop-i.i _ (omega (arith, c.requires.can_send.count)) (omega (arith, c.requires.by_index c.loop-i.i less))))
+          subst Sendable (sym (record-at a.order a.records c.loop-i.i _ (omega (arith, c.requires.can_send.count))
+          (omega (arith, c.requires.by_index c.loop-i.i less))))
           (sendable-at a.n (records_at a.order a.records) a.from c.loop-i.i c.requires.can_send.all less);
     }
 
@@ -49,9 +50,11 @@ loop-i-preserved c =
       h.0,
       h.1,
       running-step _ _ _ _ _ _ _ _ _ _ _ _ _ _ _ _ _ c.get_next_chunk-chunk.result _ _ _ _ _ _ _ c.requires.can_send.count less
-          (record-at c.args.order c.args.records c.loop-i.i _ (omega (arith, c.requires.can_send.count)) (omega (arith, c.requires.by_index c.loop-i.i less))) h.2
+          (record-at c.args.order c.args.records c.loop-i.i _ (omega (arith, c.requires.can_send.count))
+          (omega (arith, c.requires.by_index c.loop-i.i less))) h.2
           c.get_next_chunk-chunk.auto.block c.get_next_chunk-chunk.ensures
-          c.stayed.ensures c.stayed_from.ensures c.tag_value.ensures c.stays-left.ensures.0 c.tag_comes-tag_count.ensures.0 c.tag_comes-tag_count.ensures.1 refl,
+          c.stayed.ensures c.stayed_from.ensures c.tag_value.ensures c.stays-left.ensures.0
+          c.tag_comes-tag_count.ensures.0 c.tag_comes-tag_count.ensures.1 refl,
     )
 
 pub returns : goal.returns

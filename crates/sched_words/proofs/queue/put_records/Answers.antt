@@ -1,0 +1,42 @@
+-- What is left to store still gives the words that all n give. Assumes nothing.
+use Rattle.std.proofs.Common.{◌≡◌, ◌+◌, ◌-◌, ◌*◌, ◌≤◌, length, take, drop, sym, refl, ◌∙◌, arith, length-take-le, get_or-take, rules}
+use lib.Seq.{sets}
+use Rattle.sizes.specs.Sizes.{per_timeslot}
+use Rattle.dl_record.specs.Record.{empty_record}
+use Rattle.dl_queue.proofs.PushLaws.{rec_at}
+use Rattle.sched_words.specs.Words.{record_word_count, queue_words}
+use Rattle.sched_words.proofs.TimeslotWords.{records-start, records-next, records-done}
+use Rattle.sched_words.proofs.queue.put_records.Goals as goal
+
+pub loop-j-init : goal.loop-j-init
+loop-j-init c =
+    let a = c.args in
+    let size : length a.records ≡ per_timeslot = search rules in (
+      omega arith,
+      length-take-le a.n a.records (omega (arith, size, c.requires.2)),
+      c.requires.2,
+      refl,
+      records-start (take a.n a.records) a.first
+          a.words.now,
+    )
+
+pub loop-j-preserved : goal.loop-j-preserved
+loop-j-preserved c =
+    let a = c.args in
+    let i = c.loop-j.j in (
+      omega arith,
+      c.loop-j.invariant.1,
+      c.loop-j.invariant.2,
+      search rules,
+      records-next (take a.n a.records) a.first i (omega (arith, c.loop-j.invariant.1)) c.loop-j.words _ (rec_at a.records i)
+          (sym (get_or-take a.n a.records i empty_record (omega arith))) c.put_record.ensures
+          ∙ c.loop-j.invariant.4,
+    )
+
+pub returns : goal.returns
+returns c =
+    let a = c.args in
+    sym (records-done (take a.n a.records) c.loop-j.words _ c.loop-j.j (omega (arith, c.loop-j.invariant.1))) ∙ c.loop-j.invariant.4
+
+pub loop-j-smaller : goal.loop-j-smaller
+loop-j-smaller c = omega arith

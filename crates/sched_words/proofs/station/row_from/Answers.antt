@@ -1,0 +1,31 @@
+-- The first i entries are read. Assumes nothing.
+use Rattle.std.proofs.Common.{◌≡◌, ◌-◌, ◌*◌, ◌≤◌, ◌++◌, take, drop, replicate, sym, refl, ap, ◌∙◌, arith, length-drop, rules}
+use Rattle.uplink.specs.UplinkEntry.{empty_entry}
+use Rattle.sched_words.specs.Words.{entry_from, row_from}
+use Rattle.lists.proofs.Lists.{rest}
+use Rattle.sched_words.proofs.WordLaws.{part_at, length-parts, filled_next, filled-whole}
+use Rattle.sched_words.proofs.station.row_from.Goals as goal
+
+pub loop-i-init : goal.loop-i-init
+loop-i-init c = (omega arith, refl)
+
+pub entry_from-e-requires : goal.entry_from-e-requires
+entry_from-e-requires c = let ws = c.args.words.now in rw (rest ws _, length-drop) (omega arith)
+
+pub loop-i-preserved : goal.loop-i-preserved
+loop-i-preserved c =
+    let ws = c.args.words.now in
+    let i = c.loop-i.i in
+    let read = c.entry_from-e.ensures ∙ ap entry_from (rest ws (3 * i)) ∙ sym (part_at entry_from 3 18 i ws empty_entry (omega arith)) in (
+      omega arith,
+      rw (c.loop-i.invariant.1, read) (filled_next empty_entry i (row_from ws) (replicate 18 empty_entry) (omega (arith, length-parts entry_from 3 18 ws))
+          (omega arith)),
+    )
+
+pub returns : goal.returns
+returns c =
+    let ws = c.args.words.now in
+    c.loop-i.invariant.1 ∙ filled-whole c.loop-i.i (row_from ws) (replicate 18 empty_entry) (omega (arith, length-parts entry_from 3 18 ws)) (omega arith)
+
+pub loop-i-smaller : goal.loop-i-smaller
+loop-i-smaller c = omega arith
