@@ -26,7 +26,7 @@ returns-then-n-ne0 c =
 
 pub put_headers-requires : goal.put_headers-requires
 put_headers-requires c =
-    let f = known c in
+    let f = known (goal.at.put_headers-requires c).After-outcome_number-n in
     (c.if-headers-ne-LIST_WORDS.false, f.few, f.low)
 
 pub overflow_cast-count : goal.overflow_cast-count
