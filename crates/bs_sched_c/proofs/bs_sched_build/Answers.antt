@@ -1,5 +1,4 @@
 -- Exit by exit. Assumes nothing.
-use borrow.Author.Rules.{rules}
 use borrow.Author.Tests.{eqb-true}
 use native.Mathlib.Omega.{arith}
 use mathlib.Core.Path.{◌≡◌, sym, ap, subst, ◌∙◌}

@@ -1,6 +1,4 @@
 -- Question by question. Assumes nothing.
-use borrow.Author.Rules.{rules}
-use borrow.Author.Tests.{not-true, not-false}
 use mathlib.Core.Path.{◌≡◌, ◌∙◌}
 use mathlib.Core.List.{List, [], ◌∷◌}
 use Rattle.questions.specs.Questions.{Question, question}

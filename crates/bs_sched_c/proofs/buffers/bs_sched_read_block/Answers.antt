@@ -3,7 +3,6 @@ use native.Mathlib.Omega.{arith}
 use Rattle.header_words.proofs.ListLaws.{FewAndLow}
 use Rattle.mac_reader.specs.Reader.{reading_of}
 use Rattle.bs_sched_c.proofs.BufferLaws.{other-list, few-and-low, not_listed, listed}
-use borrow.Author.Rules.{rules}
 use Rattle.bs_sched_c.proofs.buffers.bs_sched_read_block.Goals as goal
 use Rattle.bs_sched_c.proofs.buffers.bs_sched_read_block.Goals.{After-outcome_number-n}
 

@@ -1,7 +1,6 @@
 -- The header writer's reply as a struct. Assumes nothing.
 use mathlib.Core.Path.{◌∙◌, ap}
 use Rattle.bs_sched_c.specs.Buffers.{written_struct}
-use borrow.Author.Rules.{rules}
 use Rattle.bs_sched_c.proofs.buffers.bs_sched_write_header.Goals as goal
 
 pub returns : goal.returns
