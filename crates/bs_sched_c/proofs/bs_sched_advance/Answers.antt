@@ -1,5 +1,4 @@
 -- A station of its number of words, and what they stand for. Assumes nothing.
-use borrow.Author.Rules.{rules}
 use mathlib.Core.Path.{◌∙◌, ap}
 use mathlib.Core.List.{[]}
 use Prim.Native.Nat.{ℕ}

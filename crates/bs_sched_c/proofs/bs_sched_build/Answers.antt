@@ -1,5 +1,4 @@
 -- Exit by exit. Assumes nothing.
-use borrow.Author.Rules.{rules}
 use borrow.Author.Tests.{eqb-true}
 use native.Mathlib.Omega.{arith}
 use mathlib.Core.Path.{◌≡◌, sym, ap, subst, ◌∙◌}
@@ -31,26 +30,19 @@ use Rattle.bs_sched_c.proofs.AskedLaws.{all_words, asked-yes, four-counts, as_re
 use Rattle.bs_sched_c.proofs.LeftLaws.{no-station}
 use Rattle.bs_sched_c.proofs.BuildLeftLaws.{build-no, build-none, build-built}
 use Rattle.bs_sched_c.proofs.bs_sched_build.Goals as goal
-use Rattle.bs_sched_c.proofs.bs_sched_build.Goals.{After-build_timeslot-plan, After-builds_at, After-memory_number-no, After-queued_of-queued, After-records_read-records, After-struct_known-1, After-struct_known-2-1, After-struct_known-3-1, Else-no-ne0, Else-not-builds_at, Else-station-ne-STATION_WORDS, Start}
-
--- from the questions back to the length of the station, and to the start
-abbrev sized : After-memory_number-no → Else-station-ne-STATION_WORDS
-sized q = q
-
-abbrev start : After-memory_number-no → Start
-start q = (sized q)
+use Rattle.bs_sched_c.proofs.bs_sched_build.Goals.{After-build_timeslot-plan, After-builds_at, After-queued_of-queued, After-records_read-records, Else-no-ne0, Else-not-builds_at, Else-station-ne-STATION_WORDS}
 
 -- the station that the words stand for
 abbrev station : Else-no-ne0 → Station
-station c = station_from (start c).args.station.now
+station c = station_from c.args.station.now
 
 -- what the questions have told
 passed : (c : Else-no-ne0)
-    → let a = (start c).args in
+    → let a = c.args in
     Told (station c) (records_from a.queue.now) a.store.now (asks_block a.block.now).holds
 passed c = asked-yes _ _ _ _ _ c.memory_number-no.ensures c.if-no-ne0.false
 
-width : (c : Else-no-ne0) → length (start c).args.block.now ≡ block_octets
+width : (c : Else-no-ne0) → length c.args.block.now ≡ block_octets
 width c = eqb-true _ _ (passed c).lengths
 
 valid : (c : Else-no-ne0) → Valid (station c).uplink.time
@@ -67,65 +59,61 @@ returns-then-station-ne-STATION_WORDS c =
 pub returns-then-no-ne0 : goal.returns-then-no-ne0
 unfolding built_left
 returns-then-no-ne0 c =
-    let a = (start c).args in
-    build-no a.station.now a.queue.now a.store.now a.block.now (sized c).if1.false _ c.memory_number-no.ensures c.if-no-ne0.true _
+    let a = c.args in
+    build-no a.station.now a.queue.now a.store.now a.block.now c.if-station-ne-STATION_WORDS.false _ c.memory_number-no.ensures c.if-no-ne0.true _
     c.not_built-then-no-ne0.ensures
 
 pub time_of-time-requires : goal.time_of-time-requires
-time_of-time-requires c = ((sized (goal.at.time_of-time-requires c).Else-station-ne-STATION_WORDS).if1.false, (passed (goal.at.time_of-time-requires c).Else-no-ne0).station)
+time_of-time-requires c = (c.if-station-ne-STATION_WORDS.false, (passed (goal.at.time_of-time-requires c).Else-no-ne0).station)
 
 pub queued_of-queued-requires : goal.queued_of-queued-requires
-queued_of-queued-requires c = ((sized c).if1.false, (passed c).station)
-
--- back to the questions
-abbrev asked : After-queued_of-queued → Else-no-ne0
-asked k = k
+queued_of-queued-requires c = (c.if-station-ne-STATION_WORDS.false, (passed (goal.at.queued_of-queued-requires c).Else-no-ne0).station)
 
 -- the time and the counts are the station's
 abbrev time : After-queued_of-queued → TdmaTime
 time k = k.time_of-time.result
 
-time-is : (k : After-queued_of-queued) → time k ≡ (station (asked k)).uplink.time
+time-is : (k : After-queued_of-queued) → time k ≡ (station (goal.at.After-queued_of-queued k).Else-no-ne0).uplink.time
 time-is k = k.time_of-time.ensures
 
-counts-are : (k : After-queued_of-queued) → k.queued_of-queued.result ≡ (station (asked k)).queued
+counts-are : (k : After-queued_of-queued) → k.queued_of-queued.result ≡ (station (goal.at.After-queued_of-queued k).Else-no-ne0).queued
 counts-are k = k.queued_of-queued.ensures
 
 in-range : (k : After-queued_of-queued) → (1 ≤ (time k).t) × ((time k).t ≤ timeslots)
-in-range k = let v = valid (asked k) in rw (time-is k) (v.t-low, v.t-high)
+in-range k = let v = valid (goal.at.After-queued_of-queued k).Else-no-ne0 in rw (time-is k) (v.t-low, v.t-high)
 
 pub builds_at-requires : goal.builds_at-requires
 builds_at-requires c = in-range (goal.at.builds_at-requires c).After-queued_of-queued
 
-told : (b : After-builds_at) → b.builds_at.result ≡ builds_now (station (asked b))
+told : (b : After-builds_at) → b.builds_at.result ≡ builds_now (station (goal.at.After-builds_at b).Else-no-ne0)
 told b =
-    b.builds_at.ensures ∙ (λ i. not (eqb (time-is b i).f 18) && ltb 0 (get_or (counts-are b i) ((time-is b i).t - 1) 0))
-    ∙ builds-now (station (asked b)) (valid (asked b))
+    let k = (goal.at.After-builds_at b).After-queued_of-queued in
+    let t = (goal.at.After-builds_at b).Else-no-ne0 in
+    b.builds_at.ensures ∙ (λ i. not (eqb (time-is k i).f 18) && ltb 0 (get_or (counts-are k i) ((time-is k i).t - 1) 0))
+    ∙ builds-now (station t) (valid t)
 
 pub returns-then-not-builds_at : goal.returns-then-not-builds_at
 unfolding built_left
 returns-then-not-builds_at c =
-    let t = asked c in
-    let a = (start t).args in
-    build-none a.station.now a.queue.now a.store.now a.block.now (sized t).if1.false (passed t).station (width t) (passed t).queue
-    (said-no (told c) c.if-not-builds_at.true) _ c.not_built-then-not-builds_at.ensures
+    let t = (goal.at.returns-then-not-builds_at c).Else-no-ne0 in
+    let a = c.args in
+    build-none a.station.now a.queue.now a.store.now a.block.now c.if-station-ne-STATION_WORDS.false (passed t).station (width t) (passed t).queue
+    (said-no (told (goal.at.returns-then-not-builds_at c).After-builds_at) c.if-not-builds_at.true) _ c.not_built-then-not-builds_at.ensures
 
 -- the current timeslot, counted from 0
-here : (k : After-queued_of-queued) → (time k).t - 1 ≡ current (station (asked k))
-here k = ap (λ (x : TdmaTime). x.t - 1) (time-is k) ∙ current-is (station (asked k)) (valid (asked k))
-
--- back from a place behind the last question
-abbrev counted : After-struct_known-1 → After-queued_of-queued
-counted c = c
+here : (k : After-queued_of-queued) → (time k).t - 1 ≡ current (station (goal.at.After-queued_of-queued k).Else-no-ne0)
+here k =
+    let t = (goal.at.After-queued_of-queued k).Else-no-ne0 in
+    ap (λ (x : TdmaTime). x.t - 1) (time-is k) ∙ current-is (station t) (valid t)
 
 pub overflow_sub-t : goal.overflow_sub-t
-overflow_sub-t c = (in-range (counted (goal.at.overflow_sub-t c).After-queued_of-queued)).0
+overflow_sub-t c = (in-range (goal.at.overflow_sub-t c).After-queued_of-queued).0
 
 pub bounds-queued-t : goal.bounds-queued-t
-bounds-queued-t c = let r = in-range (counted (goal.at.bounds-queued-t c).After-queued_of-queued) in omega (arith, r.0, r.1)
+bounds-queued-t c = let r = in-range (goal.at.bounds-queued-t c).After-queued_of-queued in omega (arith, r.0, r.1)
 
 pub overflow_mul-first : goal.overflow_mul-first
-overflow_mul-first c = let r = in-range (counted (goal.at.overflow_mul-first c).After-queued_of-queued) in omega (arith, r.0, r.1)
+overflow_mul-first c = let r = in-range (goal.at.overflow_mul-first c).After-queued_of-queued in omega (arith, r.0, r.1)
 
 inside : (k : After-queued_of-queued) → per_timeslot * ((time k).t - 1) + per_timeslot ≤ queue_places
 inside k = let r = in-range k in omega (arith, r.0, r.1)
@@ -133,35 +121,30 @@ inside k = let r = in-range k in omega (arith, r.0, r.1)
 low : (k : After-queued_of-queued) → (time k).t - 1 < timeslots
 low k = let r = in-range k in omega (arith, r.0, r.1)
 
-few : (k : After-queued_of-queued) → get_or (station (asked k)).queued ((time k).t - 1) 0 ≤ per_timeslot
+few : (k : After-queued_of-queued) → get_or (station (goal.at.After-queued_of-queued k).Else-no-ne0).queued ((time k).t - 1) 0 ≤ per_timeslot
 few k =
-    let t = asked k in
-    count-few (station t) (passed t).station ((time k).t - 1) (omega (arith, low k, four-counts (start t).args.station.now))
+    let t = (goal.at.After-queued_of-queued k).Else-no-ne0 in
+    count-few (station t) (passed t).station ((time k).t - 1) (omega (arith, low k, four-counts k.args.station.now))
 
 -- how many records are queued for the timeslot
-count-is : (k : After-queued_of-queued) → get_or k.queued_of-queued.result ((time k).t - 1) 0 ≡ get_or (station (asked k)).queued (current (station (asked k))) 0
+count-is : (k : After-queued_of-queued) → let t = (goal.at.After-queued_of-queued k).Else-no-ne0 in get_or k.queued_of-queued.result ((time k).t - 1) 0 ≡ get_or (station t).queued (current (station t)) 0
 count-is k = λ i. get_or (counts-are k i) (here k i) 0
 
 few-read : (k : After-queued_of-queued) → get_or k.queued_of-queued.result ((time k).t - 1) 0 ≤ per_timeslot
 few-read k = subst (λ (ns : List ℕ). get_or ns ((time k).t - 1) 0 ≤ per_timeslot) (sym (counts-are k)) (few k)
 
 pub records_read-records-requires : goal.records_read-records-requires
-records_read-records-requires c = let k = counted (goal.at.records_read-records-requires c).After-queued_of-queued in (inside k, all_words _ (passed (asked k)).queue.places, few-read k)
+records_read-records-requires c = let k = (goal.at.records_read-records-requires c).After-queued_of-queued in (inside k, all_words _ (passed (goal.at.records_read-records-requires c).Else-no-ne0).queue.places, few-read k)
 
-builds : (c : Else-not-builds_at) → builds_now (station (asked c)) ≡ true
-builds c = said-yes (told c) c.if-not-builds_at.false
-
--- the records read are those of the queue
-abbrev queued : After-records_read-records → After-queued_of-queued
-queued r = counted r
+builds : (c : Else-not-builds_at) → builds_now (station (goal.at.Else-not-builds_at c).Else-no-ne0) ≡ true
+builds c = said-yes (told (goal.at.Else-not-builds_at c).After-builds_at) c.if-not-builds_at.false
 
 own : (r : After-records_read-records)
-    → let t = asked (queued r) in
-    take per_timeslot (drop (per_timeslot * current (station t)) (records_from (start t).args.queue.now)) ≡ r.records_read-records.result
+    → take per_timeslot (drop (per_timeslot * current (station (goal.at.After-records_read-records r).Else-no-ne0)) (records_from r.args.queue.now)) ≡ r.records_read-records.result
 own r =
-    let k = queued r in
-    let t = asked k in
-    let a = (start t).args in
+    let t = (goal.at.After-records_read-records r).Else-no-ne0 in
+    let k = (goal.at.After-records_read-records r).After-queued_of-queued in
+    let a = r.args in
     let n : ℕ = get_or (station t).queued (current (station t)) 0 in
     sym
     (r.records_read-records.ensures
@@ -173,12 +156,11 @@ own r =
     (passed t).queue.sound (four-counts a.station.now)))
 
 sound : (r : After-records_read-records)
-    → let t = asked (queued r) in
-    sound_places per_timeslot (get_or (station t).queued (current (station t)) 0) r.records_read-records.result
-    (drop (cell_octets * (per_timeslot * current (station t))) (start t).args.store.now) ≡ true
+    → let t = (goal.at.After-records_read-records r).Else-no-ne0 in sound_places per_timeslot (get_or (station t).queued (current (station t)) 0) r.records_read-records.result
+    (drop (cell_octets * (per_timeslot * current (station t))) r.args.store.now) ≡ true
 sound r =
-    let t = asked (queued r) in
-    let a = (start t).args in
+    let t = (goal.at.After-records_read-records r).Else-no-ne0 in
+    let a = r.args in
     subst (λ (rs : List Record). sound_places per_timeslot (get_or (station t).queued (current (station t)) 0) rs
     (drop (cell_octets * (per_timeslot * current (station t))) a.store.now) ≡ true)
     (own r)
@@ -187,70 +169,58 @@ sound r =
 
 pub build_timeslot-plan-requires : goal.build_timeslot-plan-requires
 build_timeslot-plan-requires c =
-    let k = queued c in
-    let t = asked k in
-    let a = (start t).args in
+    let k = (goal.at.build_timeslot-plan-requires c).After-queued_of-queued in
+    let t = (goal.at.build_timeslot-plan-requires c).Else-no-ne0 in
+    let a = c.args in
     subst (λ (ns : List ℕ). CanBuild (length a.block.now) block_width a.store.now (per_timeslot * ((time k).t - 1)) (get_or ns ((time k).t - 1) 0)
     c.records_read-records.result)
     (sym (counts-are k))
-    (can-build (station t) c.records_read-records.result a.store.now ((time k).t - 1) (here k) (low k) (passed t).queue.cells (sound c) (few k) _ (width t))
+    (can-build (station t) c.records_read-records.result a.store.now ((time k).t - 1) (here k) (low k) (passed t).queue.cells (sound (goal.at.build_timeslot-plan-requires c).After-records_read-records) (few k) _ (width t))
 
 -- the plan is that of the queue
 planned : (d : After-build_timeslot-plan)
-    → let r = d in
-    let t = asked (queued r) in
-    let a = (start t).args in
+    → let t = (goal.at.After-build_timeslot-plan d).Else-no-ne0 in let a = d.args in
     BuiltIn (built_now (memory (station t) (records_from a.queue.now) a.store.now)) block_octets a.store.now (per_timeslot * current (station t))
-    d.build_timeslot-plan.result d.build_timeslot-plan.new.1.1.1.0 d.build_timeslot-plan.new.1.1.1.1.0
+    d.build_timeslot-plan.result d.build_timeslot-plan.new.store d.build_timeslot-plan.new.block
 planned d =
-    let r = d in
-    let k = queued r in
-    let t = asked k in
-    let a = (start t).args in
+    let k = (goal.at.After-build_timeslot-plan d).After-queued_of-queued in
+    let t = (goal.at.After-build_timeslot-plan d).Else-no-ne0 in
+    let r = (goal.at.After-build_timeslot-plan d).After-records_read-records in
+    let a = d.args in
     let T : ℕ = (time k).t - 1 in
-    plan-now (station t) r.records_read-records.result a.store.now T (here k) (low k) (passed t).queue.cells (sound r) (few k) _ _ _ _ (width t)
-    (subst (λ (ns : List ℕ). BuiltIn (built_from block_width (get_or ns T 0) r.records_read-records.result (drop (cell_octets * (per_timeslot * T)) a.store.now))
-    (length a.block.now) a.store.now (per_timeslot * T) d.build_timeslot-plan.result d.build_timeslot-plan.new.1.1.1.0
-    d.build_timeslot-plan.new.1.1.1.1.0)
+    plan-now (station t) d.records_read-records.result a.store.now T (here k) (low k) (passed t).queue.cells (sound r) (few k) _ _ _ _ (width t)
+    (subst (λ (ns : List ℕ). BuiltIn (built_from block_width (get_or ns T 0) d.records_read-records.result (drop (cell_octets * (per_timeslot * T)) a.store.now))
+    (length a.block.now) a.store.now (per_timeslot * T) d.build_timeslot-plan.result d.build_timeslot-plan.new.store
+    d.build_timeslot-plan.new.block)
     (counts-are k) d.build_timeslot-plan.ensures)
     (records_from a.queue.now) (own r)
 
--- back to the plan
-abbrev counting : After-struct_known-2-1 → After-build_timeslot-plan
-counting c = c
-
-abbrev storing : After-struct_known-3-1 → After-build_timeslot-plan
-storing c = counting c
-
-abbrev read : After-build_timeslot-plan → After-queued_of-queued
-read d = queued d
-
 pub overflow_cast-counts : goal.overflow_cast-counts
-overflow_cast-counts c = omega (arith, (planned (counting (goal.at.overflow_cast-counts c).After-build_timeslot-plan)).few)
+overflow_cast-counts c = omega (arith, (planned (goal.at.overflow_cast-counts c).After-build_timeslot-plan).few)
 
 pub bounds-counts-t : goal.bounds-counts-t
-bounds-counts-t c = let r = in-range (read (counting (goal.at.bounds-counts-t c).After-build_timeslot-plan)) in omega (arith, r.0, r.1)
+bounds-counts-t c = let r = in-range (goal.at.bounds-counts-t c).After-queued_of-queued in omega (arith, r.0, r.1)
 
 pub overflow_cast-count : goal.overflow_cast-count
-overflow_cast-count c = omega (arith, (planned (storing (goal.at.overflow_cast-count c).After-build_timeslot-plan)).few-tags)
+overflow_cast-count c = omega (arith, (planned (goal.at.overflow_cast-count c).After-build_timeslot-plan).few-tags)
 
 pub put_queued-requires : goal.put_queued-requires
-put_queued-requires c = let t = asked (read (storing (goal.at.put_queued-requires c).After-build_timeslot-plan)) in ((sized t).if1.false, (passed t).station)
+put_queued-requires c = let t = (goal.at.put_queued-requires c).After-build_timeslot-plan in (t.if-station-ne-STATION_WORDS.false, (passed (goal.at.put_queued-requires c).Else-no-ne0).station)
 
 pub put_records-requires : goal.put_records-requires
 put_records-requires c =
-    let k = read (storing (goal.at.put_records-requires c).After-build_timeslot-plan) in
-    (inside k, all_words _ (passed (asked k)).queue.places, few-read k)
+    let k' = (goal.at.put_records-requires c).After-queued_of-queued in
+    let k = (goal.at.put_records-requires c).After-build_timeslot-plan in
+    (inside k', all_words _ (passed (goal.at.put_records-requires c).Else-no-ne0).queue.places, few-read k')
 
 pub returns : goal.returns
 unfolding built_left
 returns c =
-    let d = storing c in
-    let p = d.build_timeslot-plan.result in
-    let k = read d in
-    let t = asked k in
-    let a = (start t).args in
-    build-built a.station.now a.queue.now a.store.now a.block.now (sized t).if1.false
-    (passed t).station (width t) (passed t).queue (builds d) p _ _ _ _ (planned d)
+    let t = (goal.at.returns c).Else-no-ne0 in
+    let k = (goal.at.returns c).After-queued_of-queued in
+    let p = c.build_timeslot-plan.result in
+    let a = c.args in
+    build-built a.station.now a.queue.now a.store.now a.block.now c.if-station-ne-STATION_WORDS.false
+    (passed t).station (width t) (passed t).queue (builds (goal.at.returns c).Else-not-builds_at) p _ _ _ _ (planned (goal.at.returns c).After-build_timeslot-plan)
     (c.put_queued.ensures ∙ (λ i. station_words (with_queued (station t) (set (counts-are k i) (here k i) p.left))))
     (c.put_records.ensures ∙ (λ i. sets a.queue.now (record_word_count * (per_timeslot * here k i)) (queue_words (take (count-is k i) p.records))))

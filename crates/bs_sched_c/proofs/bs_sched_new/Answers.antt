@@ -1,5 +1,4 @@
 -- The time, then a station of its number of words. Assumes nothing.
-use borrow.Author.Rules.{rules}
 use mathlib.Core.Path.{◌≡◌, ◌∙◌, ap}
 use mathlib.Core.List.{List}
 use Prim.Native.Nat.{ℕ}
@@ -23,23 +22,26 @@ words s = s.args.station.now
 abbrev no : Start → ℕ → StationLeft
 no s n = station_left n (words s)
 
-valid-is : (v : After-is_valid) → v.is_valid.result ≡ valid (time v)
+valid-is : (v : After-is_valid) → v.is_valid.result ≡ valid (time (goal.at.After-is_valid v).Start)
 valid-is v = v.is_valid.ensures ∙ ap valid v.time_at-time.ensures
 
 pub returns-then-not-is_valid : goal.returns-then-not-is_valid
 unfolding new_left
 returns-then-not-is_valid c =
-    rw c.unsound.ensures (no-time (words c) _ (no c) (time c) (said-no (valid-is c) c.if-not-is_valid.true))
+    let s = (goal.at.returns-then-not-is_valid c).Start in
+    rw c.unsound.ensures (no-time (words s) _ (no s) (time s) (said-no (valid-is (goal.at.returns-then-not-is_valid c).After-is_valid) c.if-not-is_valid.true))
 
 pub returns-then-station-ne-STATION_WORDS : goal.returns-then-station-ne-STATION_WORDS
 unfolding new_left
 returns-then-station-ne-STATION_WORDS c =
-    rw c.other_length.ensures (no-station-then (words c) _ (no c) (time c) (said-yes (valid-is c) c.if-not-is_valid.false) c.if-station-ne-STATION_WORDS.true)
+    let s = (goal.at.returns-then-station-ne-STATION_WORDS c).Start in
+    rw c.other_length.ensures (no-station-then (words s) _ (no s) (time s) (said-yes (valid-is (goal.at.returns-then-station-ne-STATION_WORDS c).After-is_valid) c.if-not-is_valid.false) c.if-station-ne-STATION_WORDS.true)
 
 pub returns : goal.returns
 unfolding new_left
 returns c =
-    let yes = said-yes (valid-is c) c.if-not-is_valid.false in
+    let s = (goal.at.returns c).Start in
+    let yes = said-yes (valid-is (goal.at.returns c).After-is_valid) c.if-not-is_valid.false in
     let made = c.new-answer.ensures ∙ ap new_call c.time_at-time.ensures in
-    is-station-then (words c) _ (no c) (time c) yes c.if-station-ne-STATION_WORDS.false
-    (ap (station_left 0) (c.put_station.ensures ∙ ap station_words (ap (λ (o : StationOutcome). o.station) made ∙ new-station (time c) yes)))
+    is-station-then (words s) _ (no s) (time s) yes c.if-station-ne-STATION_WORDS.false
+    (ap (station_left 0) (c.put_station.ensures ∙ ap station_words (ap (λ (o : StationOutcome). o.station) made ∙ new-station (time s) yes)))

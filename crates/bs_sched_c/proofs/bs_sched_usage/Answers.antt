@@ -1,5 +1,4 @@
 -- The time, the words, the state, then the entry of the time. Assumes nothing.
-use borrow.Author.Rules.{rules}
 use mathlib.Core.Path.{◌≡◌, ◌∙◌, ap}
 use mathlib.Core.Bool.{true}
 use mathlib.Core.List.{List}
@@ -23,40 +22,36 @@ time s = time_at s.args.h s.args.m s.args.f s.args.t
 abbrev words : Start → List ℕ
 words s = s.args.station.now
 
--- back to the start
-abbrev start : After-is_valid → Start
-start v = v
-
-valid-is : (v : After-is_valid) → v.is_valid.result ≡ valid (time (start v))
+valid-is : (v : After-is_valid) → v.is_valid.result ≡ valid (time (goal.at.After-is_valid v).Start)
 valid-is v = v.is_valid.ensures ∙ ap valid v.time_at-time.ensures
 
-valid-time : (e : Else-not-is_valid) → valid (time (start e)) ≡ true
-valid-time e = said-yes (valid-is e) e.if-not-is_valid.false
+valid-time : (e : Else-not-is_valid) → valid (time (goal.at.Else-not-is_valid e).Start) ≡ true
+valid-time e = said-yes (valid-is (goal.at.Else-not-is_valid e).After-is_valid) e.if-not-is_valid.false
 
-sound : (c : Else-not-station_is_sound) → sound_station (station_from (start c).args.station.now) ≡ true
+sound : (c : Else-not-station_is_sound) → sound_station (station_from c.args.station.now) ≡ true
 sound c = said-yes c.station_is_sound.ensures c.if-not-station_is_sound.false
 
 pub returns-then-not-is_valid : goal.returns-then-not-is_valid
 unfolding usage_answer
 returns-then-not-is_valid c =
-    let s = start c in
+    let s = (goal.at.returns-then-not-is_valid c).Start in
     rw (c.usage_answer.ensures, c.unsound.ensures)
-    (no-time (words s) _ (λ (n : ℕ). usage_struct n 0 0) (time s) (said-no (valid-is c) c.if-not-is_valid.true))
+    (no-time (words s) _ (λ (n : ℕ). usage_struct n 0 0) (time s) (said-no (valid-is (goal.at.returns-then-not-is_valid c).After-is_valid) c.if-not-is_valid.true))
 
 pub returns-then-station-ne-STATION_WORDS : goal.returns-then-station-ne-STATION_WORDS
 unfolding usage_answer
 returns-then-station-ne-STATION_WORDS c =
-    let s = start c in
+    let s = (goal.at.returns-then-station-ne-STATION_WORDS c).Start in
     rw (c.usage_answer-then-station-ne-STATION_WORDS.ensures, c.other_length.ensures)
-    (no-station-then (words s) _ (λ (n : ℕ). usage_struct n 0 0) (time s) (valid-time c) c.if-station-ne-STATION_WORDS.true)
+    (no-station-then (words s) _ (λ (n : ℕ). usage_struct n 0 0) (time s) (valid-time (goal.at.returns-then-station-ne-STATION_WORDS c).Else-not-is_valid) c.if-station-ne-STATION_WORDS.true)
 
 pub returns-then-not-station_is_sound : goal.returns-then-not-station_is_sound
 unfolding usage_answer
 returns-then-not-station_is_sound c =
-    let s = start c in
-    is-station-then (words s) _ (λ (n : ℕ). usage_struct n 0 0) (time s) (valid-time c) c.if-station-ne-STATION_WORDS.false
+    let s = (goal.at.returns-then-not-station_is_sound c).Start in
+    is-station-then (words s) _ (λ (n : ℕ). usage_struct n 0 0) (time s) (valid-time (goal.at.returns-then-not-station_is_sound c).Else-not-is_valid) c.if-station-ne-STATION_WORDS.false
     (c.usage_answer-then-not-station_is_sound.ensures ∙ ap (λ (n : ℕ). usage_struct n 0 0) c.unsound-then-not-station_is_sound.ensures
-    ∙ usage-unsound (station_from s.args.station.now) (time s) (said-no c.station_is_sound.ensures c.if-not-station_is_sound.true))
+    ∙ usage-unsound (station_from c.args.station.now) (time s) (said-no c.station_is_sound.ensures c.if-not-station_is_sound.true))
 
 pub entry_at-e-requires : goal.entry_at-e-requires
 entry_at-e-requires c =
@@ -65,9 +60,10 @@ entry_at-e-requires c =
 pub returns : goal.returns
 unfolding usage_answer
 returns c =
-    let s = start c in
-    let ws = s.args.station.now in
+    let s = (goal.at.returns c).Start in
+    let e = (goal.at.returns c).Else-not-is_valid in
+    let ws = c.args.station.now in
     let x = ap (λ (y : TdmaTime). entry_at (station_from ws).uplink.rows (slot_of y)) c.time_at-time.ensures in
-    is-station-then (words s) _ (λ (n : ℕ). usage_struct n 0 0) (time s) (valid-time c) c.if-station-ne-STATION_WORDS.false
+    is-station-then (words s) _ (λ (n : ℕ). usage_struct n 0 0) (time s) (valid-time e) c.if-station-ne-STATION_WORDS.false
     (c.usage_found.ensures ∙ ap (λ (y : AccessAssignUlUsage). usage_struct 0 (usage_number y) (marker_or_zero (marker_of_usage y))) c.usage_of-usage.ensures
-    ∙ usage-yes (station_from ws) (time s) (sound c) (valid-time c) _ (c.entry_at-e.ensures ∙ x))
+    ∙ usage-yes (station_from ws) (time s) (sound (goal.at.returns c).Else-not-station_is_sound) (valid-time e) _ (c.entry_at-e.ensures ∙ x))

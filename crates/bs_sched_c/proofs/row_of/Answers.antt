@@ -1,5 +1,4 @@
 -- A legal timeslot has its row, any other the first. Assumes nothing.
-use borrow.Author.Rules.{rules}
 use native.Mathlib.Omega.{arith}
 use mathlib.Core.Path.{sym, refl, ◌∙◌}
 use mathlib.Core.Bool.{false≢true}

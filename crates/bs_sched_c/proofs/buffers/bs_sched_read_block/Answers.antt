@@ -3,7 +3,6 @@ use native.Mathlib.Omega.{arith}
 use Rattle.header_words.proofs.ListLaws.{FewAndLow}
 use Rattle.mac_reader.specs.Reader.{reading_of}
 use Rattle.bs_sched_c.proofs.BufferLaws.{other-list, few-and-low, not_listed, listed}
-use borrow.Author.Rules.{rules}
 use Rattle.bs_sched_c.proofs.buffers.bs_sched_read_block.Goals as goal
 use Rattle.bs_sched_c.proofs.buffers.bs_sched_read_block.Goals.{After-outcome_number-n}
 
@@ -26,7 +25,7 @@ returns-then-n-ne0 c =
 
 pub put_headers-requires : goal.put_headers-requires
 put_headers-requires c =
-    let f = known c in
+    let f = known (goal.at.put_headers-requires c).After-outcome_number-n in
     (c.if-headers-ne-LIST_WORDS.false, f.few, f.low)
 
 pub overflow_cast-count : goal.overflow_cast-count

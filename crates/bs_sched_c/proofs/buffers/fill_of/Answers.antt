@@ -1,6 +1,5 @@
 -- Arm by arm. Assumes nothing.
 use Rattle.fillbits.specs.Fill.{reply}
-use borrow.Author.Rules.{rules}
 use Rattle.bs_sched_c.proofs.buffers.fill_of.Goals as goal
 
 pub returns-in-Refused : goal.returns-in-Refused

@@ -1,5 +1,4 @@
 -- Arm by arm. Assumes nothing.
-use borrow.Author.Rules.{rules}
 use Rattle.bs_sched_c.proofs.buffers.written_of.Goals as goal
 
 pub returns-in-Refused : goal.returns-in-Refused

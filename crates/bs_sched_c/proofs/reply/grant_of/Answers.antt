@@ -1,5 +1,4 @@
 -- Arm by arm. Assumes nothing.
-use borrow.Author.Rules.{rules}
 use mathlib.Core.Path.{◌∙◌}
 use Rattle.bs_sched_c.proofs.reply.grant_of.Goals as goal
 

@@ -1,5 +1,4 @@
 -- The marker or 0. Assumes nothing.
-use borrow.Author.Rules.{rules}
 use Rattle.bs_sched_c.proofs.reply.granted.Goals as goal
 
 pub returns : goal.returns

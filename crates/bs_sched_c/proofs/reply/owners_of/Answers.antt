@@ -1,6 +1,5 @@
 -- Owner by owner. Assumes nothing.
 use mathlib.Core.Path.{◌∙◌, ap}
-use borrow.Author.Rules.{rules}
 use Rattle.sched_words.specs.Words.{word_of32}
 use Rattle.bs_sched_c.proofs.reply.owners_of.Goals as goal
 

@@ -1,5 +1,4 @@
 -- Arm by arm. Assumes nothing.
-use borrow.Author.Rules.{rules}
 use Rattle.bs_sched_c.proofs.reply.usage_found.Goals as goal
 
 pub returns-in-CommonOnly : goal.returns-in-CommonOnly
