@@ -33,8 +33,8 @@ awk '
         if (first ~ /`omega`: the (part .* of the )?goal does not follow/) return "omega"
         if (first ~ /`(search|grind)`: no proof of /) return "search"
         if (first ~ /`cc`: the equations do not join|`cc` met a bound of its own before|list the missing equation with its arguments/) return "cc"
-        if (first ~ /give a proof of that as the last argument|what it leaves must be a path whose two ends are equal/) return "rewritten"
-        if (first ~ /the two (types|sides) (first )?differ|expected type `/) return "types"
+        if (first ~ /give a proof of that as |what it leaves must be a path whose two ends are equal/) return "rewritten"
+        if (first ~ /the two (types|sides) (first )?differ|computed as a goal is, one side reads |expected type `/) return "types"
         if (first ~ / ≟ .* does not hold \(this comparison/) return "compared"
         # the first of its lines is the first value, and `rt ci` prints no other
         if (first ~ /error: `[^`]*`: `borrow[.][^`]*`?$/) return "compared"

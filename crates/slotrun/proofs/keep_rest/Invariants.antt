@@ -1,0 +1,12 @@
+-- The loop's invariant: what is moved, and what still stands. Assumes nothing.
+use Prim.Native.Nat.{◌-◌, ◌≤◌}
+use native.Mathlib.Omega.{arith}
+use borrow.Author.Rules.{rules}
+use Rattle.slotrun.proofs.KeptLaws.{Kept, kept-none, kept_next}
+use Rattle.slotrun.proofs.keep_rest.Given as goal
+
+abbrev pub invariant-loop-at : goal.invariant-loop-at
+invariant-loop-at l = (l.i ≤ l.to - l.from) × Kept l.initial.input l.input l.from l.at l.i
+
+abbrev pub decreases-loop-at : goal.decreases-loop-at
+decreases-loop-at l = l.to - l.at
