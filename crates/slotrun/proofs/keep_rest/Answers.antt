@@ -1,8 +1,7 @@
 -- The loop's invariant: what is moved, and what still stands. Assumes nothing.
-use Prim.Native.Nat.{◌-◌, ◌≤◌}
 use native.Mathlib.Omega.{arith}
 use borrow.Author.Rules.{rules}
-use Rattle.slotrun.proofs.KeptLaws.{Kept, kept-none, kept_next}
+use Rattle.slotrun.proofs.KeptLaws.{kept-none, kept_next}
 use Rattle.slotrun.proofs.keep_rest.Goals as goal
 
 pub loop-at-preserved : goal.loop-at-preserved
