@@ -126,10 +126,6 @@ for unfit in tests/logs/unfit/*.log; do
     refuses "an edit that is not refused by a fact, $unfit" "not by a fact: $last" tests/after/refused_by_a_fact.sh said
 done
 refuses "an edit of which nothing is said" "not tried: $last" tests/after/refused_by_a_fact.sh but_one
-{ cat but_one; echo "rt: ${last%%/*} is kept: an earlier run on this machine proved the same files over the same libraries"; } > said
-refuses "an edit told of a crate that is kept" 'once more than it is there' tests/after/refused_by_a_fact.sh said
-grep -v "^rt: must-fail ${last%%/*}/" said > said_of_others
-passes "a crate that is kept from an earlier run" tests/after/refused_by_a_fact.sh said_of_others
 { cat all; as_told other/other.edit "$fact"; } > said
 refuses "a line on another edit" 'it is there: other/other.edit' tests/after/refused_by_a_fact.sh said
 : > said

@@ -1,7 +1,6 @@
 #!/bin/sh
 # Run behind `rt ci`, on what it printed: it says of each must-fail edit, in a line of its own, by what it was refused, and that is a fact that
-# no longer holds, and not a proof file that no longer fits the code (tools/fact.sh). Of a crate that it kept from an earlier run on the same
-# files it says nothing more, and that run was judged. It prints only what is wrong.
+# no longer holds, and not a proof file that no longer fits the code (tools/fact.sh). It prints only what is wrong.
 # usage: refused_by_a_fact.sh [LOG]     LOG: what `rt ci` printed, in the place of the file that the variable LOG names
 set -eu
 cd "$(dirname "$0")/../.."
@@ -10,8 +9,7 @@ work=$(mktemp -d)
 trap 'rm -rf "$work"' EXIT
 for edit in crates/*/must-fail/*.edit; do
     crate=${edit#crates/}
-    crate=${crate%%/*}
-    if ! grep -q "^rt: $crate is kept: " "$log"; then echo "$crate/${edit##*/}"; fi
+    echo "${crate%%/*}/${edit##*/}"
 done | sort > "$work/edits"
 sed -nE 's/^rt: must-fail ([^ ]*): .*/\1/p' "$log" | sort > "$work/tried"
 bad=0
@@ -21,8 +19,7 @@ if ! diff "$work/edits" "$work/tried" > "$work/differ"; then
     bad=1
 fi
 grep '^rt: must-fail ' "$log" > "$work/lines" || true
-said=
-if [ -s "$work/lines" ]; then said=$(sh tools/fact.sh "$work/lines") || bad=1; fi
+said=$(sh tools/fact.sh "$work/lines") || bad=1
 if [ "$bad" != 0 ]; then
     echo "$said" | grep -E '^(no log|not by a fact): ' || true
     exit 1

@@ -1,8 +1,7 @@
 // The public entries: the functions over the caller's queue.
 #![tactic(auto)]
 
-ghost use Rattle.core.specs.Prelude.{slice_set};
-ghost use Rattle.std.specs.Prelude.{◌≡◌, true, false, [], ◌∷◌, ◌+◌, ◌≤◌, length, take, drop, replicate};
+ghost use Rattle.std.specs.Prelude.{◌≡◌, true, false, [], ◌∷◌, ◌+◌, ◌≤◌, length, take, drop, replicate, slice_set};
 ghost use Rattle.std.proofs.Math.Seq.{paste};
 ghost use Rattle.sizes.specs.Sizes.{per_timeslot};
 ghost use Rattle.dl_record.specs.Record.{empty_record};

@@ -19,7 +19,8 @@ use Rattle.sched_core.proofs.QuestionLaws.{memory-positive}
 use Rattle.sched_core.specs.Questions.{memory, memory_questions}
 use Rattle.sched_enqueue.specs.Plan.{SoundQueue}
 use Rattle.sched_enqueue.proofs.PlanLaws.{Told, yes-told}
-use Rattle.sched_words.specs.Words.{record_word_count, queue_word_count, same_words, station_words, station_read, station_from, no_station, record_words, queue_words}
+use Rattle.sched_words.specs.Words.{record_word_count, queue_word_count, same_words, station_words, station_read, station_from, no_station, record_words}
+use Rattle.sched_words.specs.Words.{queue_words}
 use Rattle.sched_words.specs.Words.{record_read, records_read, no_record, queue_from, records_from}
 use Rattle.sched_words.proofs.WordLaws.{length-parts}
 use Rattle.sched_words.proofs.WordsQueue.{sound-read, sound-words, set_words}

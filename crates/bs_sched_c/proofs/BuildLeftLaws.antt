@@ -47,7 +47,8 @@ module _ (ws qs st block : List ℕ) (size : length ws ≡ station_word_count) w
   abbrev promised : BuildWordsLeft
   promised = ask (asks_station_words ws ∷ []) (build_words_left_by ws qs st block (build_call m block)) no
 
-  refused-left : (n : ℕ) → 1 ≤ n → build_words_left (not_built_struct n) ws qs st block ≡ build_words_left_by ws qs st block (nothing (Numbered.refused n) m block)
+  refused-left : (n : ℕ) → 1 ≤ n → build_words_left (not_built_struct n) ws qs st block ≡ build_words_left_by ws qs st block
+      (nothing (Numbered.refused n) m block)
   unfolding tag_row
   refused-left n p = rw (ne_eqb n 0 (λ z. omega (arith, z, p)))
 

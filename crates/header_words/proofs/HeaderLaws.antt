@@ -160,7 +160,8 @@ listed-words n ps few size =
 -- a turn of the loop that stores them
 pub headers-next : (ps : List PlacedHeader) (i : ℕ) → i < length ps → (l l' v : List ℕ) (d : PlacedHeader) → l' ≡ sets l (header_word_count * i) v
     → v ≡ placed_words (get_or ps i d)
-    → sets l' (header_word_count * (i + 1)) (words_of_all placed_words (drop (i + 1) ps)) ≡ sets l (header_word_count * i) (words_of_all placed_words (drop i ps))
+    → sets l' (header_word_count * (i + 1)) (words_of_all placed_words (drop (i + 1) ps)) ≡ sets l (header_word_count * i)
+    (words_of_all placed_words (drop i ps))
 headers-next ps i h l l' v d stored e =
     joined-next placed_words header_word_count placed-size l l' v ps (header_word_count * i) (header_word_count * (i + 1)) i d h stored e (omega arith)
 

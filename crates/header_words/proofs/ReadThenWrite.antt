@@ -21,7 +21,8 @@ use Rattle.mac_pdus.proofs.ReadLaws.{resource-parts, resource_parts, resource_ne
 use Rattle.mac_reader.specs.declared.PlacedHeader.{PlacedHeader}
 use Rattle.mac_reader.specs.declared.PduStep.{PduStep}
 use Rattle.mac_reader.specs.declared.PduStep.TheVariants.{Malformed, Last, More}
-use Rattle.mac_reader.specs.Reader.{octets_inside, header_end, starts_fragment, stops_after, well_placed, resource_step, end_step, end_at, fragment_at, of_type, pdu_at}
+use Rattle.mac_reader.specs.Reader.{octets_inside, header_end, starts_fragment, stops_after, well_placed, resource_step, end_step, end_at, fragment_at}
+use Rattle.mac_reader.specs.Reader.{of_type, pdu_at}
 use Rattle.mac_reader.specs.Reader.{Listing, refused, headers, before, on_step, read_pdus, most_pdus, block_pdus}
 use Rattle.mac_writer.specs.Writer.{room_for, write_questions, write_reply}
 use Rattle.header_words.specs.HeaderWords.{header_words, write_words_reply}

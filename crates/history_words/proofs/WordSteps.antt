@@ -24,7 +24,8 @@ use Rattle.sched_core.specs.Calls.{block_built, not_built, advance_call, owner_c
 use Rattle.sched_core.specs.Invariant.{SoundMemory, is_done}
 use Rattle.sched_core.proofs.QuestionLaws.{right-lengths}
 use Rattle.sched_core.proofs.QueuesLaws.{every-queueing-queues}
-use Rattle.sched_words.specs.Words.{station_word_count, record_word_count, time_words, words_of_row, table_words, station_words, station_from, queue_words, offered_from}
+use Rattle.sched_words.specs.Words.{station_word_count, record_word_count, time_words, words_of_row, table_words, station_words, station_from, queue_words}
+use Rattle.sched_words.specs.Words.{offered_from}
 use Rattle.sched_words.proofs.WordLaws.{row-size}
 use Rattle.sched_words.proofs.QueueRoundTrip.{Tagged, memory-back}
 use Rattle.bs_sched_c.specs.declared.reply.BsSchedGrant.{BsSchedGrant}

@@ -1,5 +1,7 @@
 -- Words that are those of what is read from them: single words, and words one after another. Assumes nothing.
-use Rattle.std.proofs.Common.{◌≡◌, ℕ, zero, suc, ◌+◌, ◌*◌, ◌%◌, ◌^◌, ◌<◌, ◌≤◌, Bool, true, ◌&&◌, eqb, ltb, leb, List, [], ◌∷◌, ◌++◌, length, get_or, take, drop, replicate, sym, refl, ap, ◌∙◌, ap₂, append_assoc, mod-lt, mod-eq_of_lt, arith, drop-cons, drop-drop, ltb-true, le-ltb, lt-ltb, eq-eqb, ne_eqb, eqb-true}
+use Rattle.std.proofs.Common.{◌≡◌, ℕ, zero, suc, ◌+◌, ◌*◌, ◌%◌, ◌^◌, ◌<◌, ◌≤◌, Bool, true, ◌&&◌, eqb, ltb, leb, List, [], ◌∷◌, ◌++◌, length, get_or, take}
+use Rattle.std.proofs.Common.{drop, replicate, sym, refl, ap, ◌∙◌, ap₂, append_assoc, mod-lt, mod-eq_of_lt, arith, drop-cons, drop-drop, ltb-true, le-ltb}
+use Rattle.std.proofs.Common.{lt-ltb, eq-eqb, ne_eqb, eqb-true}
 use mathlib.Core.Bool.{and_assoc}
 use Rattle.dl_record.proofs.Tests.{same_test}
 use Rattle.dl_sdu_store.specs.Cells.{all_zero}
@@ -54,7 +56,8 @@ pub spelled : (n i : ℕ) (ws : List ℕ) → i + n ≤ length ws → drop i ws 
 spelled zero i ws h = let e : i ≡ i + 0 = omega arith in ap (λ (j : ℕ). drop j ws) e
 spelled (suc n) i ws h =
     let e : suc i + n ≡ i + suc n = omega arith in
-    drop-cons ws i 0 (omega arith) ∙ ap (λ (l : List ℕ). get_or ws i 0 ∷ l) (spelled n (suc i) ws (omega arith) ∙ ap (λ (j : ℕ). run (suc i) n ws ++ drop j ws) e)
+    drop-cons ws i 0 (omega arith) ∙ ap (λ (l : List ℕ). get_or ws i 0 ∷ l)
+    (spelled n (suc i) ws (omega arith) ∙ ap (λ (j : ℕ). run (suc i) n ws ++ drop j ws) e)
 
 pub begins-append : (vs us ws : List ℕ) (n : ℕ) → length vs ≡ n → begins (vs ++ us) ws ≡ begins vs ws && begins us (drop n ws)
 unfolding begins

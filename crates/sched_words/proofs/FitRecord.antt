@@ -1,5 +1,6 @@
 -- The words of a record fit, word by word. Assumes nothing.
-use Rattle.std.proofs.Common.{◌≡◌, ℕ, zero, suc, ◌%◌, ◌≤◌, Bool, true, ◌&&◌, eqb, ltb, leb, List, [], ◌∷◌, ◌++◌, length, get_or, take, drop, replicate, sym, refl, ap, ◌∙◌, ap₂, arith, length-drop, drop-cons, drop-drop, eq-eqb, eqb-true}
+use Rattle.std.proofs.Common.{◌≡◌, ℕ, zero, suc, ◌%◌, ◌≤◌, Bool, true, ◌&&◌, eqb, ltb, leb, List, [], ◌∷◌, ◌++◌, length, get_or, take, drop, replicate}
+use Rattle.std.proofs.Common.{sym, refl, ap, ◌∙◌, ap₂, arith, length-drop, drop-cons, drop-drop, eq-eqb, eqb-true}
 use mathlib.Core.Bool.{and_assoc, and-true}
 use Rattle.dl_record.proofs.Tests.{same_test}
 use Rattle.optional.proofs.Tests.{and_left, and_right}
@@ -33,7 +34,8 @@ module _ (ws : List ℕ) (size : length ws ≡ record_word_count) where
       ∙ ap (λ (w : ℕ). begins (alloc_words (alloc_from w ws)) (drop 11 ws)) (sym e)
 
   pub alloc-fits : (get_or ws 11 0 ≡ 0 → ⊥)
-      → eqb (get_or ws 11 0) 1 && ltb (get_or ws 12 0) 256 && ltb (get_or ws 13 0) 256 && ltb (get_or ws 14 0) 256 && ltb (get_or ws 15 0) 256 && ltb (get_or ws 16 0) 256
+      → eqb (get_or ws 11 0) 1 && ltb (get_or ws 12 0) 256 && ltb (get_or ws 13 0) 256 && ltb (get_or ws 14 0) 256 && ltb (get_or ws 15 0) 256 && ltb
+      (get_or ws 16 0) 256
       && ltb (get_or ws 17 0) 65536 && ltb (get_or ws 18 0) 256 && ltb (get_or ws 19 0) 256 && leb (get_or ws 20 0) 256
       ≡ begins (alloc_words (alloc_from (get_or ws 11 0) ws)) (drop 11 ws)
   unfolding begins
@@ -54,7 +56,8 @@ nested9 a b c d e f g h i = simp and_assoc
 
 -- tag and header
 pub header-fits : (ws : List ℕ) (alloc : Bool) → length ws ≡ record_word_count → alloc ≡ begins (alloc_words (alloc_from (get_or ws 11 0) ws)) (drop 11 ws)
-    → leb (get_or ws 3 0) 65536 && ltb (get_or ws 4 0) 256 && ltb (get_or ws 5 0) 256 && ltb (get_or ws 6 0) 256 && leb (get_or ws 7 0) 65536 && leb (get_or ws 8 0) 256
+    → leb (get_or ws 3 0) 65536 && ltb (get_or ws 4 0) 256 && ltb (get_or ws 5 0) 256 && ltb (get_or ws 6 0) 256 && leb (get_or ws 7 0) 65536 && leb
+    (get_or ws 8 0) 256
     && leb (get_or ws 9 0) 256 && leb (get_or ws 10 0) 256 && alloc
     ≡ header_fits ws
 unfolding begins

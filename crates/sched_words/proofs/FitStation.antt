@@ -1,7 +1,9 @@
 -- The words of a station fit, part by part. Assumes nothing.
-use Rattle.std.proofs.Common.{◌≡◌, ℕ, ◌+◌, ◌*◌, ◌^◌, ◌<◌, ◌≤◌, Bool, true, ◌&&◌, ltb, leb, List, ◌++◌, length, get_or, drop, sym, refl, ap, ◌∙◌, ap₂, arith, drop-drop}
+use Rattle.std.proofs.Common.{◌≡◌, ℕ, ◌+◌, ◌*◌, ◌^◌, ◌<◌, ◌≤◌, Bool, true, ◌&&◌, ltb, leb, List, ◌++◌, length, get_or, drop, sym, refl, ap, ◌∙◌, ap₂}
+use Rattle.std.proofs.Common.{arith, drop-drop}
 use mathlib.Core.Bool.{and_assoc, and-true}
-use Rattle.sched_words.specs.Words.{words_of_all, read_all, same_words, time_words, time_from, entry_words, entry_from, words_of_row, row_from, four_from, table_words}
+use Rattle.sched_words.specs.Words.{words_of_all, read_all, same_words, time_words, time_from, entry_words, entry_from, words_of_row, row_from, four_from}
+use Rattle.sched_words.specs.Words.{table_words}
 use Rattle.sched_words.specs.Words.{table_from, station_words, station_read}
 use Rattle.sched_words.specs.Front.{begins}
 use Rattle.sched_words.proofs.FitLaws.{low_fits, opt8-fits, opt32-fits, spelled, begins-append, begins-whole, joined-append, parts_add}
@@ -20,7 +22,8 @@ time-fits ws h =
 
 -- ---- entries: the owners of any words fit
 
-pub entry-fits : (ws : List ℕ) → 3 ≤ length ws → get_or ws 0 0 < 2 ^ 32 → get_or ws 1 0 < 2 ^ 32 → leb (get_or ws 2 0) 256 ≡ begins (entry_words (entry_from ws)) ws
+pub entry-fits : (ws : List ℕ) → 3 ≤ length ws → get_or ws 0 0 < 2 ^ 32 → get_or ws 1 0 < 2 ^ 32 → leb (get_or ws 2 0) 256 ≡ begins
+    (entry_words (entry_from ws)) ws
 unfolding begins
 entry-fits ws h a b =
     sym (and-true (leb (get_or ws 2 0) 256))
@@ -31,7 +34,8 @@ entry-fits ws h a b =
 
 row_more : (n : ℕ) (ws : List ℕ) → words_of_all entry_words (read_all entry_from 3 (n + 18) ws) ≡ words_of_all entry_words (read_all entry_from 3 n ws)
     ++ words_of_row (row_from (drop (3 * n) ws))
-row_more n ws = ap (words_of_all entry_words) (parts_add entry_from 3 n 18 ws) ∙ joined-append entry_words (read_all entry_from 3 n ws) (row_from (drop (3 * n) ws))
+row_more n ws = ap (words_of_all entry_words) (parts_add entry_from 3 n 18 ws) ∙ joined-append entry_words (read_all entry_from 3 n ws)
+    (row_from (drop (3 * n) ws))
 
 -- 72 entries are four rows
 table-rows : (ws : List ℕ) → words_of_all entry_words (read_all entry_from 3 72 (drop 4 ws)) ≡ table_words (table_from ws)

@@ -1,5 +1,7 @@
 -- The same for records and the queue. Assumes nothing.
-use Rattle.std.proofs.Common.{◌≡◌, ℕ, zero, suc, ◌*◌, ◌%◌, ◌^◌, ◌<◌, ◌≤◌, true, false, not, ◌&&◌, eqb, ltb, leb, List, [], ◌∷◌, ◌++◌, length, get_or, take, drop, replicate, sym, refl, ap, ◌∙◌, subst, append-nil, add-one, arith, length-drop, take-append-drop, ltb-true, eq-eqb, eqb-true, leb-true}
+use Rattle.std.proofs.Common.{◌≡◌, ℕ, zero, suc, ◌*◌, ◌%◌, ◌^◌, ◌<◌, ◌≤◌, true, false, not, ◌&&◌, eqb, ltb, leb, List, [], ◌∷◌, ◌++◌, length, get_or, take}
+use Rattle.std.proofs.Common.{drop, replicate, sym, refl, ap, ◌∙◌, subst, append-nil, add-one, arith, length-drop, take-append-drop, ltb-true, eq-eqb}
+use Rattle.std.proofs.Common.{eqb-true, leb-true}
 use Rattle.lists.proofs.Every.{All, all_append, all_drop}
 use Rattle.sizes.specs.Sizes.{per_timeslot, queue_places, timeslot_octets}
 use Rattle.optional.specs.declared.OptU8.{OptU8}
@@ -10,7 +12,8 @@ use Rattle.mac_pdus.specs.declared.ChanAllocElement.{ChanAllocElement}
 use Rattle.mac_pdus.specs.declared.OptChanAlloc.{OptChanAlloc}
 use Rattle.dl_record.specs.declared.Kind.{Kind}
 use Rattle.dl_record.specs.declared.Record.{Record}
-use Rattle.mac_pdus.specs.Legal.{fits, absent_u8, absent_u16, absent_chan_alloc, opt_below, opt_fits, legal_frame18, legal_chan_alloc, legal_opt_chan_alloc, legal_queued}
+use Rattle.mac_pdus.specs.Legal.{fits, absent_u8, absent_u16, absent_chan_alloc, opt_below, opt_fits, legal_frame18, legal_chan_alloc}
+use Rattle.mac_pdus.specs.Legal.{legal_opt_chan_alloc, legal_queued}
 use Rattle.mac_pdus.proofs.Conjunctions.{and3, and4, and10, and6}
 use Rattle.dl_record.specs.Record.{empty_record, resource_of}
 use Rattle.dl_record.proofs.HeaderLaws.{legal-fields}
@@ -20,7 +23,8 @@ use Rattle.dl_record.specs.Questions.{legal_address, header_holds_grant_only, ho
 use Rattle.dl_queue.specs.Questions.{sound_place, sound_places, sound_queue}
 use Rattle.sched_core.specs.Questions.{Memory}
 use Rattle.sched_core.specs.Invariant.{SoundMemory}
-use Rattle.sched_words.specs.Words.{record_word_count, queue_word_count, station_words, station_from, word_of8, word_of16, opt_u8, opt_u16, kind_word, kind_from}
+use Rattle.sched_words.specs.Words.{record_word_count, queue_word_count, station_words, station_from, word_of8, word_of16, opt_u8, opt_u16, kind_word}
+use Rattle.sched_words.specs.Words.{kind_from}
 use Rattle.sched_words.specs.Words.{alloc_words, alloc_from, record_words, record_read, no_record, queue_words, records_read, queue_from}
 use Rattle.sched_words.specs.Words.{records_from}
 use Rattle.sched_words.proofs.WordLaws.{record-size, length-joined}
@@ -145,7 +149,8 @@ queue-back rs e f =
     let size : length (queue_words rs) ≡ queue_word_count = length-joined record_words record_word_count record-size rs ∙ omega (arith, e) in
     rw (eq-eqb _ _ size)
     (read_back queue_words records_read (replicate queue_places no_record) rs
-    (ap records_read (sym (append-nil (queue_words rs))) ∙ parts-back record_words record_read record_word_count record-size RecordFits record-read-back queue_places
+    (ap records_read (sym (append-nil (queue_words rs))) ∙ parts-back record_words record_read record_word_count record-size RecordFits record-read-back
+    queue_places
     rs [] e f))
 
 -- ---- the fields of a sound record have the widths of their types, but for the tag, of which question 1 asks nothing
@@ -352,7 +357,8 @@ no-queue n ns s h =
     (no_place n s)
 
 -- of 1,472 words that stand for a sound queue: they are its words
-pub queue-words-back : (n : ℕ) (ns s ws : List ℕ) → length ws ≡ queue_word_count → sound_queue (n ∷ ns) (records_from ws) s ≡ true → queue_words (records_from ws)
+pub queue-words-back : (n : ℕ) (ns s ws : List ℕ) → length ws ≡ queue_word_count → sound_queue (n ∷ ns) (records_from ws) s ≡ true → queue_words
+    (records_from ws)
     ≡ ws
 unfolding records_from queue_from
 queue-words-back n ns s ws e =

@@ -1,6 +1,7 @@
 -- Words stand for one station and one queue, and these for one list of words. So what one call leaves is what the next one gets, and a history over words is
 -- a history of document 01. Assumes nothing.
-use Rattle.std.proofs.Common.{◌≡◌, ℕ, zero, suc, ◌+◌, ◌%◌, ◌^◌, ◌<◌, ◌≤◌, Bool, true, false, cond, eqb, leb, List, [], ◌∷◌, ◌++◌, length, get_or, drop, sym, refl, ap, ◌∙◌, append_assoc, append-nil, add-one, arith, drop-drop, drop_at, ltb-true, eq-eqb, eqb-true, leb-true}
+use Rattle.std.proofs.Common.{◌≡◌, ℕ, zero, suc, ◌+◌, ◌%◌, ◌^◌, ◌<◌, ◌≤◌, Bool, true, false, cond, eqb, leb, List, [], ◌∷◌, ◌++◌, length, get_or, drop}
+use Rattle.std.proofs.Common.{sym, refl, ap, ◌∙◌, append_assoc, append-nil, add-one, arith, drop-drop, drop_at, ltb-true, eq-eqb, eqb-true, leb-true}
 use Rattle.lists.proofs.Every.{All, all-weaken}
 use Rattle.sizes.specs.Sizes.{timeslots, per_timeslot}
 use Rattle.optional.specs.declared.OptU8.{OptU8}

@@ -1,5 +1,7 @@
 -- The words of a station, judged where they stand. Assumes nothing.
-use Rattle.std.proofs.Common.{◌≡◌, ℕ, zero, suc, ◌+◌, ◌-◌, ◌*◌, ◌%◌, ◌^◌, ◌<◌, ◌≤◌, Bool, true, false, cond, ◌&&◌, ◌||◌, eqb, leb, List, [], ◌∷◌, ◌++◌, length, get_or, drop, sym, refl, ap, ◌∙◌, ap₂, mod-eq_of_lt, arith, length-drop, get_or-drop, drop-drop, eq-eqb, ne_eqb, eqb-true, le-leb, leb-true}
+use Rattle.std.proofs.Common.{◌≡◌, ℕ, zero, suc, ◌+◌, ◌-◌, ◌*◌, ◌%◌, ◌^◌, ◌<◌, ◌≤◌, Bool, true, false, cond, ◌&&◌, ◌||◌, eqb, leb, List, [], ◌∷◌, ◌++◌}
+use Rattle.std.proofs.Common.{length, get_or, drop, sym, refl, ap, ◌∙◌, ap₂, mod-eq_of_lt, arith, length-drop, get_or-drop, drop-drop, eq-eqb, ne_eqb}
+use Rattle.std.proofs.Common.{eqb-true, le-leb, leb-true}
 use mathlib.Core.Bool.{and_assoc, and-true, and-false}
 use Rattle.optional.proofs.Tests.{and_left, and_right, and_intro}
 use Rattle.dl_record.proofs.Tests.{same_test}
@@ -100,7 +102,8 @@ judged-turn ws sound b i h w l e =
     (sym (ap (λ (m : ℕ). begins (words_of_all entry_words (read_all entry_from 3 m d)) d && all sound_entry (read_all entry_from 3 m d)) more
     ∙ ap (λ (x : Bool). x && (sound_entry (entry_from d) && sounds)) (parts-turn entry_words entry_from 3 (λ x. refl) n d)
     ∙ shuffle (begins (entry_words (entry_from d)) d) fits (sound_entry (entry_from d)) sounds
-    ∙ ap₂ (λ (x : Bool) (v : List ℕ). x && (begins (words_of_all entry_words (read_all entry_from 3 n v)) v && all sound_entry (read_all entry_from 3 n v))) (sym here)
+    ∙ ap₂ (λ (x : Bool) (v : List ℕ). x && (begins (words_of_all entry_words (read_all entry_from 3 n v)) v && all sound_entry
+    (read_all entry_from 3 n v))) (sym here)
     (drop-drop 3 at ws ∙ ap (λ (j : ℕ). drop j ws) next)))
 
 pub judged-done : (ws : List ℕ) (sound : Bool) (i : ℕ) → 72 ≤ i → sound ≡ sound && judged_from i ws
@@ -108,7 +111,8 @@ unfolding begins words_of_all read_all all
 judged-done ws sound i h =
     let n : 0 ≡ 72 - i = omega arith in
     let d : List ℕ = drop (3 * i) ws in
-    sym (and-true sound) ∙ ap (λ (m : ℕ). sound && (begins (words_of_all entry_words (read_all entry_from 3 m d)) d && all sound_entry (read_all entry_from 3 m d))) n
+    sym (and-true sound) ∙ ap (λ (m : ℕ). sound && (begins (words_of_all entry_words (read_all entry_from 3 m d)) d && all sound_entry
+    (read_all entry_from 3 m d))) n
 
 all_append : {A : Type 0} (p : A → Bool) (xs ys : List A) → all p (xs ++ ys) ≡ all p xs && all p ys
 unfolding all

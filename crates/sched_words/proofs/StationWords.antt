@@ -1,5 +1,6 @@
 -- The words of a station that a call alters. Assumes nothing.
-use Rattle.std.proofs.Common.{◌≡◌, ℕ, zero, suc, ◌+◌, ◌-◌, ◌*◌, ◌<◌, ◌≤◌, Bool, true, false, cond, List, [], ◌∷◌, ◌++◌, length, get_or, drop, set, sym, refl, ap, ◌∙◌, subst, ap₂, arith, length-append, drop-drop}
+use Rattle.std.proofs.Common.{◌≡◌, ℕ, zero, suc, ◌+◌, ◌-◌, ◌*◌, ◌<◌, ◌≤◌, Bool, true, false, cond, List, [], ◌∷◌, ◌++◌, length, get_or, drop, set, sym}
+use Rattle.std.proofs.Common.{refl, ap, ◌∙◌, subst, ap₂, arith, length-append, drop-drop}
 use lib.Seq.{sets}
 use Rattle.tdma_time.specs.declared.TdmaTime.{TdmaTime}
 use Rattle.tdma_time.specs.Time.{Valid, slot_of, next_time, four_earlier}
@@ -47,7 +48,8 @@ module _ (a b c d : List Entry) (sa : length a ≡ 18) (sb : length b ≡ 18) (s
 
   -- words stored in those of a row
   module _ (p : ℕ) (w : List ℕ) (row : List Entry) (room : p + length w ≤ 54) where
-    pub table-set : (r : ℕ) → r < 4 → sets (words_of_row (get_or tb r [])) p w ≡ words_of_row row → sets (table_words tb) (54 * r + p) w ≡ table_words (set tb r row)
+    pub table-set : (r : ℕ) → r < 4 → sets (words_of_row (get_or tb r [])) p w ≡ words_of_row row
+        → sets (table_words tb) (54 * r + p) w ≡ table_words (set tb r row)
     table-set zero h e =
         let first : 54 * 0 + p ≡ p = omega arith in
         ap (λ (j : ℕ). sets (A ++ B ++ C ++ D) j w) first
@@ -207,7 +209,8 @@ module _ (ws : List ℕ) (sound : sound_station (station_from ws) ≡ true) wher
       ∙ ap (λ (l : List ℕ). sets l (4 + (54 * r + 0)) (words_of_row row))
       (ap (λ (l : List ℕ). sets l 224 ns) (counters-stored x tb (four_from (drop 220 ws)) qs ms whole-table refl sm)
       ∙ counts-stored x tb ms qs ns whole-table sm refl sn)
-      ∙ row-stored x ms ns r h 0 (words_of_row row) row (omega arith) (λ l. sets-whole (words_of_row (get_or tb r [])) (words_of_row row) (size ∙ sym (row-size _ l)))
+      ∙ row-stored x ms ns r h 0 (words_of_row row) row (omega arith)
+      (λ l. sets-whole (words_of_row (get_or tb r [])) (words_of_row row) (size ∙ sym (row-size _ l)))
       ∙ ap (λ (s : Station). station_words (station_of (uplink_of s.uplink.time (set s.uplink.rows r row) ms) ns)) (sym as_read)
 
   -- one slot on: the time, and the entry that is emptied

@@ -1,5 +1,6 @@
 -- Words stored in a part of others, and those of one element in the words of a list. Assumes nothing.
-use Rattle.std.proofs.Common.{◌≡◌, ℕ, suc, ◌+◌, ◌*◌, ◌<◌, ◌≤◌, List, [], ◌∷◌, ◌++◌, length, get_or, take, drop, set, sym, refl, ap, ◌∙◌, ap₂, append_assoc, arith, length-append, length-set, take-append-drop, length-take-le, drop-cons, drop-drop, take_at, drop_at}
+use Rattle.std.proofs.Common.{◌≡◌, ℕ, suc, ◌+◌, ◌*◌, ◌<◌, ◌≤◌, List, [], ◌∷◌, ◌++◌, length, get_or, take, drop, set, sym, refl, ap, ◌∙◌, ap₂, append_assoc}
+use Rattle.std.proofs.Common.{arith, length-append, length-set, take-append-drop, length-take-le, drop-cons, drop-drop, take_at, drop_at}
 use lib.Seq.{sets, sets-eq, set-append_left, set_split}
 use Rattle.lists.proofs.Lists.{set-append-add}
 use Rattle.sched_words.specs.Words.{words_of_all}

@@ -1,5 +1,6 @@
 -- The records of a timeslot stored in their words. Assumes nothing.
-use Rattle.std.proofs.Common.{◌≡◌, ℕ, ◌+◌, ◌*◌, ◌<◌, ◌≤◌, true, List, ◌++◌, length, take, drop, sym, ap, ◌∙◌, append_assoc, arith, length-drop, take-append-drop, length-take-le, take-add}
+use Rattle.std.proofs.Common.{◌≡◌, ℕ, ◌+◌, ◌*◌, ◌<◌, ◌≤◌, true, List, ◌++◌, length, take, drop, sym, ap, ◌∙◌, append_assoc, arith, length-drop}
+use Rattle.std.proofs.Common.{take-append-drop, length-take-le, take-add}
 use lib.Seq.{sets, paste}
 use Rattle.sizes.specs.Sizes.{timeslots, queue_places}
 use Rattle.dl_record.specs.declared.Record.{Record}

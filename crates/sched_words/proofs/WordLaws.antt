@@ -1,5 +1,7 @@
 -- Words one after another, as the loops read and store them; and single words. Assumes nothing.
-use Rattle.std.proofs.Common.{◌≡◌, ℕ, zero, suc, ◌+◌, ◌-◌, ◌*◌, ◌%◌, ◌<◌, ◌≤◌, Bool, true, false, cond, not, List, [], ◌∷◌, ◌++◌, length, get_or, take, drop, set, sym, refl, ap, ◌∙◌, append-nil, le_of_suc-le-suc, not-suc-le-zero, add-zero, zero-add, add-one, sub-one, arith, length-append, drop_of_length-le, take_all, drop-cons, drop-drop, le-leb}
+use Rattle.std.proofs.Common.{◌≡◌, ℕ, zero, suc, ◌+◌, ◌-◌, ◌*◌, ◌%◌, ◌<◌, ◌≤◌, Bool, true, false, cond, not, List, [], ◌∷◌, ◌++◌, length, get_or, take}
+use Rattle.std.proofs.Common.{drop, set, sym, refl, ap, ◌∙◌, append-nil, le_of_suc-le-suc, not-suc-le-zero, add-zero, zero-add, add-one, sub-one, arith}
+use Rattle.std.proofs.Common.{length-append, drop_of_length-le, take_all, drop-cons, drop-drop, le-leb}
 use lib.Seq.{sets, sets-eq, paste-suc}
 use borrow.Author.Tests.{not-true, not-false, lt-leb}
 use Rattle.optional.specs.declared.OptU8.{OptU8}
@@ -10,7 +12,8 @@ use Rattle.mac_pdus.specs.declared.OptChanAlloc.{OptChanAlloc}
 use Rattle.dl_record.specs.declared.Kind.{Kind}
 use Rattle.dl_record.specs.declared.QueuedHeader.{QueuedHeader}
 use Rattle.dl_record.specs.declared.Record.{Record}
-use Rattle.sched_words.specs.Words.{record_word_count, Stored, opt_u8, opt_u16, opt_u32, kind_from, words_of_all, read_all, same_words, alloc_words, alloc_fields}
+use Rattle.sched_words.specs.Words.{record_word_count, Stored, opt_u8, opt_u16, opt_u32, kind_from, words_of_all, read_all, same_words, alloc_words}
+use Rattle.sched_words.specs.Words.{alloc_fields}
 use Rattle.sched_words.specs.Words.{alloc_from, queued_header_words, record_words, entry_words, words_of_row, saturated}
 
 -- ---- single words
@@ -43,7 +46,8 @@ saturated-high most w h = rw (lt-leb w most h)
 
 -- the words of a channel allocation, one by one
 pub ten-words : (a : List ℕ) (o : OptChanAlloc) (bits sent : ℕ) → a ≡ alloc_words o
-    → get_or a 0 0 ∷ get_or a 1 0 ∷ get_or a 2 0 ∷ get_or a 3 0 ∷ get_or a 4 0 ∷ get_or a 5 0 ∷ get_or a 6 0 ∷ get_or a 7 0 ∷ get_or a 8 0 ∷ get_or a 9 0 ∷ bits ∷ sent ∷ []
+    → get_or a 0 0 ∷ get_or a 1 0 ∷ get_or a 2 0 ∷ get_or a 3 0 ∷ get_or a 4 0 ∷ get_or a 5 0 ∷ get_or a 6 0 ∷ get_or a 7 0 ∷ get_or a 8 0 ∷ get_or a 9 0 ∷
+    bits ∷ sent ∷ []
     ≡ alloc_words o ++ bits ∷ sent ∷ []
 ten-words a OptChanAlloc.Absent bits sent e = rw e
 ten-words a (OptChanAlloc.Of c) bits sent e = rw e

@@ -1,6 +1,7 @@
 -- The queue that words stand for, place by place: it is sound exactly if the words of each place are those of a record that is sound there. A record stored in
 -- its words is one set in the queue. Assumes nothing.
-use Rattle.std.proofs.Common.{◌≡◌, ℕ, zero, suc, ◌+◌, ◌-◌, ◌*◌, ◌/◌, ◌%◌, ◌<◌, ◌≤◌, Bool, true, false, cond, ◌&&◌, ltb, List, [], ◌∷◌, length, get_or, take, drop, set, replicate, sym, refl, ap, ◌∙◌, ap₂, arith, length-drop, drop-drop}
+use Rattle.std.proofs.Common.{◌≡◌, ℕ, zero, suc, ◌+◌, ◌-◌, ◌*◌, ◌/◌, ◌%◌, ◌<◌, ◌≤◌, Bool, true, false, cond, ◌&&◌, ltb, List, [], ◌∷◌, length, get_or}
+use Rattle.std.proofs.Common.{take, drop, set, replicate, sym, refl, ap, ◌∙◌, ap₂, arith, length-drop, drop-drop}
 use mathlib.Core.Bool.{and_assoc}
 use lib.Seq.{sets}
 use Rattle.sizes.specs.Sizes.{cell_octets, timeslots, per_timeslot, queue_places}
@@ -14,7 +15,8 @@ use Rattle.dl_queue.specs.Questions.{sound_place, sound_queue}
 use Rattle.dl_queue.proofs.PlaceLaws.{empty-bits}
 use Rattle.dl_queue.proofs.PushLaws.{rec_at, cell_at, rec-shift, cell-shift}
 use Rattle.dl_queue.proofs.SoundLaws.{places-at, places-all, queue-at, queue-all}
-use Rattle.sched_words.specs.Words.{record_word_count, queue_word_count, words_of_all, read_all, same_words, record_words, record_read, queue_words, records_read}
+use Rattle.sched_words.specs.Words.{record_word_count, queue_word_count, words_of_all, read_all, same_words, record_words, record_read, queue_words}
+use Rattle.sched_words.specs.Words.{records_read}
 use Rattle.sched_words.specs.Words.{queue_from, no_record}
 use Rattle.sched_words.proofs.WordLaws.{record-size, length-joined, length-parts, part_at}
 use Rattle.sched_words.proofs.StoreLaws.{set-joined}
@@ -47,7 +49,8 @@ first_fits ws h =
 
 next-words : (ws : List ℕ) (p : ℕ) → words_at (drop record_word_count ws) p ≡ words_at ws (suc p)
 next-words ws p = let e : record_word_count + record_word_count * p
-    ≡ record_word_count * suc p = omega arith in ap (take record_word_count) (drop-drop (record_word_count * p) record_word_count ws ∙ ap (λ (j : ℕ). drop j ws) e)
+    ≡ record_word_count * suc p = omega arith in ap (take record_word_count)
+    (drop-drop (record_word_count * p) record_word_count ws ∙ ap (λ (j : ℕ). drop j ws) e)
 
 -- n records fit exactly if each does
 abbrev run_fits : ℕ → List ℕ → Bool
@@ -110,7 +113,8 @@ pub record Timeslot (ns s ws : List ℕ) (t : ℕ) : Type 0 where
 
 module _ (ns s ws : List ℕ) (counts : length ns ≡ timeslots) (size : length ws ≡ queue_word_count) where
   record-at : (p : ℕ) → p < queue_places → rec_at (records_read ws) p ≡ record_read (words_at ws p)
-  record-at p h = part_at record_read record_word_count queue_places p ws empty_record h ∙ sym (read-front (drop (record_word_count * p) ws) (at_least ws p size h))
+  record-at p h = part_at record_read record_word_count queue_places p ws empty_record h ∙ sym
+      (read-front (drop (record_word_count * p) ws) (at_least ws p size h))
 
   place_at : (b : Bool) (t j : ℕ) → t < timeslots → j < per_timeslot
       → sound_place b (rec_at (drop (per_timeslot * t) (records_read ws)) j) (cell_at (drop (cell_octets * (per_timeslot * t)) s) j)
@@ -203,4 +207,5 @@ pub set_words : (ns s ws : List ℕ) → length ns ≡ timeslots → sound_queue
 set_words ns s ws counts h p l r =
     let read = sound-read ns s ws counts h in
     ap (λ (v : List ℕ). sets v (record_word_count * p) (record_words r)) (sym (sound-words ns s ws counts h))
-    ∙ set-joined record_words record_word_count record-size (queue_from ws) p r (rw read (omega (arith, length-parts record_read record_word_count queue_places ws)))
+    ∙ set-joined record_words record_word_count record-size (queue_from ws) p r
+    (rw read (omega (arith, length-parts record_read record_word_count queue_places ws)))

@@ -1,5 +1,6 @@
 -- The station and the queue as words of 32 bits, for callers in C: the table of include/bs_sched.h. Assumes nothing.
-use Rattle.std.specs.Prelude.{◌≡◌, ℕ, zero, suc, ◌+◌, ◌*◌, ◌%◌, ◌^◌, Bool, true, false, cond, ◌&&◌, List, [], ◌∷◌, ◌++◌, length, drop, replicate, ◌==◌, nat_le, slice_index, slice_index_or}
+use Rattle.std.specs.Prelude.{◌≡◌, ℕ, zero, suc, ◌+◌, ◌*◌, ◌%◌, ◌^◌, Bool, true, false, cond, ◌&&◌, List, [], ◌∷◌, ◌++◌, length, drop, replicate, ◌==◌, nat_le}
+use Rattle.std.specs.Prelude.{slice_index, slice_index_or}
 use Rattle.std.proofs.lemmas.List.Edits.{sets}
 use Rattle.sizes.specs.Sizes.{timeslots, queue_places}
 use Rattle.optional.specs.declared.OptU8.{OptU8}
@@ -126,7 +127,8 @@ four_from ws = word_at ws 0 % 256 ∷ word_at ws 1 % 256 ∷ word_at ws 2 % 256 
 
 -- words 4 to 219: rows 1 to 4
 abbrev pub table_words : Table → List ℕ
-table_words tb = words_of_row (slice_index_or tb 0 []) ++ words_of_row (slice_index_or tb 1 []) ++ words_of_row (slice_index_or tb 2 []) ++ words_of_row (slice_index_or tb 3 [])
+table_words tb = words_of_row (slice_index_or tb 0 []) ++ words_of_row (slice_index_or tb 1 [])
+    ++ words_of_row (slice_index_or tb 2 []) ++ words_of_row (slice_index_or tb 3 [])
 
 abbrev pub table_from : List ℕ → Table
 table_from ws = row_from (drop 4 ws) ∷ row_from (drop 58 ws) ∷ row_from (drop 112 ws) ∷ row_from (drop 166 ws) ∷ []

@@ -30,7 +30,8 @@ use Rattle.bs_sched_c.proofs.AskedLaws.{all_words, asked-yes, four-counts, as_re
 use Rattle.bs_sched_c.proofs.LeftLaws.{no-station}
 use Rattle.bs_sched_c.proofs.BuildLeftLaws.{build-no, build-none, build-built}
 use Rattle.bs_sched_c.proofs.bs_sched_build.Goals as goal
-use Rattle.bs_sched_c.proofs.bs_sched_build.Goals.{After-build_timeslot-plan, After-builds_at, After-queued_of-queued, After-records_read-records, Else-no-ne0, Else-not-builds_at, Else-station-ne-STATION_WORDS}
+use Rattle.bs_sched_c.proofs.bs_sched_build.Goals.{After-build_timeslot-plan, After-builds_at, After-queued_of-queued, After-records_read-records}
+use Rattle.bs_sched_c.proofs.bs_sched_build.Goals.{Else-no-ne0, Else-not-builds_at, Else-station-ne-STATION_WORDS}
 
 -- the station that the words stand for
 abbrev station : Else-no-ne0 → Station
@@ -127,20 +128,23 @@ few k =
     count-few (station t) (passed t).station ((time k).t - 1) (omega (arith, low k, four-counts k.args.station.now))
 
 -- how many records are queued for the timeslot
-count-is : (k : After-queued_of-queued) → let t = (goal.at.After-queued_of-queued k).Else-no-ne0 in get_or k.queued_of-queued.result ((time k).t - 1) 0 ≡ get_or (station t).queued (current (station t)) 0
+count-is : (k : After-queued_of-queued) → let t = (goal.at.After-queued_of-queued k).Else-no-ne0 in get_or k.queued_of-queued.result ((time k).t - 1) 0 ≡
+    get_or (station t).queued (current (station t)) 0
 count-is k = λ i. get_or (counts-are k i) (here k i) 0
 
 few-read : (k : After-queued_of-queued) → get_or k.queued_of-queued.result ((time k).t - 1) 0 ≤ per_timeslot
 few-read k = subst (λ (ns : List ℕ). get_or ns ((time k).t - 1) 0 ≤ per_timeslot) (sym (counts-are k)) (few k)
 
 pub records_read-records-requires : goal.records_read-records-requires
-records_read-records-requires c = let k = (goal.at.records_read-records-requires c).After-queued_of-queued in (inside k, all_words _ (passed (goal.at.records_read-records-requires c).Else-no-ne0).queue.places, few-read k)
+records_read-records-requires c = let k = (goal.at.records_read-records-requires c).After-queued_of-queued in
+    (inside k, all_words _ (passed (goal.at.records_read-records-requires c).Else-no-ne0).queue.places, few-read k)
 
 builds : (c : Else-not-builds_at) → builds_now (station (goal.at.Else-not-builds_at c).Else-no-ne0) ≡ true
 builds c = said-yes (told (goal.at.Else-not-builds_at c).After-builds_at) c.if-not-builds_at.false
 
 own : (r : After-records_read-records)
-    → take per_timeslot (drop (per_timeslot * current (station (goal.at.After-records_read-records r).Else-no-ne0)) (records_from r.args.queue.now)) ≡ r.records_read-records.result
+    → take per_timeslot (drop (per_timeslot * current (station (goal.at.After-records_read-records r).Else-no-ne0)) (records_from r.args.queue.now)) ≡
+    r.records_read-records.result
 own r =
     let t = (goal.at.After-records_read-records r).Else-no-ne0 in
     let k = (goal.at.After-records_read-records r).After-queued_of-queued in
@@ -156,7 +160,8 @@ own r =
     (passed t).queue.sound (four-counts a.station.now)))
 
 sound : (r : After-records_read-records)
-    → let t = (goal.at.After-records_read-records r).Else-no-ne0 in sound_places per_timeslot (get_or (station t).queued (current (station t)) 0) r.records_read-records.result
+    → let t = (goal.at.After-records_read-records r).Else-no-ne0 in sound_places per_timeslot (get_or (station t).queued (current (station t)) 0)
+    r.records_read-records.result
     (drop (cell_octets * (per_timeslot * current (station t))) r.args.store.now) ≡ true
 sound r =
     let t = (goal.at.After-records_read-records r).Else-no-ne0 in
@@ -175,7 +180,8 @@ build_timeslot-plan-requires c =
     subst (λ (ns : List ℕ). CanBuild (length a.block.now) block_width a.store.now (per_timeslot * ((time k).t - 1)) (get_or ns ((time k).t - 1) 0)
     c.records_read-records.result)
     (sym (counts-are k))
-    (can-build (station t) c.records_read-records.result a.store.now ((time k).t - 1) (here k) (low k) (passed t).queue.cells (sound (goal.at.build_timeslot-plan-requires c).After-records_read-records) (few k) _ (width t))
+    (can-build (station t) c.records_read-records.result a.store.now ((time k).t - 1) (here k) (low k) (passed t).queue.cells
+    (sound (goal.at.build_timeslot-plan-requires c).After-records_read-records) (few k) _ (width t))
 
 -- the plan is that of the queue
 planned : (d : After-build_timeslot-plan)
@@ -189,7 +195,8 @@ planned d =
     let a = d.args in
     let T : ℕ = (time k).t - 1 in
     plan-now (station t) d.records_read-records.result a.store.now T (here k) (low k) (passed t).queue.cells (sound r) (few k) _ _ _ _ (width t)
-    (subst (λ (ns : List ℕ). BuiltIn (built_from block_width (get_or ns T 0) d.records_read-records.result (drop (cell_octets * (per_timeslot * T)) a.store.now))
+    (subst (λ (ns : List ℕ). BuiltIn (built_from block_width (get_or ns T 0) d.records_read-records.result
+    (drop (cell_octets * (per_timeslot * T)) a.store.now))
     (length a.block.now) a.store.now (per_timeslot * T) d.build_timeslot-plan.result d.build_timeslot-plan.new.store
     d.build_timeslot-plan.new.block)
     (counts-are k) d.build_timeslot-plan.ensures)
@@ -205,7 +212,8 @@ pub overflow_cast-count : goal.overflow_cast-count
 overflow_cast-count c = omega (arith, (planned (goal.at.overflow_cast-count c).After-build_timeslot-plan).few-tags)
 
 pub put_queued-requires : goal.put_queued-requires
-put_queued-requires c = let t = (goal.at.put_queued-requires c).After-build_timeslot-plan in (t.if-station-ne-STATION_WORDS.false, (passed (goal.at.put_queued-requires c).Else-no-ne0).station)
+put_queued-requires c = let t = (goal.at.put_queued-requires c).After-build_timeslot-plan in
+    (t.if-station-ne-STATION_WORDS.false, (passed (goal.at.put_queued-requires c).Else-no-ne0).station)
 
 pub put_records-requires : goal.put_records-requires
 put_records-requires c =
@@ -221,6 +229,7 @@ returns c =
     let p = c.build_timeslot-plan.result in
     let a = c.args in
     build-built a.station.now a.queue.now a.store.now a.block.now c.if-station-ne-STATION_WORDS.false
-    (passed t).station (width t) (passed t).queue (builds (goal.at.returns c).Else-not-builds_at) p _ _ _ _ (planned (goal.at.returns c).After-build_timeslot-plan)
+    (passed t).station (width t) (passed t).queue (builds (goal.at.returns c).Else-not-builds_at) p _ _ _ _
+    (planned (goal.at.returns c).After-build_timeslot-plan)
     (c.put_queued.ensures ∙ (λ i. station_words (with_queued (station t) (set (counts-are k i) (here k i) p.left))))
     (c.put_records.ensures ∙ (λ i. sets a.queue.now (record_word_count * (per_timeslot * here k i)) (queue_words (take (count-is k i) p.records))))

@@ -61,7 +61,8 @@ returns-then-station-ne-STATION_WORDS c =
     let qs = a.queue.now in
     let st = a.store.now in
     rw c.other_length.ensures
-    (no-station ws _ (λ (n : ℕ). left n ws qs st) (memory_questions (memory_from ws qs st) (asks_record_words a.offered.now ∷ [])) c.if-station-ne-STATION_WORDS.true)
+    (no-station ws _ (λ (n : ℕ). left n ws qs st) (memory_questions (memory_from ws qs st) (asks_record_words a.offered.now ∷ []))
+    c.if-station-ne-STATION_WORDS.true)
 
 pub returns-then-no-ne0 : goal.returns-then-no-ne0
 unfolding enqueue_left
@@ -97,7 +98,8 @@ returns-then-n-ne0 c =
     let p = (goal.at.returns-then-n-ne0 c).After-tma_joins-plan in
     let a = c.args in
     answered p
-    (exit-refused queue_replies a.station.now a.queue.now a.store.now c.if-station-ne-STATION_WORDS.false (passed (goal.at.returns-then-n-ne0 c).Else-no-ne0).queue (called p) _ _ _ _ _
+    (exit-refused queue_replies a.station.now a.queue.now a.store.now c.if-station-ne-STATION_WORDS.false
+    (passed (goal.at.returns-then-n-ne0 c).Else-no-ne0).queue (called p) _ _ _ _ _
     (planned p) _ c.reply_number-n.ensures _ c.reply_number-n.ensures c.if-n-ne0.true)
 
 pub put_queued-requires : goal.put_queued-requires
@@ -107,14 +109,18 @@ put_queued-requires c =
 
 pub put_record-requires : goal.put_record-requires
 put_record-requires c =
-    let a = c.args in
-    ((planned (goal.at.put_record-requires c).After-tma_joins-plan).joins (sym c.reply_number-n.ensures ∙ c.if-n-ne0.false), all_words a.queue.now (passed (goal.at.put_record-requires c).Else-no-ne0).queue.places)
+    let a = c.args in (
+      (planned (goal.at.put_record-requires c).After-tma_joins-plan).joins (sym c.reply_number-n.ensures ∙ c.if-n-ne0.false),
+      all_words a.queue.now
+          (passed (goal.at.put_record-requires c).Else-no-ne0).queue.places,
+    )
 
 pub returns : goal.returns
 returns c =
     let p = (goal.at.returns c).After-tma_joins-plan in
     let a = c.args in
     answered p
-    (exit-done queue_replies a.station.now a.queue.now a.store.now c.if-station-ne-STATION_WORDS.false (passed (goal.at.returns c).Else-no-ne0).queue (called p) _ _ _ _ _
+    (exit-done queue_replies a.station.now a.queue.now a.store.now c.if-station-ne-STATION_WORDS.false (passed (goal.at.returns c).Else-no-ne0).queue
+    (called p) _ _ _ _ _
     (planned p) _ c.reply_number-n.ensures _ (sym c.if-n-ne0.false ∙ c.reply_number-n.ensures) c.if-n-ne0.false _ _ c.put_queued.ensures
     c.put_record.ensures)

@@ -29,7 +29,8 @@ planned : (p : After-ack_joins-plan)
 planned p =
     let a = p.args in
     let s = station_from a.station.now in
-    ack-planned s a.store.now a.timeslot a.kind a.number (plan_of s.uplink p.ack_joins-plan.result) (passed (goal.at.After-ack_joins-plan p).Else-no-ne0).station refl
+    ack-planned s a.store.now a.timeslot a.kind a.number (plan_of s.uplink p.ack_joins-plan.result)
+    (passed (goal.at.After-ack_joins-plan p).Else-no-ne0).station refl
     (p.ack_joins-plan.ensures a.store.now
     ∙ ap (λ (l : List ℕ). ack_queued l a.store.now a.timeslot a.kind a.number) p.queued_of-queued.ensures)
 
@@ -54,7 +55,8 @@ unfolding ack_left
 returns-then-n-ne0 c =
     let p = (goal.at.returns-then-n-ne0 c).After-ack_joins-plan in
     let a = c.args in
-    exit-refused queue_replies a.station.now a.queue.now a.store.now c.if-station-ne-STATION_WORDS.false (passed (goal.at.returns-then-n-ne0 c).Else-no-ne0).queue (called p) _ _ _ _ _
+    exit-refused queue_replies a.station.now a.queue.now a.store.now c.if-station-ne-STATION_WORDS.false
+    (passed (goal.at.returns-then-n-ne0 c).Else-no-ne0).queue (called p) _ _ _ _ _
     (planned p) _ c.reply_number-n.ensures _ c.reply_number-n.ensures c.if-n-ne0.true
 
 pub put_queued-requires : goal.put_queued-requires
@@ -64,14 +66,18 @@ put_queued-requires c =
 
 pub put_record-requires : goal.put_record-requires
 put_record-requires c =
-    let a = c.args in
-    ((planned (goal.at.put_record-requires c).After-ack_joins-plan).joins (sym c.reply_number-n.ensures ∙ c.if-n-ne0.false), all_words a.queue.now (passed (goal.at.put_record-requires c).Else-no-ne0).queue.places)
+    let a = c.args in (
+      (planned (goal.at.put_record-requires c).After-ack_joins-plan).joins (sym c.reply_number-n.ensures ∙ c.if-n-ne0.false),
+      all_words a.queue.now
+          (passed (goal.at.put_record-requires c).Else-no-ne0).queue.places,
+    )
 
 pub returns : goal.returns
 unfolding ack_left
 returns c =
     let p = (goal.at.returns c).After-ack_joins-plan in
     let a = c.args in
-    exit-done queue_replies a.station.now a.queue.now a.store.now c.if-station-ne-STATION_WORDS.false (passed (goal.at.returns c).Else-no-ne0).queue (called p) _ _ _ _ _
+    exit-done queue_replies a.station.now a.queue.now a.store.now c.if-station-ne-STATION_WORDS.false (passed (goal.at.returns c).Else-no-ne0).queue
+    (called p) _ _ _ _ _
     (planned p) _ c.reply_number-n.ensures _ (sym c.if-n-ne0.false ∙ c.reply_number-n.ensures) c.if-n-ne0.false _ _ c.put_queued.ensures
     c.put_record.ensures

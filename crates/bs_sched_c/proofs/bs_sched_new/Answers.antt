@@ -35,7 +35,8 @@ pub returns-then-station-ne-STATION_WORDS : goal.returns-then-station-ne-STATION
 unfolding new_left
 returns-then-station-ne-STATION_WORDS c =
     let s = (goal.at.returns-then-station-ne-STATION_WORDS c).Start in
-    rw c.other_length.ensures (no-station-then (words s) _ (no s) (time s) (said-yes (valid-is (goal.at.returns-then-station-ne-STATION_WORDS c).After-is_valid) c.if-not-is_valid.false) c.if-station-ne-STATION_WORDS.true)
+    rw c.other_length.ensures (no-station-then (words s) _ (no s) (time s)
+    (said-yes (valid-is (goal.at.returns-then-station-ne-STATION_WORDS c).After-is_valid) c.if-not-is_valid.false) c.if-station-ne-STATION_WORDS.true)
 
 pub returns : goal.returns
 unfolding new_left

@@ -52,7 +52,8 @@ planned : (p : After-request_plan-plan) (st : List ℕ)
 planned p =
     let a = p.args in
     let at = p.row_of-row.ensures in
-    row-planned (whole p) (row p) a.timeslot a.code a.kind a.number p.request_plan-plan.result at.0 at.1 (passed (goal.at.After-request_plan-plan p).Else-no-ne0).station
+    row-planned (whole p) (row p) a.timeslot a.code a.kind a.number p.request_plan-plan.result at.0 at.1
+    (passed (goal.at.After-request_plan-plan p).Else-no-ne0).station
     (subst (λ (y : Station). RequestPlanned (called p) y p.request_plan-plan.result) p.station_of_row-s.ensures p.request_plan-plan.ensures)
 
 pub returns-then-station-ne-STATION_WORDS : goal.returns-then-station-ne-STATION_WORDS
@@ -82,7 +83,8 @@ returns-in_default c =
     let p = (goal.at.returns-in_default c).After-request_plan-plan in
     let a = c.args in
     let n = ap numbered c.in_default.is in
-    exit-refused grant_replies a.station.now a.queue.now a.store.now c.if-station-ne-STATION_WORDS.false (passed (goal.at.returns-in_default c).Else-no-ne0).queue (called p) _ _ _ _ _
+    exit-refused grant_replies a.station.now a.queue.now a.store.now c.if-station-ne-STATION_WORDS.false
+    (passed (goal.at.returns-in_default c).Else-no-ne0).queue (called p) _ _ _ _ _
     (planned p a.store.now) (number p) refl _ c.grant_of-grant.ensures (λ z. omega (arith, z, n, number-positive c.in_default.field-0))
 
 pub put_row_of-requires : goal.put_row_of-requires
@@ -91,14 +93,18 @@ put_row_of-requires c =
 
 pub put_record-requires : goal.put_record-requires
 put_record-requires c =
-    let a = c.args in
-    ((planned (goal.at.put_record-requires c).After-request_plan-plan a.store.now).joins (ap numbered c.in-Granted.is), all_words a.queue.now (passed (goal.at.put_record-requires c).Else-no-ne0).queue.places)
+    let a = c.args in (
+      (planned (goal.at.put_record-requires c).After-request_plan-plan a.store.now).joins (ap numbered c.in-Granted.is),
+      all_words a.queue.now
+          (passed (goal.at.put_record-requires c).Else-no-ne0).queue.places,
+    )
 
 pub returns : goal.returns
 unfolding request_left
 returns c =
     let p = (goal.at.returns c).After-request_plan-plan in
     let a = c.args in
-    exit-done grant_replies a.station.now a.queue.now a.store.now c.if-station-ne-STATION_WORDS.false (passed (goal.at.returns c).Else-no-ne0).queue (called p) _ _ _ _ _
+    exit-done grant_replies a.station.now a.queue.now a.store.now c.if-station-ne-STATION_WORDS.false (passed (goal.at.returns c).Else-no-ne0).queue
+    (called p) _ _ _ _ _
     (planned p a.store.now) (number p) refl _ c.grant_of-grant.ensures (ap numbered c.in-Granted.is) _ _
     c.put_row_of.ensures c.put_record.ensures

@@ -36,26 +36,33 @@ unfolding usage_answer
 returns-then-not-is_valid c =
     let s = (goal.at.returns-then-not-is_valid c).Start in
     rw (c.usage_answer.ensures, c.unsound.ensures)
-    (no-time (words s) _ (λ (n : ℕ). usage_struct n 0 0) (time s) (said-no (valid-is (goal.at.returns-then-not-is_valid c).After-is_valid) c.if-not-is_valid.true))
+    (no-time (words s) _ (λ (n : ℕ). usage_struct n 0 0) (time s)
+    (said-no (valid-is (goal.at.returns-then-not-is_valid c).After-is_valid) c.if-not-is_valid.true))
 
 pub returns-then-station-ne-STATION_WORDS : goal.returns-then-station-ne-STATION_WORDS
 unfolding usage_answer
 returns-then-station-ne-STATION_WORDS c =
     let s = (goal.at.returns-then-station-ne-STATION_WORDS c).Start in
     rw (c.usage_answer-then-station-ne-STATION_WORDS.ensures, c.other_length.ensures)
-    (no-station-then (words s) _ (λ (n : ℕ). usage_struct n 0 0) (time s) (valid-time (goal.at.returns-then-station-ne-STATION_WORDS c).Else-not-is_valid) c.if-station-ne-STATION_WORDS.true)
+    (no-station-then (words s) _ (λ (n : ℕ). usage_struct n 0 0) (time s) (valid-time (goal.at.returns-then-station-ne-STATION_WORDS c).Else-not-is_valid)
+    c.if-station-ne-STATION_WORDS.true)
 
 pub returns-then-not-station_is_sound : goal.returns-then-not-station_is_sound
 unfolding usage_answer
 returns-then-not-station_is_sound c =
     let s = (goal.at.returns-then-not-station_is_sound c).Start in
-    is-station-then (words s) _ (λ (n : ℕ). usage_struct n 0 0) (time s) (valid-time (goal.at.returns-then-not-station_is_sound c).Else-not-is_valid) c.if-station-ne-STATION_WORDS.false
+    is-station-then (words s) _ (λ (n : ℕ). usage_struct n 0 0) (time s) (valid-time (goal.at.returns-then-not-station_is_sound c).Else-not-is_valid)
+    c.if-station-ne-STATION_WORDS.false
     (c.usage_answer-then-not-station_is_sound.ensures ∙ ap (λ (n : ℕ). usage_struct n 0 0) c.unsound-then-not-station_is_sound.ensures
     ∙ usage-unsound (station_from c.args.station.now) (time s) (said-no c.station_is_sound.ensures c.if-not-station_is_sound.true))
 
 pub entry_at-e-requires : goal.entry_at-e-requires
-entry_at-e-requires c =
-    (c.if-station-ne-STATION_WORDS.false, sound (goal.at.entry_at-e-requires c).Else-not-station_is_sound, true-valid _ (said-yes c.is_valid.ensures c.if-not-is_valid.false))
+entry_at-e-requires c = (
+  c.if-station-ne-STATION_WORDS.false,
+  sound (goal.at.entry_at-e-requires c).Else-not-station_is_sound,
+  true-valid _
+      (said-yes c.is_valid.ensures c.if-not-is_valid.false),
+)
 
 pub returns : goal.returns
 unfolding usage_answer

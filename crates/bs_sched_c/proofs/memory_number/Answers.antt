@@ -27,21 +27,27 @@ yes1 c = (tt, said-yes c.station_is_sound-sound.ensures c.if-not-sound.false)
 pub returns-then-queue-ne-QUEUE_WORDS : goal.returns-then-queue-ne-QUEUE_WORDS
 returns-then-queue-ne-QUEUE_WORDS c =
     let s = (goal.at.returns-then-queue-ne-QUEUE_WORDS c).Start in
-    c.number-then-queue-ne-QUEUE_WORDS.ensures ∙ first-no 0 (λ n. n) 1 (asked s) (yes1 (goal.at.returns-then-queue-ne-QUEUE_WORDS c).Else-not-sound) (other-places (all s) (no-records c.args.queue.now c.if-queue-ne-QUEUE_WORDS.true))
+    c.number-then-queue-ne-QUEUE_WORDS.ensures ∙ first-no 0 (λ n. n) 1 (asked s) (yes1 (goal.at.returns-then-queue-ne-QUEUE_WORDS c).Else-not-sound)
+    (other-places (all s) (no-records c.args.queue.now c.if-queue-ne-QUEUE_WORDS.true))
 
 pub returns-then-store-ne-STORE_OCTETS : goal.returns-then-store-ne-STORE_OCTETS
 returns-then-store-ne-STORE_OCTETS c =
     let s = (goal.at.returns-then-store-ne-STORE_OCTETS c).Start in
     c.number-then-store-ne-STORE_OCTETS.ensures
-    ∙ first-no 0 (λ n. n) 1 (asked s) (yes1 (goal.at.returns-then-store-ne-STORE_OCTETS c).Else-not-sound) (other-octets (all s) (all-places c.args.queue.now c.if-queue-ne-QUEUE_WORDS.false) c.if-store-ne-STORE_OCTETS.true)
+    ∙ first-no 0 (λ n. n) 1 (asked s) (yes1 (goal.at.returns-then-store-ne-STORE_OCTETS c).Else-not-sound)
+    (other-octets (all s) (all-places c.args.queue.now c.if-queue-ne-QUEUE_WORDS.false) c.if-store-ne-STORE_OCTETS.true)
 
 yes2 : (c : Else-store-ne-STORE_OCTETS) → FirstYes 2 (asked (goal.at.Else-store-ne-STORE_OCTETS c).Start)
-yes2 c =
-    (yes1 (goal.at.Else-store-ne-STORE_OCTETS c).Else-not-sound, right-lengths (all (goal.at.Else-store-ne-STORE_OCTETS c).Start) (all-places c.args.queue.now c.if-queue-ne-QUEUE_WORDS.false) c.if-store-ne-STORE_OCTETS.false)
+yes2 c = (
+  yes1 (goal.at.Else-store-ne-STORE_OCTETS c).Else-not-sound,
+  right-lengths (all (goal.at.Else-store-ne-STORE_OCTETS c).Start)
+      (all-places c.args.queue.now c.if-queue-ne-QUEUE_WORDS.false) c.if-store-ne-STORE_OCTETS.false,
+)
 
 pub returns-then-not-lent : goal.returns-then-not-lent
 returns-then-not-lent c =
-    c.number-then-not-lent.ensures ∙ first-no 0 (λ n. n) 2 (asked (goal.at.returns-then-not-lent c).Start) (yes2 (goal.at.returns-then-not-lent c).Else-store-ne-STORE_OCTETS) c.if-not-lent.true
+    c.number-then-not-lent.ensures ∙ first-no 0 (λ n. n) 2 (asked (goal.at.returns-then-not-lent c).Start)
+    (yes2 (goal.at.returns-then-not-lent c).Else-store-ne-STORE_OCTETS) c.if-not-lent.true
 
 yes3 : (c : Else-not-lent) → FirstYes 3 (asked (goal.at.Else-not-lent c).Start)
 yes3 c = (yes2 (goal.at.Else-not-lent c).Else-store-ne-STORE_OCTETS, c.if-not-lent.false)
@@ -60,8 +66,14 @@ told c =
 
 pub returns-then-not-queue_is_sound : goal.returns-then-not-queue_is_sound
 returns-then-not-queue_is_sound c =
-    c.number-then-not-queue_is_sound.ensures ∙ first-no 0 (λ n. n) 3 (asked (goal.at.returns-then-not-queue_is_sound c).Start) (yes3 (goal.at.returns-then-not-queue_is_sound c).Else-not-lent) (said-no (told (goal.at.returns-then-not-queue_is_sound c).After-queue_is_sound) c.if-not-queue_is_sound.true)
+    c.number-then-not-queue_is_sound.ensures ∙ first-no 0 (λ n. n) 3 (asked (goal.at.returns-then-not-queue_is_sound c).Start)
+    (yes3 (goal.at.returns-then-not-queue_is_sound c).Else-not-lent)
+    (said-no (told (goal.at.returns-then-not-queue_is_sound c).After-queue_is_sound) c.if-not-queue_is_sound.true)
 
 pub returns : goal.returns
 returns c =
-    every-yes 0 (λ n. n) (asked (goal.at.returns c).Start) (yes3 (goal.at.returns c).Else-not-lent, said-yes (told (goal.at.returns c).After-queue_is_sound) c.if-not-queue_is_sound.false)
+    every-yes 0 (λ n. n) (asked (goal.at.returns c).Start) (
+      yes3 (goal.at.returns c).Else-not-lent,
+      said-yes
+          (told (goal.at.returns c).After-queue_is_sound) c.if-not-queue_is_sound.false,
+    )

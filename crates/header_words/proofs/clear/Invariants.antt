@@ -7,7 +7,8 @@ use Rattle.header_words.proofs.clear.Given as goal
 
 abbrev pub invariant-loop-i : goal.invariant-loop-i
 invariant-loop-i l =
-    (l.i ≤ length l.initial.words) × (length l.words ≡ length l.initial.words) × (l.words ≡ take l.i (replicate (length l.initial.words) 0) ++ drop l.i l.initial.words)
+    (l.i ≤ length l.initial.words) × (length l.words ≡ length l.initial.words) ×
+    (l.words ≡ take l.i (replicate (length l.initial.words) 0) ++ drop l.i l.initial.words)
 
 abbrev pub decreases-loop-i : goal.decreases-loop-i
 decreases-loop-i l = length l.initial.words - l.i

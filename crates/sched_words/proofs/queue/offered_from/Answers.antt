@@ -9,4 +9,5 @@ unfolding offered_from
 returns c =
     let ws = c.args.words.now in
     c.offered_record.ensures
-    ∙ (λ i. offered_record (c.saturated8-address_kind.ensures i) (word_at ws 2) (c.opt_u16-tag.ensures i) (c.offered_header-header.ensures i) (c.saturated16-bits.ensures i))
+    ∙ (λ i. offered_record (c.saturated8-address_kind.ensures i) (word_at ws 2) (c.opt_u16-tag.ensures i) (c.offered_header-header.ensures i)
+    (c.saturated16-bits.ensures i))

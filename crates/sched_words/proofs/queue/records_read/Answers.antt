@@ -1,5 +1,6 @@
 -- The first i records are read. Assumes nothing.
-use Rattle.std.proofs.Common.{◌≡◌, ℕ, ◌+◌, ◌*◌, ◌++◌, length, take, drop, replicate, sym, refl, ap, ◌∙◌, arith, length-drop, length-take-le, get_or-drop, get_or-take, rules}
+use Rattle.std.proofs.Common.{◌≡◌, ℕ, ◌+◌, ◌*◌, ◌++◌, length, take, drop, replicate, sym, refl, ap, ◌∙◌, arith, length-drop, length-take-le, get_or-drop}
+use Rattle.std.proofs.Common.{get_or-take, rules}
 use Rattle.sizes.specs.Sizes.{per_timeslot, queue_places}
 use Rattle.dl_record.specs.Record.{empty_record}
 use Rattle.sched_words.specs.Words.{record_word_count, record_read, records_read}
@@ -31,7 +32,8 @@ loop-k-preserved c =
     ∙ part_at record_read record_word_count queue_places (f + i) ws empty_record (omega arith)) in (
       omega arith,
       c.loop-k.invariant.1,
-      rw (c.loop-k.invariant.2, read) (filled_next empty_record i rs (replicate per_timeslot empty_record) (omega (arith, size (goal.at.loop-k-preserved c).Start))
+      rw (c.loop-k.invariant.2, read) (filled_next empty_record i rs (replicate per_timeslot empty_record)
+          (omega (arith, size (goal.at.loop-k-preserved c).Start))
           (omega arith)),
     )
 

@@ -7,7 +7,8 @@ use Rattle.sched_words.proofs.queue.records_read.Given as goal
 
 abbrev pub invariant-loop-k : goal.invariant-loop-k
 invariant-loop-k l =
-    (l.k ≤ l.n) × (l.n ≤ per_timeslot) × (l.records ≡ take l.k (take per_timeslot (drop l.first (records_read l.words))) ++ drop l.k (replicate per_timeslot empty_record))
+    (l.k ≤ l.n) × (l.n ≤ per_timeslot) × (l.records ≡ take l.k (take per_timeslot (drop l.first (records_read l.words))) ++ drop l.k
+    (replicate per_timeslot empty_record))
 
 abbrev pub decreases-loop-k : goal.decreases-loop-k
 decreases-loop-k l = l.n - l.k
