@@ -13,7 +13,8 @@ use Rattle.bitbuffer.proofs.Chunks.{part_left}
 use Rattle.sched_core.specs.Questions.{Memory}
 use Rattle.interpreter.specs.declared.Command.{Command}
 use Rattle.interpreter.specs.Slotrun.{Session, Step, step, new_step, request_step, queue_step, staged, stage_line, time_given, octet, two_octets}
-use Rattle.interpreter.specs.Slotrun.{four_octets, stage_kept, command_of, is_known, operand_count, is_whole, first_step, behind_first, Ran, ran, printed_before}
+use Rattle.interpreter.specs.Slotrun.{four_octets, stage_kept, command_of, is_known, operand_count, is_whole, first_step, behind_first, Ran, ran}
+use Rattle.interpreter.specs.Slotrun.{printed_before}
 use Rattle.interpreter.specs.Turns.{whole_commands, turn}
 use Rattle.interpreter.proofs.RunLaws.{stopped, nothing-whole, shorter, one-command}
 

@@ -7,7 +7,8 @@ use Rattle.interpreter.specs.Text.{hex}
 use Rattle.interpreter.proofs.text.put_hex.Given as goal
 
 abbrev pub invariant-loop-i : goal.invariant-loop-i
-invariant-loop-i l = (l.i ≤ length l.s) × (l.next ≡ l.at + 2 * l.i) × (length l.out ≡ length l.initial.out) × Wrote l.initial.out l.at l.out l.next (hex (take l.i l.s))
+invariant-loop-i l = (l.i ≤ length l.s) × (l.next ≡ l.at + 2 * l.i) × (length l.out ≡ length l.initial.out)
+    × Wrote l.initial.out l.at l.out l.next (hex (take l.i l.s))
 
 abbrev pub decreases-loop-i : goal.decreases-loop-i
 decreases-loop-i l = length l.s - l.i
