@@ -1,5 +1,4 @@
 pub mod TextLaws
-pub mod CallLaws
 pub mod TagLaws
 pub mod StepLaws
 pub mod RunLaws
