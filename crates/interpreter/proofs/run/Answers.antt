@@ -58,7 +58,7 @@ loop-command-preserved-then-is_advance c =
       l.invariant.1,
       length-wrote (wrote-back l.out _ l.count _ _ fits (c.advance_step-a.ensures [] []).line) ∙ l.invariant.2,
       running-advance _ _ _ _ _ _ _ l.out _ l.taken l.count _ c.advance_step-a.result l.invariant.3
-      (whole (goal.at.loop-command-preserved-then-is_advance c).In-loop-command) c.command_of-command.ensures
+          (whole (goal.at.loop-command-preserved-then-is_advance c).In-loop-command) c.command_of-command.ensures
           (c.is_advance.ensures c.if-is_advance.true) fits c.advance_step-a.ensures,
     )
 
@@ -112,7 +112,7 @@ loop-command-preserved c =
       c.execute-x.auto.stage ∙ l.invariant.1,
       length-wrote (wrote-back l.out _ l.count _ _ fits c.execute-x.ensures.line) ∙ l.invariant.2,
       running-turn _ _ _ _ l.out _ _ _ l.taken l.count c.operand_count.result _ c.execute-x.result l.invariant.3
-      (whole (goal.at.loop-command-preserved c).In-loop-command)
+          (whole (goal.at.loop-command-preserved c).In-loop-command)
           c.command_of-command.ensures c.operand_count.ensures.0 fits c.execute-x.ensures,
     )
 
