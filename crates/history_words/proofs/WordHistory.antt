@@ -55,17 +55,17 @@ module _ (x : TdmaTime) (v : Valid x) where
     unfolding new_memory
     new-words = λ i. words (new-left i).station (sym zero-words i) (new_memory x).store
 
-    words_left : (cs : List WordCall) → words_after cs (new_words ws x) ≡ words_of (memory_at x (word_history cs))
+    words_after-new : (cs : List WordCall) → words_after cs (new_words ws x) ≡ words_of (memory_at x (word_history cs))
     unfolding run
-    words_left cs = ap (words_after cs) new-words ∙ words-from [] tt cs
+    words_after-new cs = ap (words_after cs) new-words ∙ words-from [] tt cs
 
 -- for every valid start time, every 228 words and every list of exported calls
 pub words-are-a-history : (x : TdmaTime) → Valid x → (ws : List ℕ) → length ws ≡ station_word_count → (cs : List WordCall) → WordsAreAHistory x ws cs
 words-are-a-history x v ws size cs =
     record {
-      left = words_left x v ws size cs;
+      left = words_after-new x v ws size cs;
       replies = λ before since c cut.
-          ap (λ (w : Words). (word_step c w).reply) (words_left x v ws size before)
+          ap (λ (w : Words). (word_step c w).reply) (words_after-new x v ws size before)
           ∙ ap (λ (o : WordsLeft). o.reply)
           (step_is (memory_at x (word_history before)) (demand3 x v (word_history before)).sound (tags-at x v (word_history before) (history-tagged before)) c);
       demand = demand3 x v (word_history cs);
