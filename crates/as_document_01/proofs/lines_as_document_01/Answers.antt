@@ -12,10 +12,11 @@ use Rattle.interpreter.specs.Slotrun.{stage_octets, session, start, is_whole}
 use Rattle.interpreter.proofs.RunLaws.{whole-inside, whole-fits, ends-inside}
 use Rattle.as_document_01.proofs.LineLaws.{Running, running-start, running-found, running-next, running-end}
 use Rattle.as_document_01.proofs.lines_as_document_01.Goals as goal
-use Rattle.as_document_01.proofs.lines_as_document_01.Goals.{After-command_of-command, After-empty_stage-stage, After-execute-x, After-operand_count, In-loop-station}
+use Rattle.as_document_01.proofs.lines_as_document_01.Goals.{After-empty_stage-stage, After-operand_count, In-loop-station}
 
 -- the session at the start
-first : (c : After-empty_stage-stage) → session (memory c.first_station-station.result c.empty_queue-queue.result c.empty_store-store.result) c.empty_stage-stage.result ≡ start
+first : (c : After-empty_stage-stage)
+    → session (memory c.first_station-station.result c.empty_queue-queue.result c.empty_store-store.result) c.empty_stage-stage.result ≡ start
 unfolding new_memory
 first c =
     rw (c.first_station-station.ensures, c.empty_queue-queue.ensures, c.empty_store-store.ensures, c.empty_stage-stage.ensures)
@@ -27,12 +28,10 @@ pub is_whole-requires : goal.is_whole-requires
 is_whole-requires c = c.loop-station.invariant.3.inside
 
 -- in the loop there is a whole command
-whole : (t : In-loop-station) → is_whole (drop t.loop-station.taken
-    t.args.input.now) ≡ true
+whole : (t : In-loop-station) → is_whole (drop t.loop-station.taken t.args.input.now) ≡ true
 whole t = sym t.is_whole.ensures ∙ t.loop-station-test.true
 
-inside : (t : In-loop-station) → t.loop-station.taken
-    < length t.args.input.now
+inside : (t : In-loop-station) → t.loop-station.taken < length t.args.input.now
 inside t = whole-inside _ _ (whole t)
 
 pub bounds-input-taken : goal.bounds-input-taken
@@ -41,7 +40,7 @@ bounds-input-taken c = inside (goal.at.bounds-input-taken c).In-loop-station
 pub returns-then-arises_at : goal.returns-then-arises_at
 returns-then-arises_at c =
     let l = c.loop-station in
-    running-found _ _ _ _ l.invariant.3 (whole c) c.command_of-command.result c.command_of-command.ensures
+    running-found _ _ _ _ l.invariant.3 (whole (goal.at.returns-then-arises_at c).In-loop-station) c.command_of-command.result c.command_of-command.ensures
     (sym (c.arises_at.ensures l.store) ∙ c.if-arises_at.true)
 
 pub overflow_add-operands : goal.overflow_add-operands
@@ -56,47 +55,40 @@ slice_bounds-execute-start c = let i = inside (goal.at.slice_bounds-execute-star
 pub execute-x-requires : goal.execute-x-requires
 execute-x-requires c =
     let l = c.loop-station in
-    (l.invariant.0, l.invariant.1, whole-fits _ l.taken _ (whole c) c.command_of-command.ensures, omega (arith, l.invariant.2))
+    (l.invariant.0, l.invariant.1, whole-fits _ l.taken _ (whole (goal.at.execute-x-requires c).In-loop-station) c.command_of-command.ensures, omega (arith, l.invariant.2))
 
--- behind a command, at the end of its turn
-abbrev ran : After-operand_count → After-execute-x
-ran c = c
-
-abbrev told : After-operand_count → After-command_of-command
-told c = (ran c)
-
-ends : (c : After-operand_count) → let t = (told c) in
-    t.loop-station.taken + 1 + c.operand_count.result ≤ length t.args.input.now
-ends c = ends-inside _ _ _ _ (whole (told c)) (told c).command-of.ensures c.operand_count.ensures.0
+-- a command ends inside the input
+ends : (c : After-operand_count) → is_whole (drop c.loop-station.taken c.args.input.now) ≡ true
+    → c.loop-station.taken + 1 + c.operand_count.result ≤ length c.args.input.now
+ends c w = ends-inside _ _ _ _ w c.command_of-command.ensures c.operand_count.ensures.0
 
 pub overflow_add-taken : goal.overflow_add-taken
 overflow_add-taken c =
-    let e = ends (goal.at.overflow_add-taken c).After-operand_count in
-    let s = (told (goal.at.overflow_add-taken c).After-command_of-command) in
-    omega (arith, s.good.0)
+    let k = goal.at.overflow_add-taken c in
+    let e = ends k.After-operand_count (whole k.In-loop-station) in
+    omega arith
 
 pub overflow_add-count : goal.overflow_add-count
 overflow_add-count c =
-    let e = ends (goal.at.overflow_add-count c).After-operand_count in
-    let l = (told (goal.at.overflow_add-count c).After-command_of-command) in
-    let s = l in
-    omega (arith, l.loop-station.inv.3.few, s.good.0)
+    let k = goal.at.overflow_add-count c in
+    let e = ends k.After-operand_count (whole k.In-loop-station) in
+    omega (arith, c.loop-station.invariant.3.few)
 
 pub loop-station-smaller : goal.loop-station-smaller
-loop-station-smaller c = let e = ends (goal.at.loop-station-smaller c).After-operand_count in omega arith
+loop-station-smaller c =
+    let k = goal.at.loop-station-smaller c in
+    let e = ends k.After-operand_count (whole k.In-loop-station) in
+    omega arith
 
 pub loop-station-preserved : goal.loop-station-preserved
 loop-station-preserved c =
-    let x = ran (goal.at.loop-station-preserved c).After-execute-x in
-    let k = told (goal.at.loop-station-preserved c).After-command_of-command in
-    let t = k in
-    let l = t.loop-station in
-    let e = x in (
+    let l = c.loop-station in (
       search rules,
       search rules,
       search rules,
-      running-next _ _ _ _ l.inv.3 (whole t) k.command_of-command.result k.command_of-command.ensures c.operand_count.result x.execute-x.result _ _ _ _
-          (sym (e.arises_at.ensures l.store) ∙ e.if-arises_at.left) c.operand_count.ensures.0 x.execute-x.ensures,
+      running-next _ _ _ _ l.invariant.3 (whole (goal.at.loop-station-preserved c).In-loop-station)
+          c.command_of-command.result c.command_of-command.ensures c.operand_count.result c.execute-x.result _ _ _ _
+          (sym (c.arises_at.ensures l.store) ∙ c.if-arises_at.false) c.operand_count.ensures.0 c.execute-x.ensures,
     )
 
 pub returns : goal.returns
