@@ -1,16 +1,15 @@
 -- The loop's invariant: the lines counted, and those that the rest of the input still gives. Assumes nothing.
 use mathlib.Core.Path.{◌≡◌, sym, ◌∙◌}
 use mathlib.Core.Bool.{true}
-use Prim.Native.Nat.{◌+◌, ◌-◌, ◌<◌, ◌≤◌}
+use Prim.Native.Nat.{◌+◌, ◌<◌, ◌≤◌}
 use native.Mathlib.Omega.{arith}
 use lib.ListN.{length, drop}
 use borrow.Author.Rules.{rules}
-use Rattle.sizes.specs.Sizes.{store_octets}
 use Rattle.sched_core.specs.Questions.{memory}
 use Rattle.sched_core.specs.Calls.{new_memory}
-use Rattle.interpreter.specs.Slotrun.{stage_octets, session, start, is_whole}
+use Rattle.interpreter.specs.Slotrun.{session, start, is_whole}
 use Rattle.interpreter.proofs.RunLaws.{whole-inside, whole-fits, ends-inside}
-use Rattle.as_document_01.proofs.LineLaws.{Running, running-start, running-found, running-next, running-end}
+use Rattle.as_document_01.proofs.LineLaws.{running-start, running-found, running-next, running-end}
 use Rattle.as_document_01.proofs.lines_as_document_01.Goals as goal
 use Rattle.as_document_01.proofs.lines_as_document_01.Goals.{After-empty_stage-stage, After-operand_count, In-loop-station}
 
