@@ -2,22 +2,20 @@
 use mathlib.Core.Path.{◌≡◌, refl, sym, ap, ◌∙◌}
 use mathlib.Core.Bool.{true, false}
 use mathlib.Core.List.{List, [], ◌∷◌, ◌++◌}
-use Prim.Native.Nat.{ℕ, zero, suc, ◌+◌, ◌-◌, ◌*◌, ◌%◌, ◌≤◌, ◌<◌}
+use Prim.Native.Nat.{ℕ, zero, suc, ◌+◌, ◌-◌, ◌*◌, ◌≤◌, ◌<◌}
 use native.Mathlib.Numerals.{add-one}
 use native.Mathlib.Omega.{arith}
 use lib.ListN.{length, get_or, set, take, drop, replicate, length-append, length-replicate, get_or-replicate, drop_of_length-le}
-use lib.Seq.{sets, sets-eq, drop-cons, get_or-drop, length-take-le}
+use lib.Seq.{sets, sets-eq, drop-cons, length-take-le}
 use borrow.Author.Tests.{eq-eqb, ne_eqb}
 use Rattle.lists.proofs.Lists.{drop-replicate}
-use Rattle.mac_pdus.specs.declared.Address.{Address}
-use Rattle.mac_pdus.specs.declared.ChanAllocElement.{ChanAllocElement}
 use Rattle.mac_pdus.specs.declared.OptChanAlloc.{OptChanAlloc}
 use Rattle.mac_pdus.specs.declared.PduHeader.{PduHeader}
 use Rattle.mac_reader.specs.declared.PlacedHeader.{PlacedHeader}
 use Rattle.mac_reader.specs.Reader.{most_pdus}
-use Rattle.sched_words.specs.Words.{opt_u8, word_at, words_of_all, same_words, alloc_words, alloc_fields, alloc_from}
-use Rattle.sched_words.proofs.WordLaws.{length-joined, joined-next, joined-done, filled_next, filled-whole, ten-long, alloc-present}
-use Rattle.header_words.specs.HeaderWords.{header_word_count, list_word_count, header_words, address_read, placed_words, list_words}
+use Rattle.sched_words.specs.Words.{words_of_all, same_words, alloc_words}
+use Rattle.sched_words.proofs.WordLaws.{length-joined, joined-next, joined-done, filled_next, filled-whole, ten-long}
+use Rattle.header_words.specs.HeaderWords.{header_word_count, list_word_count, header_words, placed_words, list_words}
 
 -- ---- written
 
@@ -36,77 +34,6 @@ header-size at (PduHeader.Resource r) =
     ap (λ (n : ℕ). suc (suc (suc (suc (suc (suc (suc (suc (suc (suc (suc (suc (suc n))))))))))))) e
 header-size at (PduHeader.Frag f) = refl
 header-size at (PduHeader.End e) = refl
-
--- ---- read
-
--- each type of address
-module _ (t : ℕ) (ws : List ℕ) where
-  pub ssi-read : t ≡ 1 → Address.Ssi (word_at ws 8) ≡ address_read t ws
-  ssi-read h = rw h
-
-  pub label-read : t ≡ 2 → (e : ℕ) → e ≡ word_at ws 9 % 65536 → Address.EventLabel e ≡ address_read t ws
-  label-read h e g = rw (h, g)
-
-  pub ussi-read : t ≡ 3 → Address.Ussi (word_at ws 8) ≡ address_read t ws
-  ussi-read h = rw h
-
-  pub smi-read : t ≡ 4 → Address.Smi (word_at ws 8) ≡ address_read t ws
-  smi-read h = rw h
-
-  pub ssi-label-read : t ≡ 5 → (e : ℕ) → e ≡ word_at ws 9 % 65536 → Address.SsiEventLabel (word_at ws 8) e ≡ address_read t ws
-  ssi-label-read h e g = rw (h, g)
-
-  pub ssi-marker-read : t ≡ 6 → (m : ℕ) → m ≡ word_at ws 10 % 256 → Address.SsiUsageMarker (word_at ws 8) m ≡ address_read t ws
-  ssi-marker-read h m g = rw (h, g)
-
-  pub smi-label-read : t ≡ 7 → (e : ℕ) → e ≡ word_at ws 9 % 65536 → Address.SmiEventLabel (word_at ws 8) e ≡ address_read t ws
-  smi-label-read h e g = rw (h, g)
-
--- a word that is no type of address
-pub other-type : (t : ℕ) (ws : List ℕ) → (t ≡ 1 → ⊥) → (t ≡ 2 → ⊥) → (t ≡ 3 → ⊥) → (t ≡ 4 → ⊥) → (t ≡ 5 → ⊥) → (t ≡ 6 → ⊥) → (t ≡ 7 → ⊥)
-    → Address.Null ≡ address_read t ws
-other-type zero ws a b c d e f g = refl
-other-type (suc zero) ws a b c d e f g = absurd (a refl)
-other-type (suc (suc zero)) ws a b c d e f g = absurd (b refl)
-other-type (suc (suc (suc zero))) ws a b c d e f g = absurd (c refl)
-other-type (suc (suc (suc (suc zero)))) ws a b c d e f g = absurd (d refl)
-other-type (suc (suc (suc (suc (suc zero))))) ws a b c d e f g = absurd (e refl)
-other-type (suc (suc (suc (suc (suc (suc zero)))))) ws a b c d e f g = absurd (f refl)
-other-type (suc (suc (suc (suc (suc (suc (suc zero))))))) ws a b c d e f g = absurd (g refl)
-other-type (suc (suc (suc (suc (suc (suc (suc (suc n)))))))) ws a b c d e f g = refl
-
--- words 14 to 22 are as words 12 to 20 of a record
-abbrev alloc_at14 : List ℕ → ChanAllocElement
-alloc_at14 ws =
-    record {
-      alloc_type = word_at ws 14 % 256;
-      ts_assigned = word_at ws 15 % 256;
-      ul_dl_assigned = word_at ws 16 % 256;
-      clch_permission = word_at ws 17 % 256;
-      cell_change_flag = word_at ws 18 % 256;
-      carrier_num = word_at ws 19 % 65536;
-      ext_carrier_num_flag = word_at ws 20 % 256;
-      mon_pattern = word_at ws 21 % 256;
-      frame18_mon_pattern = opt_u8 (word_at ws 22);
-    }
-
-alloc_at : (ws : List ℕ) → alloc_at14 ws ≡ alloc_fields (drop 2 ws)
-alloc_at ws =
-    let w : (j : ℕ) → get_or ws (2 + j) 0 ≡ get_or (drop 2 ws) j 0 = λ j. sym (get_or-drop 2 ws j 0) in
-    λ i. record {
-      alloc_type = w 12 i % 256;
-      ts_assigned = w 13 i % 256;
-      ul_dl_assigned = w 14 i % 256;
-      clch_permission = w 15 i % 256;
-      cell_change_flag = w 16 i % 256;
-      carrier_num = w 17 i % 65536;
-      ext_carrier_num_flag = w 18 i % 256;
-      mon_pattern = w 19 i % 256;
-      frame18_mon_pattern = opt_u8 (w 20 i);
-    }
-
-pub alloc-later : (ws : List ℕ) → (word_at ws 13 ≡ 0 → ⊥) → OptChanAlloc.Of (alloc_at14 ws) ≡ alloc_from (word_at ws 13) (drop 2 ws)
-alloc-later ws h = ap OptChanAlloc.Of (alloc_at ws) ∙ alloc-present (word_at ws 13) (drop 2 ws) h
 
 -- ---- compared
 

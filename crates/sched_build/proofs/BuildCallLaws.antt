@@ -74,7 +74,7 @@ module _ (s : Station) (records : List Record) (store : List ℕ) (t : ℕ) (her
         cells = omega arith;
         stored = omega arith;
         sound = subst (λ (u : ℕ). sound_places per_timeslot (get_or s.queued u 0) records (drop (cell_octets * (per_timeslot * u)) store) ≡ true)
-        (sym here) sound;
+            (sym here) sound;
       }
 
   -- the plan is that of any queue with these records

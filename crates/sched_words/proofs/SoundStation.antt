@@ -1,11 +1,10 @@
 -- The words of a station, judged where they stand. Assumes nothing.
 use Rattle.std.proofs.Common.{◌≡◌, ℕ, zero, suc, ◌+◌, ◌-◌, ◌*◌, ◌%◌, ◌^◌, ◌<◌, ◌≤◌, Bool, true, false, cond, ◌&&◌, ◌||◌, eqb, leb, List, [], ◌∷◌, ◌++◌}
-use Rattle.std.proofs.Common.{length, get_or, drop, sym, refl, ap, ◌∙◌, ap₂, mod-eq_of_lt, arith, length-drop, get_or-drop, drop-drop, eq-eqb, ne_eqb}
-use Rattle.std.proofs.Common.{eqb-true, le-leb, leb-true}
+use Rattle.std.proofs.Common.{length, get_or, drop, sym, refl, ap, ◌∙◌, ap₂, arith, length-drop, get_or-drop, drop-drop, ne_eqb}
+use Rattle.std.proofs.Common.{le-leb, leb-true}
 use mathlib.Core.Bool.{and_assoc, and-true, and-false}
 use Rattle.optional.proofs.Tests.{and_left, and_right, and_intro}
 use Rattle.dl_record.proofs.Tests.{same_test}
-use Rattle.sizes.specs.Sizes.{per_timeslot}
 use Rattle.tdma_time.specs.Time.{valid}
 use Rattle.uplink.specs.UplinkEntry.{all, sound_owner, sound_counter, sound_marker, sound_entry, sound_row, sound_table, sound_counters}
 use Rattle.uplink.specs.Uplink.{sound_uplink}
@@ -46,12 +45,6 @@ positive m = ne_eqb (suc m) 0 (λ e. omega (arith, e))
 pub marker-sound : (w : ℕ) → eqb w 0 || (leb 5 w && leb w 63) ≡ leb w 256 && sound_marker (opt_u8 w)
 marker-sound zero = refl
 marker-sound (suc m) = rw (positive m) (marker-word m)
-
--- no first half
-pub vacant-sound : (a b m : ℕ) → a ≡ 0 → eqb b 0 && eqb m 0 ≡ leb m 256 && sound_entry (entry_of a b m)
-vacant-sound a zero zero e = rw e
-vacant-sound a zero (suc m) e = rw (e, positive m) (sym (and-false (leb (suc m) 256)))
-vacant-sound a (suc b) m e = rw (e, positive b) (sym (and-false (leb m 256)))
 
 owner-word : (b : ℕ) → leb b (2 ^ 24) ≡ sound_owner (opt_u32 b)
 owner-word zero = refl
@@ -149,21 +142,6 @@ four-sound p ws h =
     (ap (λ (b : Bool). b && (fit 2 && pass 2)) (shuffle (fit 0) (pass 0) (fit 1) (pass 1)) ∙ shuffle (fit 0 && fit 1) (pass 0 && pass 1) (fit 2) (pass 2))
     ∙ shuffle (fit 0 && fit 1 && fit 2) (pass 0 && pass 1 && pass 2) (fit 3) (pass 3)
     ∙ ap₂ ◌&&◌ (nested4 (fit 0) (fit 1) (fit 2) (fit 3) ∙ ap (begins (four_from ws)) (sym (spelled 4 0 ws h))) (nested4 (pass 0) (pass 1) (pass 2) (pass 3))
-
-low-sound : (q p : ℕ → Bool) → ((w : ℕ) → q w ≡ true → (w < 256) × (p w ≡ true)) → ((w : ℕ) → p w ≡ true → q w ≡ true) → (w : ℕ) → q w ≡ eqb (w % 256) w
-    && p (w % 256)
-low-sound q p f g w =
-    same_test (q w) (eqb (w % 256) w && p (w % 256))
-    (λ h.
-    let k : w % 256 ≡ w = mod-eq_of_lt (f w h).0 in
-    and_intro (eqb (w % 256) w) (p (w % 256)) (eq-eqb (w % 256) w k) (ap p k ∙ (f w h).1))
-    (λ h. g w (ap p (sym (eqb-true (w % 256) w (and_left (eqb (w % 256) w) (p (w % 256)) h))) ∙ and_right (eqb (w % 256) w) (p (w % 256)) h))
-
-pub counter-sound : (w : ℕ) → leb 4 w && leb w 62 ≡ eqb (w % 256) w && sound_counter (w % 256)
-counter-sound = low-sound sound_counter sound_counter (λ w h. let k : w ≤ 62 = leb-true w 62 (and_right (leb 4 w) (leb w 62) h) in (omega arith, h)) (λ w h. h)
-
-pub count-sound : (w : ℕ) → leb w per_timeslot ≡ eqb (w % 256) w && sound_count (w % 256)
-count-sound = low-sound sound_count sound_count (λ w h. let k : w ≤ per_timeslot = leb-true w per_timeslot h in (omega arith, h)) (λ w h. h)
 
 -- ---- the whole
 

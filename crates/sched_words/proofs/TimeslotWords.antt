@@ -24,10 +24,6 @@ records-next rs f i h l l' r e stored =
     (record_word_count * (f + (i + 1))) i empty_record h stored
     (ap record_words e) (omega arith)
 
-pub records-start : (rs : List Record) (f : ℕ) (l : List ℕ) → sets l (record_word_count * (f + 0)) (queue_words (drop 0 rs))
-    ≡ sets l (record_word_count * f) (queue_words rs)
-records-start rs f l = let e : f + 0 ≡ f = omega arith in ap (λ (p : ℕ). sets l (record_word_count * p) (queue_words rs)) e
-
 pub records-done : (rs : List Record) (l : List ℕ) (p i : ℕ) → length rs ≤ i → sets l p (queue_words (drop i rs)) ≡ l
 records-done rs l p i h = joined-done record_words record_word_count record-size l rs p i h
 

@@ -1,48 +1,18 @@
 -- Words one after another, as the loops read and store them; and single words. Assumes nothing.
-use Rattle.std.proofs.Common.{◌≡◌, ℕ, zero, suc, ◌+◌, ◌-◌, ◌*◌, ◌%◌, ◌<◌, ◌≤◌, Bool, true, false, cond, not, List, [], ◌∷◌, ◌++◌, length, get_or, take}
-use Rattle.std.proofs.Common.{drop, set, sym, refl, ap, ◌∙◌, append-nil, le_of_suc-le-suc, not-suc-le-zero, add-zero, zero-add, add-one, sub-one, arith}
-use Rattle.std.proofs.Common.{length-append, drop_of_length-le, take_all, drop-cons, drop-drop, le-leb}
+use Rattle.std.proofs.Common.{◌≡◌, ℕ, zero, suc, ◌+◌, ◌*◌, ◌<◌, ◌≤◌, List, [], ◌∷◌, ◌++◌, length, get_or, take}
+use Rattle.std.proofs.Common.{drop, set, sym, refl, ap, ◌∙◌, append-nil, le_of_suc-le-suc, not-suc-le-zero, add-zero, zero-add, add-one, arith}
+use Rattle.std.proofs.Common.{length-append, drop_of_length-le, take_all, drop-cons, drop-drop}
 use lib.Seq.{sets, sets-eq, paste-suc}
-use borrow.Author.Tests.{not-true, not-false, lt-leb}
-use Rattle.optional.specs.declared.OptU8.{OptU8}
 use Rattle.optional.specs.declared.OptU16.{OptU16}
-use Rattle.optional.specs.declared.OptU32.{OptU32}
 use Rattle.uplink.specs.declared.Entry.{Entry}
 use Rattle.mac_pdus.specs.declared.OptChanAlloc.{OptChanAlloc}
-use Rattle.dl_record.specs.declared.Kind.{Kind}
 use Rattle.dl_record.specs.declared.QueuedHeader.{QueuedHeader}
 use Rattle.dl_record.specs.declared.Record.{Record}
-use Rattle.sched_words.specs.Words.{record_word_count, Stored, opt_u8, opt_u16, opt_u32, kind_from, words_of_all, read_all, same_words, alloc_words}
+use Rattle.sched_words.specs.Words.{record_word_count, Stored, words_of_all, read_all, alloc_words}
 use Rattle.sched_words.specs.Words.{alloc_fields}
-use Rattle.sched_words.specs.Words.{alloc_from, queued_header_words, record_words, entry_words, words_of_row, saturated}
+use Rattle.sched_words.specs.Words.{alloc_from, queued_header_words, record_words, entry_words, words_of_row}
 
 -- ---- single words
-
-pub present-8 : (w : ℕ) → (w ≡ 0 → ⊥) → OptU8.Of ((w - 1) % 256) ≡ opt_u8 w
-present-8 zero h = absurd (h refl)
-present-8 (suc w) h = rw sub-one
-
-pub present-16 : (w : ℕ) → (w ≡ 0 → ⊥) → OptU16.Of ((w - 1) % 65536) ≡ opt_u16 w
-present-16 zero h = absurd (h refl)
-present-16 (suc w) h = rw sub-one
-
-pub present-32 : (w : ℕ) → (w ≡ 0 → ⊥) → OptU32.Of (w - 1) ≡ opt_u32 w
-present-32 zero h = absurd (h refl)
-present-32 (suc w) h = rw sub-one
-
-pub started-kind : (w : ℕ) → (w ≡ 0 → ⊥) → (w ≡ 1 → ⊥) → (w ≡ 2 → ⊥) → (w ≡ 3 → ⊥) → Kind.Started ≡ kind_from w
-started-kind zero a b c d = absurd (a refl)
-started-kind (suc zero) a b c d = absurd (b refl)
-started-kind (suc (suc zero)) a b c d = absurd (c refl)
-started-kind (suc (suc (suc zero))) a b c d = absurd (d refl)
-started-kind (suc (suc (suc (suc w)))) a b c d = refl
-
--- a word that its field holds, and one that it does not
-pub saturated-low : (most w : ℕ) → w ≤ most → w ≡ saturated most w
-saturated-low most w h = rw (le-leb w most h)
-
-pub saturated-high : (most w : ℕ) → most < w → most ≡ saturated most w
-saturated-high most w h = rw (lt-leb w most h)
 
 -- the words of a channel allocation, one by one
 pub ten-words : (a : List ℕ) (o : OptChanAlloc) (bits sent : ℕ) → a ≡ alloc_words o
@@ -66,37 +36,15 @@ record-size r =
     length-append (queued_header_words r.tag r.header) (r.bits ∷ r.sent ∷ []) ∙ omega (arith, header-size r.tag r.header) in
     ap (λ (n : ℕ). suc (suc (suc n))) e
 
-pub no-alloc : (w : ℕ) (ws : List ℕ) → w ≡ 0 → OptChanAlloc.Absent ≡ alloc_from w ws
-no-alloc w ws e = rw e
-
 pub alloc-present : (w : ℕ) (ws : List ℕ) → (w ≡ 0 → ⊥) → OptChanAlloc.Of (alloc_fields ws) ≡ alloc_from w ws
 alloc-present zero ws h = absurd (h refl)
 alloc-present (suc w) ws h = refl
-
--- ---- words compared
-
--- words count if they are those of what is read from them
-module _ {A : Type 0} (write : A → List ℕ) (read : List ℕ → A) (none x : A) (ws : List ℕ) (b : Bool) (told : b ≡ same_words (write (read ws)) ws) where
-  pub others : not b ≡ true → x ≡ none → x ≡ cond (same_words (write (read ws)) ws) (read ws) none
-  others h e = rw (sym told ∙ not-true b h) e
-
-  pub its_own : not b ≡ false → x ≡ read ws → x ≡ cond (same_words (write (read ws)) ws) (read ws) none
-  its_own h e = rw (sym told ∙ not-false b h) e
 
 -- ---- words stored
 
 pub sets-append : (l : List ℕ) (at : ℕ) (f g : List ℕ) → sets l at (f ++ g) ≡ sets (sets l at f) (at + length f) g
 sets-append l at [] g = ap (λ (n : ℕ). sets l n g) (sym (add-zero at))
 sets-append l at (x ∷ f) g = sets-append (set l at x) (suc at) f g ∙ ap (λ (n : ℕ). sets (sets (set l at x) (suc at) f) n g) (omega arith)
-
-pub store-next : (l src : List ℕ) (at i : ℕ) → i < length src → sets (set l (at + i) (get_or src i 0)) (at + (i + 1)) (drop (i + 1) src)
-    ≡ sets l (at + i) (drop i src)
-store-next l src at i h =
-    let e : at + (i + 1) ≡ suc (at + i) = omega arith in
-    rw (e, add-one i, drop-cons src i 0 h)
-
-pub store-done : (l src : List ℕ) (at i : ℕ) → length src ≤ i → sets l (at + i) (drop i src) ≡ l
-store-done l src at i h = rw (drop_of_length-le src {i = i} h)
 
 -- words over as many
 pub sets-whole : (l f : List ℕ) → length f ≡ length l → sets l 0 f ≡ f

@@ -53,8 +53,12 @@ slice_bounds-execute-start c = let i = inside (goal.at.slice_bounds-execute-star
 
 pub execute-x-requires : goal.execute-x-requires
 execute-x-requires c =
-    let l = c.loop-station in
-    (l.invariant.0, l.invariant.1, whole-fits _ l.taken _ (whole (goal.at.execute-x-requires c).In-loop-station) c.command_of-command.ensures, omega (arith, l.invariant.2))
+    let l = c.loop-station in (
+      l.invariant.0,
+      l.invariant.1,
+      whole-fits _ l.taken _ (whole (goal.at.execute-x-requires c).In-loop-station) c.command_of-command.ensures,
+      omega (arith, l.invariant.2),
+    )
 
 -- a command ends inside the input
 ends : (c : After-operand_count) → is_whole (drop c.loop-station.taken c.args.input.now) ≡ true

@@ -20,10 +20,6 @@ returns-then-not-station_is_sound c =
     is-station ws _ (λ (n : ℕ). station_left n ws) c.if-station-ne-STATION_WORDS.false
     (ap (λ (n : ℕ). station_left n ws) c.unsound.ensures ∙ advance-no ws (said-no c.station_is_sound.ensures c.if-not-station_is_sound.true))
 
-pub advance-requires : goal.advance-requires
-advance-requires c =
-    (c.if-station-ne-STATION_WORDS.false, said-yes c.station_is_sound.ensures c.if-not-station_is_sound.false)
-
 pub returns : goal.returns
 unfolding advance_left
 returns c =

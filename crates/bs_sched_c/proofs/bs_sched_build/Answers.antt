@@ -110,12 +110,6 @@ here k =
 pub overflow_sub-t : goal.overflow_sub-t
 overflow_sub-t c = (in-range (goal.at.overflow_sub-t c).After-queued_of-queued).0
 
-pub bounds-queued-t : goal.bounds-queued-t
-bounds-queued-t c = let r = in-range (goal.at.bounds-queued-t c).After-queued_of-queued in omega (arith, r.0, r.1)
-
-pub overflow_mul-first : goal.overflow_mul-first
-overflow_mul-first c = let r = in-range (goal.at.overflow_mul-first c).After-queued_of-queued in omega (arith, r.0, r.1)
-
 inside : (k : After-queued_of-queued) → per_timeslot * ((time k).t - 1) + per_timeslot ≤ queue_places
 inside k = let r = in-range k in omega (arith, r.0, r.1)
 
@@ -201,15 +195,6 @@ planned d =
     d.build_timeslot-plan.new.block)
     (counts-are k) d.build_timeslot-plan.ensures)
     (records_from a.queue.now) (own r)
-
-pub overflow_cast-counts : goal.overflow_cast-counts
-overflow_cast-counts c = omega (arith, (planned (goal.at.overflow_cast-counts c).After-build_timeslot-plan).few)
-
-pub bounds-counts-t : goal.bounds-counts-t
-bounds-counts-t c = let r = in-range (goal.at.bounds-counts-t c).After-queued_of-queued in omega (arith, r.0, r.1)
-
-pub overflow_cast-count : goal.overflow_cast-count
-overflow_cast-count c = omega (arith, (planned (goal.at.overflow_cast-count c).After-build_timeslot-plan).few-tags)
 
 pub put_queued-requires : goal.put_queued-requires
 put_queued-requires c = let t = (goal.at.put_queued-requires c).After-build_timeslot-plan in

@@ -52,9 +52,6 @@ returns-then-not-lent c =
 yes3 : (c : Else-not-lent) → FirstYes 3 (asked (goal.at.Else-not-lent c).Start)
 yes3 c = (yes2 (goal.at.Else-not-lent c).Else-store-ne-STORE_OCTETS, c.if-not-lent.false)
 
-pub queued_of-queued-requires : goal.queued_of-queued-requires
-queued_of-queued-requires c = (c.requires, said-yes c.station_is_sound-sound.ensures c.if-not-sound.false)
-
 -- what the last question is told, of the records
 told : (c : After-queue_is_sound)
     → let a = c.args in

@@ -1,12 +1,9 @@
 -- The words from i on are the same exactly if all are. Assumes nothing.
-use mathlib.Core.Path.{refl, ◌∙◌}
+use mathlib.Core.Path.{◌∙◌}
 use native.Mathlib.Omega.{arith}
 use Rattle.header_words.proofs.HeaderLaws.{same_next, same-other, same-done}
 use borrow.Author.Rules.{rules}
 use Rattle.header_words.proofs.same_words.Goals as goal
-
-pub loop-i-init : goal.loop-i-init
-loop-i-init c = (omega arith, c.requires, refl)
 
 pub returns-then-a-i : goal.returns-then-a-i
 returns-then-a-i c =

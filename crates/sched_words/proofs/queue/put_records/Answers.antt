@@ -1,22 +1,9 @@
 -- What is left to store still gives the words that all n give. Assumes nothing.
-use Rattle.std.proofs.Common.{◌≡◌, length, take, sym, refl, ◌∙◌, arith, length-take-le, get_or-take, rules}
-use Rattle.sizes.specs.Sizes.{per_timeslot}
+use Rattle.std.proofs.Common.{take, sym, ◌∙◌, arith, get_or-take, rules}
 use Rattle.dl_record.specs.Record.{empty_record}
 use Rattle.dl_queue.proofs.PushLaws.{rec_at}
-use Rattle.sched_words.proofs.TimeslotWords.{records-start, records-next, records-done}
+use Rattle.sched_words.proofs.TimeslotWords.{records-next, records-done}
 use Rattle.sched_words.proofs.queue.put_records.Goals as goal
-
-pub loop-j-init : goal.loop-j-init
-loop-j-init c =
-    let a = c.args in
-    let size : length a.records ≡ per_timeslot = search rules in (
-      omega arith,
-      length-take-le a.n a.records (omega (arith, size, c.requires.2)),
-      c.requires.2,
-      refl,
-      records-start (take a.n a.records) a.first
-          a.words.now,
-    )
 
 pub loop-j-preserved : goal.loop-j-preserved
 loop-j-preserved c =

@@ -1,19 +1,13 @@
 -- Each place so far is sound, and so is each timeslot; one place that is not decides. Assumes nothing.
 use Rattle.std.proofs.Common.{◌≡◌, ℕ, ◌+◌, ◌*◌, true, false, ltb, get_or, sym, ◌∙◌, arith, rules, below_more, le-ltb, lt-ltb}
 use Rattle.sizes.specs.Sizes.{per_timeslot}
-use Rattle.sched_words.proofs.WordsQueue.{sound_at, Timeslot, slots-sound, place-told, too_many, place-fails}
+use Rattle.sched_words.proofs.WordsQueue.{sound_at, slots-sound, place-told, too_many, place-fails}
 use Rattle.sched_words.proofs.queue.queue_is_sound.Goals as goal
-
-pub loop-t-init : goal.loop-t-init
-loop-t-init c = (omega arith, search rules, λ u h. absurd (omega arith))
 
 pub returns-then-n-gt-PER_TIMESLOT : goal.returns-then-n-gt-PER_TIMESLOT
 returns-then-n-gt-PER_TIMESLOT c =
     let a = c.args in
     too_many a.counts a.store.now a.words.now c.loop-t.invariant.1 (search rules) c.loop-t.t (omega arith) (omega (arith, c.if-n-gt-PER_TIMESLOT.true))
-
-pub loop-i-init : goal.loop-i-init
-loop-i-init c = (omega arith, omega (arith, c.if-n-gt-PER_TIMESLOT.false), omega arith, λ j h. absurd (omega arith))
 
 pub returns-then-not-filled_is_sound : goal.returns-then-not-filled_is_sound
 returns-then-not-filled_is_sound c =
@@ -41,9 +35,6 @@ loop-i-preserved c =
           c.loop-i.invariant.3 (sym told ∙ c.if-not-filled_is_sound.false),
     )
 
-pub loop-i-2-init : goal.loop-i-2-init
-loop-i-2-init c = (omega arith, c.loop-i.invariant.1, c.loop-i.invariant.2, λ j h. c.loop-i.invariant.3 j (omega arith))
-
 pub returns-then-not-unfilled_is_sound : goal.returns-then-not-unfilled_is_sound
 returns-then-not-unfilled_is_sound c =
     let a = c.args in
@@ -69,19 +60,6 @@ loop-i-2-preserved c =
       below_more
           (λ (j : ℕ). sound_at (ltb j n) a.words.now a.store.now (per_timeslot * t + j) ≡ true) i c.loop-i-2.invariant.3
           (sym told ∙ c.if-not-unfilled_is_sound.false),
-    )
-
-pub loop-t-preserved : goal.loop-t-preserved
-loop-t-preserved c =
-    let a = c.args in
-    let here : Timeslot a.counts a.store.now a.words.now c.loop-t.t = record {
-      count = c.loop-i.invariant.1;
-      places = λ j h. c.loop-i-2.invariant.3 j (omega arith);
-    } in (
-      omega (arith, c.loop-i-2.invariant.2),
-      c.loop-t.invariant.1,
-      below_more (λ (u : ℕ). Timeslot a.counts a.store.now a.words.now u) c.loop-t.t
-          c.loop-t.invariant.2 here,
     )
 
 pub returns : goal.returns

@@ -1,6 +1,6 @@
 -- The first i records are read. Assumes nothing.
-use Rattle.std.proofs.Common.{◌≡◌, ℕ, ◌+◌, ◌*◌, ◌++◌, length, take, drop, replicate, sym, refl, ap, ◌∙◌, arith, length-drop, length-take-le, get_or-drop}
-use Rattle.std.proofs.Common.{get_or-take, rules}
+use Rattle.std.proofs.Common.{◌≡◌, ◌+◌, ◌*◌, length, take, drop, replicate, sym, ap, ◌∙◌, arith, length-drop, length-take-le, get_or-drop}
+use Rattle.std.proofs.Common.{get_or-take}
 use Rattle.sizes.specs.Sizes.{per_timeslot, queue_places}
 use Rattle.dl_record.specs.Record.{empty_record}
 use Rattle.sched_words.specs.Words.{record_word_count, record_read, records_read}
@@ -14,12 +14,6 @@ size s =
     let room = s.requires.0 in
     length-take-le per_timeslot (drop s.args.first (records_read s.args.words.now))
     (rw length-drop (omega (arith, length-parts record_read record_word_count queue_places s.args.words.now)))
-
-pub loop-k-init : goal.loop-k-init
-loop-k-init c = (omega arith, search rules, refl)
-
-pub record_read-r-requires : goal.record_read-r-requires
-record_read-r-requires c = let ws = c.args.words.now in rw (rest ws _, length-drop) (omega arith)
 
 pub loop-k-preserved : goal.loop-k-preserved
 loop-k-preserved c =
@@ -36,10 +30,3 @@ loop-k-preserved c =
           (omega (arith, size (goal.at.loop-k-preserved c).Start))
           (omega arith)),
     )
-
-pub returns : goal.returns
-returns c =
-    let n = c.args.n in
-    let e : c.loop-k.k ≡ n = omega arith in
-    c.loop-k.invariant.2 ∙ ap (λ (i : ℕ). take i (take per_timeslot (drop c.args.first (records_read c.args.words.now)))
-    ++ drop i (replicate per_timeslot empty_record)) e

@@ -1,10 +1,7 @@
 -- What is sound so far, and what is left of the entries, decide. Assumes nothing.
-use Rattle.std.proofs.Common.{refl, ◌∙◌, arith, rules}
+use Rattle.std.proofs.Common.{◌∙◌, arith, rules}
 use Rattle.sched_words.proofs.SoundStation.{judged-turn, judged-done}
 use Rattle.sched_words.proofs.station.entries_are_sound.Goals as goal
-
-pub loop-i-init : goal.loop-i-init
-loop-i-init c = (omega arith, refl)
 
 pub loop-i-preserved : goal.loop-i-preserved
 loop-i-preserved c = (

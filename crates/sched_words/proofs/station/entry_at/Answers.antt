@@ -1,13 +1,9 @@
 -- The entry stands in the row of the timeslot, in the column of the frame. Assumes nothing.
-use Rattle.std.proofs.Common.{ap, ◌∙◌, arith, length-drop}
+use Rattle.std.proofs.Common.{ap, ◌∙◌}
 use Rattle.sched_words.specs.Words.{entry_from}
 use Rattle.lists.proofs.Lists.{rest}
 use Rattle.sched_words.proofs.StationWords.{entry-words}
 use Rattle.sched_words.proofs.station.entry_at.Goals as goal
-
-pub entry_from-requires : goal.entry_from-requires
-entry_from-requires c =
-    rw (rest c.args.words.now _, length-drop) (omega (arith, c.requires.0, c.requires.2.t-high, c.requires.2.f-high))
 
 pub returns : goal.returns
 returns c =

@@ -1,12 +1,9 @@
 -- What is left to store still gives the words that the whole row gives. Assumes nothing.
-use Rattle.std.proofs.Common.{sym, refl, ◌∙◌, add-zero, arith, rules}
+use Rattle.std.proofs.Common.{sym, refl, ◌∙◌, arith, rules}
 use Rattle.uplink.specs.UplinkEntry.{empty_entry}
 use Rattle.sched_words.specs.Words.{entry_words}
 use Rattle.sched_words.proofs.WordLaws.{length-joined, joined-next, joined-done}
 use Rattle.sched_words.proofs.station.put_row.Goals as goal
-
-pub loop-i-init : goal.loop-i-init
-loop-i-init c = (omega arith, search rules, refl, rw add-zero)
 
 pub loop-i-preserved : goal.loop-i-preserved
 loop-i-preserved c = (

@@ -1,16 +1,10 @@
 -- The first i entries are read. Assumes nothing.
-use Rattle.std.proofs.Common.{◌*◌, replicate, sym, refl, ap, ◌∙◌, arith, length-drop}
+use Rattle.std.proofs.Common.{◌*◌, replicate, sym, ap, ◌∙◌, arith}
 use Rattle.uplink.specs.UplinkEntry.{empty_entry}
 use Rattle.sched_words.specs.Words.{entry_from, row_from}
 use Rattle.lists.proofs.Lists.{rest}
 use Rattle.sched_words.proofs.WordLaws.{part_at, length-parts, filled_next, filled-whole}
 use Rattle.sched_words.proofs.station.row_from.Goals as goal
-
-pub loop-i-init : goal.loop-i-init
-loop-i-init c = (omega arith, refl)
-
-pub entry_from-e-requires : goal.entry_from-e-requires
-entry_from-e-requires c = let ws = c.args.words.now in rw (rest ws _, length-drop) (omega arith)
 
 pub loop-i-preserved : goal.loop-i-preserved
 loop-i-preserved c =

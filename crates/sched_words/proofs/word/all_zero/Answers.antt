@@ -1,10 +1,7 @@
 -- What is or-ed so far is 0, and the rest is zero, exactly if all is zero. Assumes nothing.
-use Rattle.std.proofs.Common.{refl, ◌∙◌, arith}
+use Rattle.std.proofs.Common.{◌∙◌, arith}
 use Rattle.dl_sdu_store.proofs.ZeroLaws.{or_turn, none_left}
 use Rattle.sched_words.proofs.word.all_zero.Goals as goal
-
-pub loop-i-init : goal.loop-i-init
-loop-i-init c = (omega arith, refl, refl)
 
 pub loop-i-preserved : goal.loop-i-preserved
 loop-i-preserved c =
