@@ -11,10 +11,11 @@ use Rattle.interpreter.specs.Slotrun.{session, start, is_whole}
 use Rattle.interpreter.proofs.RunLaws.{whole-inside, whole-fits, ends-inside}
 use Rattle.as_document_01.proofs.LineLaws.{running-start, running-found, running-next, running-end}
 use Rattle.as_document_01.proofs.lines_as_document_01.Goals as goal
-use Rattle.as_document_01.proofs.lines_as_document_01.Goals.{After-empty_stage-stage, In-loop-station}
+use Rattle.as_document_01.proofs.lines_as_document_01.Goals.{After-empty_stage-stage, After-operand_count, In-loop-station}
 
 -- the session at the start
-first : (c : After-empty_stage-stage) → session (memory c.first_station-station.result c.empty_queue-queue.result c.empty_store-store.result) c.empty_stage-stage.result ≡ start
+first : (c : After-empty_stage-stage)
+    → session (memory c.first_station-station.result c.empty_queue-queue.result c.empty_store-store.result) c.empty_stage-stage.result ≡ start
 unfolding new_memory
 first c =
     rw (c.first_station-station.ensures, c.empty_queue-queue.ensures, c.empty_store-store.ensures, c.empty_stage-stage.ensures)
@@ -26,12 +27,10 @@ pub is_whole-requires : goal.is_whole-requires
 is_whole-requires c = c.loop-station.invariant.3.inside
 
 -- in the loop there is a whole command
-whole : (t : In-loop-station) → is_whole (drop t.loop-station.taken
-    t.args.input.now) ≡ true
+whole : (t : In-loop-station) → is_whole (drop t.loop-station.taken t.args.input.now) ≡ true
 whole t = sym t.is_whole.ensures ∙ t.loop-station-test.true
 
-inside : (t : In-loop-station) → t.loop-station.taken
-    < length t.args.input.now
+inside : (t : In-loop-station) → t.loop-station.taken < length t.args.input.now
 inside t = whole-inside _ _ (whole t)
 
 pub bounds-input-taken : goal.bounds-input-taken
@@ -40,8 +39,7 @@ bounds-input-taken c = inside (goal.at.bounds-input-taken c).In-loop-station
 pub returns-then-arises_at : goal.returns-then-arises_at
 returns-then-arises_at c =
     let l = c.loop-station in
-    running-found _ _ _ _ l.invariant.3 (whole (goal.at.returns-then-arises_at c).In-loop-station) c.command_of-command.result
-    c.command_of-command.ensures
+    running-found _ _ _ _ l.invariant.3 (whole (goal.at.returns-then-arises_at c).In-loop-station) c.command_of-command.result c.command_of-command.ensures
     (sym (c.arises_at.ensures l.store) ∙ c.if-arises_at.true)
 
 pub overflow_add-operands : goal.overflow_add-operands
@@ -62,22 +60,27 @@ execute-x-requires c =
       omega (arith, l.invariant.2),
     )
 
+-- a command ends inside the input
+ends : (c : After-operand_count) → is_whole (drop c.loop-station.taken c.args.input.now) ≡ true
+    → c.loop-station.taken + 1 + c.operand_count.result ≤ length c.args.input.now
+ends c w = ends-inside _ _ _ _ w c.command_of-command.ensures c.operand_count.ensures.0
+
 pub overflow_add-taken : goal.overflow_add-taken
 overflow_add-taken c =
-    let e : c.loop-station.taken + 1 + c.operand_count.result ≤ length c.args.input.now =
-    ends-inside _ _ _ _ (whole (goal.at.overflow_add-taken c).In-loop-station) c.command_of-command.ensures c.operand_count.ensures.0 in
+    let k = goal.at.overflow_add-taken c in
+    let e = ends k.After-operand_count (whole k.In-loop-station) in
     omega arith
 
 pub overflow_add-count : goal.overflow_add-count
 overflow_add-count c =
-    let e : c.loop-station.taken + 1 + c.operand_count.result ≤ length c.args.input.now =
-    ends-inside _ _ _ _ (whole (goal.at.overflow_add-count c).In-loop-station) c.command_of-command.ensures c.operand_count.ensures.0 in
+    let k = goal.at.overflow_add-count c in
+    let e = ends k.After-operand_count (whole k.In-loop-station) in
     omega (arith, c.loop-station.invariant.3.few)
 
 pub loop-station-smaller : goal.loop-station-smaller
 loop-station-smaller c =
-    let e : c.loop-station.taken + 1 + c.operand_count.result ≤ length c.args.input.now =
-    ends-inside _ _ _ _ (whole (goal.at.loop-station-smaller c).In-loop-station) c.command_of-command.ensures c.operand_count.ensures.0 in
+    let k = goal.at.loop-station-smaller c in
+    let e = ends k.After-operand_count (whole k.In-loop-station) in
     omega arith
 
 pub loop-station-preserved : goal.loop-station-preserved
@@ -86,8 +89,8 @@ loop-station-preserved c =
       search rules,
       search rules,
       search rules,
-      running-next _ _ _ _ l.invariant.3 (whole (goal.at.loop-station-preserved c).In-loop-station) c.command_of-command.result
-          c.command_of-command.ensures c.operand_count.result c.execute-x.result _ _ _ _
+      running-next _ _ _ _ l.invariant.3 (whole (goal.at.loop-station-preserved c).In-loop-station)
+          c.command_of-command.result c.command_of-command.ensures c.operand_count.result c.execute-x.result _ _ _ _
           (sym (c.arises_at.ensures l.store) ∙ c.if-arises_at.false) c.operand_count.ensures.0 c.execute-x.ensures,
     )
 

@@ -11,13 +11,16 @@ use Rattle.slotrun.proofs.main.Goals as goal
 use Rattle.slotrun.proofs.main.Goals.{After-empty_stage-stage}
 
 -- the session at the start
-first : (c : After-empty_stage-stage) → session (memory c.first_station-station.result c.empty_queue-queue.result c.empty_store-store.result) c.empty_stage-stage.result ≡ start
+first : (c : After-empty_stage-stage)
+    → session (memory c.first_station-station.result c.empty_queue-queue.result c.empty_store-store.result) c.empty_stage-stage.result ≡ start
 unfolding new_memory
 first c =
     rw (c.first_station-station.ensures, c.empty_queue-queue.ensures, c.empty_store-store.ensures, c.empty_stage-stage.ensures)
 
 pub loop-turns-init : goal.loop-turns-init
-loop-turns-init c = (search rules, search rules, search rules, search rules, search rules, reached-start _ (first (goal.at.loop-turns-init c).After-empty_stage-stage))
+loop-turns-init c =
+    let e = first (goal.at.loop-turns-init c).After-empty_stage-stage in
+    (search rules, search rules, search rules, search rules, search rules, reached-start _ e)
 
 pub loop-turns-preserved : goal.loop-turns-preserved
 loop-turns-preserved c =

@@ -17,7 +17,8 @@ room : (c : Else-out-input) → let a = c.args in 173 * length a.input.now ≤ l
 room c = omega (arith, c.if-out-input.false)
 
 -- the session that the run starts from
-first : (c : After-empty_stage-stage) → session (memory c.first_station-station.result c.empty_queue-queue.result c.empty_store-store.result) c.empty_stage-stage.result ≡ start
+first : (c : After-empty_stage-stage)
+    → session (memory c.first_station-station.result c.empty_queue-queue.result c.empty_store-store.result) c.empty_stage-stage.result ≡ start
 unfolding new_memory
 first c =
     rw (c.first_station-station.ensures, c.empty_queue-queue.ensures, c.empty_store-store.ensures, c.empty_stage-stage.ensures)
