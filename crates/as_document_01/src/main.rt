@@ -118,7 +118,7 @@ fn lines_as_document_01(input: &[u8]) -> Lines
 fn main(rt: HostRuntime) -> io::Result<()> {
     let mut reader = rt.stdin();
     let mut input = [0u8; 65536];
-    let got = reading::read_full(&mut reader, &mut input)?;
+    let got = reading::read_full(&mut reader, &mut input);
     let lines = lines_as_document_01(&input[..got]);
     match lines {
         Lines::All => println!(rt; "all"),

@@ -4,7 +4,7 @@
 mod grant;
 mod headers;
 
-ghost use Rattle.std.specs.Prelude.{◌≡◌, ◌≤◌, length, take, IfOk};
+ghost use Rattle.std.specs.Prelude.{◌≡◌, ◌≤◌, length, take};
 ghost use Rattle.sizes.specs.Sizes.{block_octets};
 ghost use Rattle.mac_reader.specs.Reader.{reading_of, read_block};
 
@@ -66,9 +66,9 @@ fn dump(rt: &impl Print, number: u64, block: &[u8], got: usize) -> io::Result<()
 }
 
 // The next block of the input, and how many octets of it there are.
-fn read_next(input: &mut impl Read, block: &mut [u8]) -> io::Result<usize>
+fn read_next(input: &mut impl Read, block: &mut [u8]) -> usize
     requires { length block.old ≡ block_octets }
-    ensures { IfOk result (λ got. got ≤ block_octets) }
+    ensures { result ≤ block_octets }
 {
     reading::read_full(input, block)
 }
@@ -78,7 +78,7 @@ fn main(rt: HostRuntime) -> io::Result<()> {
     let mut block = [0u8; BLOCK_OCTETS];
     let mut number = 0;
     while number < u64::MAX {
-        let got = read_next(&mut input, &mut block)?;
+        let got = read_next(&mut input, &mut block);
         if got == 0 {
             return Ok(());
         }
