@@ -10,7 +10,7 @@ alone='fillbits::get_num_fill_bits
 mac_header_writer::write_header
 mac_reader::read_block'
 
-# They print and answer nothing, and no contract can say what is written: CRATE::FILE::FUNCTION.
+# They print, and no contract can say what is written: CRATE::FILE::FUNCTION.
 print_only='show::lib::end
 show::lib::number
 show::lib::octet

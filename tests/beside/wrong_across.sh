@@ -29,7 +29,7 @@ for line in open(sys.argv[1]).read().splitlines():
 END
     )
     # The crate that is edited still proves, and those between.
-    for below in $(sed -n "s/^$by[^:]*://p" crates.txt); do
+    for below in $(sed -nE "s/^$by( staticlib)?://p" crates.txt); do
         (cd "$work/crates/$below" && rt lib) > "$work/log" 2>&1 || { echo "$name: refused below $by, by $below"; status=1; continue 2; }
     done
     if (cd "$work/crates/$by" && rt check) > "$work/log" 2>&1; then
