@@ -2,7 +2,7 @@
 # No entry relies on its caller. The entries are found in the code: every function marked #[unsafe(no_mangle)], every `pub` function of
 # bs_sched, and the three on buffers of their own. None has a `requires`; each has its row in the table "Entries" of
 # docs/ARCHITECTURE.md, | `function` | `crate` | .., and the table has no other.
-# And every `pub` function has a promise (`ensures`), but for the five of `show`.
+# And every `pub` function has a promise (`ensures`), but for the six of `show`.
 set -eu
 cd "$(dirname "$0")/.."
 
@@ -15,6 +15,7 @@ print_only='show::lib::end
 show::lib::number
 show::lib::octet
 show::lib::octets
+show::lib::or_dash
 show::lib::word'
 
 work=$(mktemp -d)
@@ -82,4 +83,4 @@ for function in $(comm -13 "$work/silent" "$work/print_only"); do
     say "$function is said to print only, and is not there or has an ensures"
 done
 [ "$bad" = 0 ] || exit 1
-echo "entries: $(wc -l < "$work/entries") entries, none with a requires; every pub function has an ensures, but for the five of show"
+echo "entries: $(wc -l < "$work/entries") entries, none with a requires; every pub function has an ensures, but for the six of show"

@@ -40,7 +40,7 @@ def main():
             if not head:
                 continue
             name = path.split("/")[1] + "::" + head.group(1)
-            taken = [p.split(":")[0].replace("mut ", "").strip(" &") for p in head.group(2).split(",") if p.strip()]
+            taken = [p.split(":")[0].replace("mut ", "").replace("&", "").strip() for p in head.group(2).split(",") if p.strip()]
             for i, first in enumerate(taken):
                 for second in taken[i + 1:]:
                     pairs[first + ", " + second].add(name)

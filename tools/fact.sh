@@ -27,6 +27,8 @@ done
 awk '
     function shape_of(first) {
         if (first ~ /^note: [^ ]* it is not proved that /) return "obligation"
+        # a fact that a type carries, for which nothing was found where a value of it is made
+        if (first ~ /^note: [^ ]* `search` found no proof \(`invariant_of-/) return "obligation"
         if (first !~ /^[^ ]*:[0-9]+:[0-9]+: error: /) return ""
         if (first ~ /no occurrence of |needs a function |is not in scope|has no field |has no `|no equation of the list/) return ""
         if (first ~ /was not admitted|was rejected/) return ""
@@ -34,7 +36,8 @@ awk '
         if (first ~ /`(search|grind)`: no proof of /) return "search"
         if (first ~ /`cc`: the equations do not join|`cc` met a bound of its own before|list the missing equation with its arguments/) return "cc"
         if (first ~ /give a proof of that as |what it leaves must be a path whose two ends are equal/) return "rewritten"
-        if (first ~ /the two (types|sides) (first )?differ|computed as a goal is, one side reads |expected type `/) return "types"
+        # `rt ci` prints two hundred letters of a line: `first differ` may be cut
+        if (first ~ /the two (types|sides) (differ|first differ|firs?t? ?$|first d[if]*$)|the two types are `|computed as a goal is, one side reads |expected type `/) return "types"
         if (first ~ / ≟ .* does not hold \(this comparison/) return "compared"
         # the first of its lines is the first value, and `rt ci` prints no other
         if (first ~ /error: `[^`]*`: `borrow[.][^`]*`?$/) return "compared"

@@ -1,67 +1,59 @@
 -- The lines that are as document 01 has them, command by command. Assumes nothing.
-use mathlib.Core.Path.{◌≡◌, refl, sym, ap, ◌∙◌, subst}
-use mathlib.Core.Bool.{true, false, true≢false}
-use mathlib.Core.List.{List, ◌∷◌}
-use Prim.Native.Nat.{ℕ, zero, suc, ◌+◌, ◌-◌, ◌≤◌}
+use mathlib.Core.Path.{◌≡◌, refl, sym, ap, ◌∙◌}
+use mathlib.Core.Bool.{true, false, cond}
+use mathlib.Core.List.{List}
+use Prim.Native.Nat.{ℕ, zero, suc, ◌+◌, ◌-◌, ◌≤◌, ◌<◌}
 use native.Mathlib.Nat.{zero-add}
 use native.Mathlib.Omega.{arith}
-use lib.ListN.{length, get_or, take, drop}
-use lib.Seq.{drop-drop}
-use Rattle.lists.proofs.Lists.{rest}
-use Rattle.sched_core.specs.Questions.{memory}
-use Rattle.interpreter.specs.declared.Command.{Command}
-use Rattle.interpreter.specs.declared.Executed.{Executed}
-use Rattle.interpreter.specs.Slotrun.{Session, session, start, step, command_of, operand_count, is_whole, first_step, behind_first}
-use Rattle.interpreter.specs.Steps.{Steps}
-use Rattle.interpreter.proofs.RunLaws.{here, whole-inside, ends-inside, nothing-whole, shorter}
-use Rattle.as_document_01.specs.declared.Lines.{Lines}
-use Rattle.as_document_01.specs.Lines.{arises_at, arises_first, line_more, lines_from, lines_as_document01}
+use lib.ListN.{length, take, drop, length-drop}
+use Rattle.std.proofs.Common.{Option, Some, None}
+use Rattle.std.proofs.lemmas.Slice.{between_to_end}
+use Rattle.interpreter.specs.declared.command.Command.{Command}
+use Rattle.interpreter.specs.declared.session.Session.{Session}
+use Rattle.interpreter.specs.Slotrun.{Step, memory_of, start, step, stepped, operand_count, first_command, is_found, step_found, behind_found}
+use Rattle.interpreter.proofs.RunLaws.{found}
+use Rattle.as_document_01.specs.Lines.{arises_at, arises_found, line_more, lines_from, lines_as_document01}
 
 -- n lines more
-abbrev more : ℕ → Lines → Lines
-more n Lines.All = Lines.All
-more n (Lines.Before k) = Lines.Before (n + k)
+abbrev more : ℕ → Option ℕ → Option ℕ
+more n None = None
+more n (Some k) = Some (n + k)
 
-more-none : (x : Lines) → more 0 x ≡ x
-more-none Lines.All = refl
-more-none (Lines.Before k) = ap Lines.Before (zero-add k)
+more-none : (x : Option ℕ) → more 0 x ≡ x
+more-none None = refl
+more-none (Some k) = ap Some (zero-add k)
 
-more-line : (n : ℕ) (x : Lines) → more n (line_more x) ≡ more (n + 1) x
-more-line n Lines.All = refl
-more-line n (Lines.Before k) = let e : n + suc k ≡ n + 1 + k = omega arith in ap Lines.Before e
+more-line : (n : ℕ) (x : Option ℕ) → more n (line_more x) ≡ more (n + 1) x
+more-line n None = refl
+more-line n (Some k) = let e : n + suc k ≡ n + 1 + k = omega arith in ap Some e
 
 -- ---- the first command
 
-lines_end : (n : ℕ) (s : Session) (l : List ℕ) → is_whole l ≡ false → lines_from n s l ≡ Lines.All
-unfolding lines_from
-lines_end zero s l w = refl
-lines_end (suc n) s l w = rw w
+-- the lines by the first command that is found
+turned : ℕ → Session → Option (Command × List ℕ) → Option ℕ
+turned n s f = cond (is_found f) (cond (arises_found s f) (Some 0) (line_more (lines_from n (step_found s f).session (behind_found f)))) None
 
--- a whole command has an octet, so there is a command more to count
-some : (n : ℕ) (l : List ℕ) → length l ≤ n → is_whole l ≡ true → suc (n - 1) ≡ n
-some zero l h w = absurd (true≢false (sym w ∙ nothing-whole l h))
-some (suc n) l h w = omega arith
+lines_end : (n : ℕ) (s : Session) (l : List ℕ) → first_command l ≡ None → lines_from n s l ≡ None
+unfolding lines_from turned
+lines_end zero s l h = refl
+lines_end (suc n) s l h = ap (turned n s) h
 
-lines-found : (n : ℕ) (s : Session) (l : List ℕ) → is_whole l ≡ true → arises_first s l ≡ true → lines_from (suc n) s l ≡ Lines.Before 0
-unfolding lines_from
-lines-found n s l w a = rw (w, a)
-
-lines_next : (n : ℕ) (s : Session) (l : List ℕ) → is_whole l ≡ true → arises_first s l ≡ false
-    → lines_from (suc n) s l ≡ line_more (lines_from n (first_step s l).session (behind_first l))
-unfolding lines_from
-lines_next n s l w a = rw (w, a)
+lines_first : (n : ℕ) (s : Session) (l : List ℕ) (x : Command × List ℕ) → first_command l ≡ Some x
+    → lines_from (suc n) s l
+    ≡ cond (arises_at x.0 (memory_of s)) (Some 0) (line_more (lines_from n (step s x.0 x.1).session (drop (operand_count x.0) x.1)))
+unfolding lines_from turned
+lines_first n s l x h = ap (turned n s) h
 
 -- ---- the loop
 
--- before the command at `taken`, with the session s: `count` lines, and those that the rest of the input gives
-pub record Running (input : List ℕ) (s : Session) (taken count : ℕ) : Type 0 where
+-- before the commands of `rest`, with the session s: `count` lines, and those that the rest gives
+pub record Running (input : List ℕ) (s : Session) (rest : List ℕ) (count : ℕ) : Type 0 where
   pub most : ℕ
-  pub enough : length (drop taken input) ≤ most
-  pub lines : lines_as_document01 input ≡ more count (lines_from most s (drop taken input))
-  pub few : count ≤ taken
-  pub inside : taken ≤ length input
+  pub enough : length rest ≤ most
+  pub lines : lines_as_document01 input ≡ more count (lines_from most s rest)
+  pub few : count + length rest ≤ length input
 
-pub running-start : (input : List ℕ) (s : Session) → s ≡ start → Running input s 0 0
+pub running-start : (input : List ℕ) (s : Session) → s ≡ start → Running input s input 0
 unfolding lines_as_document01
 running-start input s e =
     record {
@@ -69,51 +61,47 @@ running-start input s e =
       enough = omega arith;
       lines = ap (λ (x : Session). lines_from (length input) x input) (sym e) ∙ sym (more-none _);
       few = omega arith;
-      inside = omega arith;
     }
 
-pub running-end : (input : List ℕ) (s : Session) (taken count : ℕ) → Running input s taken count → is_whole (drop taken input) ≡ false
-    → Lines.All ≡ lines_as_document01 input
-running-end input s taken count k w = sym (k.lines ∙ ap (more count) (lines_end k.most s (drop taken input) w))
+module _ {input : List ℕ} {s : Session} {rest : List ℕ} {count : ℕ} (k : Running input s rest count) where
+  pub running-end : first_command rest ≡ None → None ≡ lines_as_document01 input
+  running-end h = sym (k.lines ∙ ap (more count) (lines_end k.most s rest h))
 
-module _ (input : List ℕ) (s : Session) (taken count : ℕ) (k : Running input s taken count) (whole : is_whole (drop taken input) ≡ true)
-    (command : Command) (e : command ≡ command_of (get_or input taken 0)) where
-  at : drop taken input ≡ get_or input taken 0 ∷ drop (taken + 1) input
-  at = here input taken (whole-inside input taken whole)
+  module _ (x : Command × List ℕ) (h : first_command rest ≡ Some x) where
+    abbrev m : ℕ
+    m = operand_count x.0
 
-  one : suc (k.most - 1) ≡ k.most
-  one = some k.most (drop taken input) k.enough whole
+    size : length rest ≡ suc (length x.1)
+    size = ap length (found rest x h).whole
 
-  first-is : arises_first s (drop taken input) ≡ arises_at command s.memory
-  first-is = ap (λ (l : List ℕ). arises_first s l) at ∙ ap (λ (d : Command). arises_at d s.memory) (sym e)
+    pub one-more : count < length input
+    one-more = omega (arith, size, k.few)
 
-  lines-is : lines_as_document01 input ≡ more count (lines_from (suc (k.most - 1)) s (drop taken input))
-  lines-is = k.lines ∙ ap (λ (n : ℕ). more count (lines_from n s (drop taken input))) (sym one)
+    one : suc (k.most - 1) ≡ k.most
+    one = omega (arith, size, k.enough)
 
-  pub running-found : arises_at command s.memory ≡ true → Lines.Before count ≡ lines_as_document01 input
-  running-found a =
-      let z : count + 0 ≡ count = omega arith in
-      sym (lines-is ∙ ap (more count) (lines-found (k.most - 1) s (drop taken input) whole (first-is ∙ a)) ∙ ap Lines.Before z)
+    lines-is : lines_as_document01 input
+        ≡ more count (cond (arises_at x.0 (memory_of s)) (Some 0) (line_more (lines_from (k.most - 1) (step s x.0 x.1).session (drop m x.1))))
+    lines-is = k.lines ∙ ap (λ (n : ℕ). more count (lines_from n s rest)) (sym one) ∙ ap (more count) (lines_first (k.most - 1) s rest x h)
 
-  pub running-next : (m : ℕ) (r : Executed) (store stage out out' : List ℕ) → arises_at command s.memory ≡ false → m ≡ operand_count command
-      → Steps (step s command (take (length input - (taken + 1)) (drop (taken + 1) input))) r store stage out out'
-      → Running input (session (memory r.station r.queue store) stage) (taken + 1 + m) (count + 1)
-  running-next m r store stage out out' a num h =
-      let ops : List ℕ = drop (taken + 1) input in
-      let s' : Session = session (memory r.station r.queue store) stage in
-      let after : (first_step s (drop taken input)).session ≡ s' =
-      ap (λ (l : List ℕ). (first_step s l).session) at ∙ ap (λ (d : Command). (step s d ops).session) (sym e)
-      ∙ ap (λ (l : List ℕ). (step s command l).session) (sym (rest input (taken + 1))) ∙ sym h.session-after in
-      let behind : behind_first (drop taken input) ≡ drop (taken + 1 + m) input =
-      ap behind_first at ∙ ap (λ (n : ℕ). drop n ops) (sym (num ∙ ap operand_count e)) ∙ drop-drop m (taken + 1) input in
-      record {
-        most = k.most - 1;
-        enough = subst (λ (l : List ℕ). length l ≤ k.most - 1) behind (shorter (drop taken input) (k.most - 1) (omega (arith, one, k.enough)));
-        lines =
-            lines-is ∙ ap (more count) (lines_next (k.most - 1) s (drop taken input) whole (first-is ∙ a))
-            ∙ more-line count (lines_from (k.most - 1) (first_step s (drop taken input)).session (behind_first (drop taken input)))
-            ∙ ap (λ (x : Session). more (count + 1) (lines_from (k.most - 1) x (behind_first (drop taken input)))) after
-            ∙ ap (λ (l : List ℕ). more (count + 1) (lines_from (k.most - 1) s' l)) behind;
-        few = omega (arith, k.few);
-        inside = ends-inside input taken m command whole e num;
-      }
+    pub running-found : arises_at x.0 (memory_of s) ≡ true → Some count ≡ lines_as_document01 input
+    running-found a = let z : count + 0 ≡ count = omega arith in sym (lines-is ∙ rw a (ap Some z))
+
+    -- as the code takes what is behind the operands
+    behind-operands : (i : ℕ) → i ≡ m → take (length x.1 - i) (drop i x.1) ≡ drop m x.1
+    behind-operands i e = rw e (between_to_end x.1 m (length x.1) (omega arith))
+
+    pub shorter-rest : (i : ℕ) → i ≡ m → length (take (length x.1 - i) (drop i x.1)) < length rest
+    shorter-rest i e = rw (behind-operands i e) (omega (arith, size, length-drop m x.1))
+
+    pub running-next : (s' : Session) (line : List ℕ) (i : ℕ) → arises_at x.0 (memory_of s) ≡ false → stepped s' line ≡ step s x.0 x.1 → i ≡ m
+        → Running input s' (take (length x.1 - i) (drop i x.1)) (count + 1)
+    running-next s' line i a e many =
+        rw (behind-operands i many) (record {
+          most = k.most - 1;
+          enough = omega (arith, size, k.enough, length-drop m x.1);
+          lines =
+              lines-is ∙ rw a (more-line count (lines_from (k.most - 1) (step s x.0 x.1).session (drop m x.1)))
+              ∙ ap (λ (y : Step). more (count + 1) (lines_from (k.most - 1) y.session (drop m x.1))) (sym e);
+          few = omega (arith, size, k.few, length-drop m x.1);
+        })

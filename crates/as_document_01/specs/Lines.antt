@@ -1,13 +1,13 @@
 -- Document 02, W-201: "Blocks are compared with the Rust on queues where this never arises". How many lines of `slotrun` are as document 01 has them.
 -- Assumes nothing.
-use Rattle.std.specs.Prelude.{Bool, false, ◌&&◌, cond, List, [], ◌∷◌, ℕ, zero, suc, ◌*◌, length, get_or, drop}
+use Rattle.std.specs.Prelude.{Bool, false, ◌&&◌, cond, List, ℕ, zero, suc, ◌*◌, length, get_or, drop, Option, Some, None}
 use Rattle.sizes.specs.Sizes.{per_timeslot, cell_octets, block_width}
 use Rattle.dl_build.specs.Document01.{arises_in}
 use Rattle.sched_core.specs.Questions.{Memory, sound_station}
 use Rattle.sched_core.specs.Calls.{current, builds_now}
-use Rattle.interpreter.specs.declared.Command.{Command}
-use Rattle.interpreter.specs.Slotrun.{Session, start, command_of, is_whole, first_step, behind_first}
-use Rattle.as_document_01.specs.declared.Lines.{Lines}
+use Rattle.interpreter.specs.declared.command.Command.{Command}
+use Rattle.interpreter.specs.declared.session.Session.{Session}
+use Rattle.interpreter.specs.Slotrun.{memory_of, start, first_command, is_whole, first_step, behind_first}
 
 -- whether it arises in the block of the current timeslot
 unfoldable pub arises_here : Memory → Bool
@@ -27,24 +27,26 @@ arises_at Command.Request m = false
 arises_at Command.Stage m = false
 arises_at Command.Queue m = false
 arises_at Command.Build m = arises_now m
-arises_at Command.Unknown m = false
 
 -- in the first command of the octets
+abbrev pub arises_found : Session → Option (Command × List ℕ) → Bool
+arises_found s None = false
+arises_found s (Some x) = arises_at x.0 (memory_of s)
+
 abbrev pub arises_first : Session → List ℕ → Bool
-arises_first s [] = false
-arises_first s (c ∷ ops) = arises_at (command_of c) s.memory
+arises_first s input = arises_found s (first_command input)
 
--- a line more
-abbrev pub line_more : Lines → Lines
-line_more Lines.All = Lines.All
-line_more (Lines.Before n) = Lines.Before (suc n)
+-- a line more before the first in which it arises, if it arises
+abbrev pub line_more : Option ℕ → Option ℕ
+line_more None = None
+line_more (Some n) = Some (suc n)
 
--- the commands at the front of the octets, up to n of them: a line for each before the first in which it arises
-unfoldable pub lines_from : ℕ → Session → List ℕ → Lines
-lines_from zero s input = Lines.All
+-- the commands at the front of the octets, up to n of them: a line for each before the first in which it arises; none where it arises nowhere
+unfoldable pub lines_from : ℕ → Session → List ℕ → Option ℕ
+lines_from zero s input = None
 lines_from (suc n) s input =
-    cond (is_whole input) (cond (arises_first s input) (Lines.Before 0) (line_more (lines_from n (first_step s input).session (behind_first input)))) Lines.All
+    cond (is_whole input) (cond (arises_first s input) (Some 0) (line_more (lines_from n (first_step s input).session (behind_first input)))) None
 
 -- of a whole input: each command is an octet at least
-unfoldable pub lines_as_document01 : List ℕ → Lines
+unfoldable pub lines_as_document01 : List ℕ → Option ℕ
 lines_as_document01 input = lines_from (length input) start input

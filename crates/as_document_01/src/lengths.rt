@@ -7,6 +7,7 @@ ghost use Rattle.dl_send.specs.Document01.{arises};
 ghost use Rattle.as_document_01.specs.Lengths.{LengthsOf};
 
 use dl_record::Record;
+use dl_send::Order;
 use sizes::PER_TIMESLOT;
 
 // What a turn comes to: the room behind it, whether it wrote a PDU, and whether that starts fragments.
@@ -31,14 +32,7 @@ fn first_lengths(r: Record, room: usize) -> TurnLengths
             starts: false,
         };
     }
-    if room < 32 {
-        return TurnLengths {
-            room,
-            wrote: false,
-            starts: false,
-        };
-    }
-    if room < h {
+    if room < 32 || room < h {
         return TurnLengths {
             room,
             wrote: false,
@@ -52,23 +46,12 @@ fn first_lengths(r: Record, room: usize) -> TurnLengths
     }
 }
 
-// The SDU bits that are not sent yet.
-fn bits_left(r: Record) -> usize
-    ensures { (result ≡ r.bits - r.sent) × (result < 65536) }
-{
-    let bits = r.bits as usize;
-    let sent = r.sent as usize;
-    if bits < sent {
-        return 0;
-    }
-    bits - sent
-}
-
 // A later PDU: MAC-END, MAC-FRAG, or none.
 fn later_lengths(r: Record, room: usize) -> TurnLengths
     ensures { (sdu : List ℕ) → LengthsOf (continue room r sdu) result }
 {
-    let size = (13 + bits_left(r) + 7) / 8 * 8;
+    let left = r.bits.saturating_sub(r.sent) as usize;
+    let size = (13 + left).div_ceil(8) * 8;
     if size <= room {
         return TurnLengths {
             room: room - size,
@@ -94,37 +77,27 @@ fn later_lengths(r: Record, room: usize) -> TurnLengths
 fn turn_lengths(r: Record, room: usize) -> TurnLengths
     ensures { (sdu : List ℕ) → LengthsOf (next true room r sdu) result }
 {
-    let kind = r.kind;
-    if bs_frag_chunk::is_started(kind) {
-        return later_lengths(r, room);
+    if r.kind.is_started() {
+        later_lengths(r, room)
+    } else {
+        first_lengths(r, room)
     }
-    first_lengths(r, room)
 }
 
-// Does document 01's sending of `n` of the records, those at the places of `order`, in a block of `w` bits start fragments behind a record that
-// wrote nothing?
-pub(crate) fn starts_behind(
-    records: [Record; PER_TIMESLOT],
-    order: [u8; PER_TIMESLOT],
-    n: usize,
-    w: usize,
-) -> bool
-    requires { (n ≤ per_timeslot) × ((i : ℕ) → i < n → get_or order i 0 < per_timeslot) }
-    ensures { (sdu : ℕ → ℕ → List ℕ) (from : List ℕ) → result ≡ arises sdu w (listed n (records_at order records) from) }
+// Does document 01's sending of the records at the places of `order`, in a block of `w` bits, start fragments behind a record that wrote nothing?
+pub(crate) fn starts_behind(records: &[Record; PER_TIMESLOT], order: Order, w: usize) -> bool
+    requires { (order.count ≤ per_timeslot) × ((i : ℕ) → i < order.count → get_or order.at i 0 < per_timeslot) }
+    ensures { (sdu : ℕ → ℕ → List ℕ) (from : List ℕ) → result ≡ arises sdu w (listed order.count (records_at order.at records.now) from) }
 {
     let mut room = w;
     let mut may = true;
-    let mut i = 0;
-    while i < n {
-        let o = order[i] as usize;
-        let r = records[o];
-        let x = turn_lengths(r, room);
+    for &place in &order.at[..order.count] {
+        let x = turn_lengths(records[place as usize], room);
         if !may & x.starts {
             return true;
         }
-        may = may & x.wrote;
+        may &= x.wrote;
         room = x.room;
-        i += 1;
     }
     false
 }

@@ -1,5 +1,5 @@
 -- Laws of basic slot grants: code and case, octet and grant are inverse. Assumes nothing.
-use mathlib.Core.Path.{◌≡◌, refl, ap, ◌∙◌}
+use mathlib.Core.Path.{◌≡◌, refl, ◌∙◌}
 use Prim.Native.Nat.{ℕ, zero, suc, ◌/◌, ◌%◌, ◌≤◌, ◌<◌, min, max}
 use native.Mathlib.Nat.{not-suc-le-zero}
 use native.Mathlib.Omega.{arith}
@@ -9,9 +9,8 @@ use borrow.Author.Tests.{le-leb, lt-leb, ne_eqb}
 use Rattle.sizes.specs.Sizes.{latest_delay}
 use Rattle.slot_codes.specs.Codes.{grant_octet}
 use Rattle.slot_codes.proofs.TableLaws.{past-the-last, agree-below}
-use Rattle.slot_codes.proofs.CodesLaws.{numbers-read, capacity-in-octet, delay-in-octet, octet-of-its-halves}
+use Rattle.slot_codes.proofs.CodesLaws.{code-read-back, capacity-in-octet, delay-in-octet, octet-of-its-halves}
 use Rattle.basic_slotgrant.specs.declared.basic_slotgrant_cap_alloc.BasicSlotgrantCapAlloc.{BasicSlotgrantCapAlloc}
-use Rattle.basic_slotgrant.specs.declared.basic_slotgrant_cap_alloc.CapAllocRead as capacity
 use Rattle.basic_slotgrant.specs.declared.basic_slotgrant_granting_delay.BasicSlotgrantGrantingDelay.{BasicSlotgrantGrantingDelay}
 use Rattle.basic_slotgrant.specs.declared.basic_slotgrant_granting_delay.BasicSlotgrantGrantingDelay.TheVariants.{
   CapAllocAtNextOpportunity,
@@ -19,7 +18,7 @@ use Rattle.basic_slotgrant.specs.declared.basic_slotgrant_granting_delay.BasicSl
   AllocStartsAtOpportunityInFr18,
   WaitForAnotherSlotgrantMessage,
 }
-use Rattle.basic_slotgrant.specs.declared.basic_slotgrant_granting_delay.GrantingDelayRead as delay
+use Rattle.std.proofs.Common.{Ok}
 use Rattle.basic_slotgrant.specs.declared.BasicSlotgrant.{BasicSlotgrant}
 use Rattle.basic_slotgrant.specs.Slotgrant.{capacities, capacity_at, delay_at, capacity_code, delay_code, capacity_read, delay_read, octet_of, grant_of, grant_at}
 
@@ -43,12 +42,6 @@ delay-to-wait-for code h =
     simp (ne_eqb code 0 (λ e. omega arith), lt-leb code latest_delay (omega arith), ne_eqb code 14 (λ e. omega arith))
 
 -- N is coded as the nearest of 1 to 13
-pub nearest-from-below : (n : ℕ) → n ≤ 1 → max 1 (min n latest_delay) ≡ 1
-nearest-from-below n h = omega arith
-
-pub nearest-from-above : (n : ℕ) → latest_delay ≤ n → max 1 (min n latest_delay) ≡ latest_delay
-nearest-from-above n h = omega arith
-
 pub nearest-within : (n : ℕ) → 1 ≤ n → n ≤ latest_delay → max 1 (min n latest_delay) ≡ n
 nearest-within n p h = omega arith
 
@@ -96,15 +89,11 @@ capacity-code-of-read = agree-below (λ k. capacity_code (capacity_at k)) (λ k.
 pub delay-code-of-read : (code : ℕ) → code < 16 → delay_code (delay_at code) ≡ code
 delay-code-of-read = agree-below (λ k. delay_code (delay_at k)) (λ k. k) 16 refl
 
-pub capacity-read-back : (c : BasicSlotgrantCapAlloc) → capacity_read (capacity_code c) ≡ capacity.TheVariants.Of c
-capacity-read-back c =
-    numbers-read capacity.TheVariants.Of capacity.TheVariants.Unknown capacity_at (capacity_code c) (capacity-code-below-16 c)
-    ∙ ap capacity.TheVariants.Of (capacity-of-its-code c)
+pub capacity-read-back : (c : BasicSlotgrantCapAlloc) → capacity_read (capacity_code c) ≡ Ok c
+capacity-read-back c = code-read-back capacity_at capacity_code c (capacity-code-below-16 c) (capacity-of-its-code c)
 
-pub delay-read-back : {d : BasicSlotgrantGrantingDelay} → Plain d → delay_read (delay_code d) ≡ delay.TheVariants.Of d
-delay-read-back {d} p =
-    numbers-read delay.TheVariants.Of delay.TheVariants.Unknown delay_at (delay_code d) (delay-code-below-16 d)
-    ∙ ap delay.TheVariants.Of (delay-of-its-code p)
+pub delay-read-back : {d : BasicSlotgrantGrantingDelay} → Plain d → delay_read (delay_code d) ≡ Ok d
+delay-read-back {d} p = code-read-back delay_at delay_code d (delay-code-below-16 d) (delay-of-its-code p)
 
 -- the octet of the grant of two codes holds them
 pub octet-of-codes : (c d : ℕ) → c < 16 → d < 16 → octet_of (grant_of c d) ≡ grant_octet c d

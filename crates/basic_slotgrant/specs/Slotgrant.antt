@@ -1,7 +1,8 @@
 -- Document 01, "Request and grant": capacities, delays and grants with their codes. EN 300 392-2, clause 21.5.6. Assumes nothing.
-use Rattle.std.specs.Prelude.{cond, List, [], ◌∷◌, ℕ, min, max, eqb, leb, get_or}
+use Rattle.std.specs.Prelude.{cond, List, [], ◌∷◌, ℕ, min, max, eqb, leb, get_or, Result}
 use Rattle.sizes.specs.Sizes.{latest_delay}
-use Rattle.slot_codes.specs.Codes.{grant_octet, capacity_of, delay_of}
+use Rattle.slot_codes.specs.Codes.{code_read, grant_octet, capacity_of, delay_of}
+use Rattle.slot_codes.specs.declared.UnknownCode.{UnknownCode}
 use Rattle.basic_slotgrant.specs.declared.basic_slotgrant_cap_alloc.BasicSlotgrantCapAlloc.{BasicSlotgrantCapAlloc}
 use Rattle.basic_slotgrant.specs.declared.basic_slotgrant_cap_alloc.BasicSlotgrantCapAlloc.TheVariants.{
   FirstSubslotGranted,
@@ -21,7 +22,6 @@ use Rattle.basic_slotgrant.specs.declared.basic_slotgrant_cap_alloc.BasicSlotgra
   Grant68Slots,
   SecondSubslotGranted,
 }
-use Rattle.basic_slotgrant.specs.declared.basic_slotgrant_cap_alloc.CapAllocRead as capacity
 use Rattle.basic_slotgrant.specs.declared.basic_slotgrant_granting_delay.BasicSlotgrantGrantingDelay.{BasicSlotgrantGrantingDelay}
 use Rattle.basic_slotgrant.specs.declared.basic_slotgrant_granting_delay.BasicSlotgrantGrantingDelay.TheVariants.{
   CapAllocAtNextOpportunity,
@@ -29,7 +29,6 @@ use Rattle.basic_slotgrant.specs.declared.basic_slotgrant_granting_delay.BasicSl
   AllocStartsAtOpportunityInFr18,
   WaitForAnotherSlotgrantMessage,
 }
-use Rattle.basic_slotgrant.specs.declared.basic_slotgrant_granting_delay.GrantingDelayRead as delay
 use Rattle.basic_slotgrant.specs.declared.BasicSlotgrant.{BasicSlotgrant}
 
 -- "Capacity 0 is the first half, 15 the second, 1–14 the slot counts above"; clause 21.5.6
@@ -88,11 +87,11 @@ delay_at code =
     (cond (leb code latest_delay) (DelayNOpportunities code)
     (cond (eqb code 14) AllocStartsAtOpportunityInFr18 WaitForAnotherSlotgrantMessage))
 
-abbrev pub capacity_read : ℕ → capacity.CapAllocRead
-capacity_read x = cond (leb x 15) (capacity.TheVariants.Of (capacity_at x)) capacity.TheVariants.Unknown
+abbrev pub capacity_read : ℕ → Result BasicSlotgrantCapAlloc UnknownCode
+capacity_read = code_read capacity_at
 
-abbrev pub delay_read : ℕ → delay.GrantingDelayRead
-delay_read x = cond (leb x 15) (delay.TheVariants.Of (delay_at x)) delay.TheVariants.Unknown
+abbrev pub delay_read : ℕ → Result BasicSlotgrantGrantingDelay UnknownCode
+delay_read = code_read delay_at
 
 -- "Grant octet: four bits capacity, four bits delay.": the octet of a grant, the grant of two codes, and that of an octet
 abbrev pub octet_of : BasicSlotgrant → ℕ

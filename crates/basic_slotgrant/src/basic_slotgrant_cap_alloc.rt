@@ -3,6 +3,8 @@ ghost use Rattle.std.specs.Prelude.{◌≡◌, false, ◌<◌};
 ghost use Rattle.slot_codes.specs.Codes.{slots_granted, capacity_for, code_for};
 ghost use Rattle.basic_slotgrant.specs.Slotgrant.{capacity_code, capacity_at, capacity_read};
 
+use slot_codes::UnknownCode;
+
 #[derive(Clone, Copy)]
 pub enum BasicSlotgrantCapAlloc {
     FirstSubslotGranted,
@@ -23,11 +25,46 @@ pub enum BasicSlotgrantCapAlloc {
     SecondSubslotGranted,
 }
 
-// What a number is read as.
-#[derive(Clone, Copy)]
-pub enum CapAllocRead {
-    Of(BasicSlotgrantCapAlloc),
-    Unknown,
+// The capacities in the order of their codes.
+const CAPACITIES: [BasicSlotgrantCapAlloc; 16] = [
+    BasicSlotgrantCapAlloc::FirstSubslotGranted,
+    BasicSlotgrantCapAlloc::Grant1Slot,
+    BasicSlotgrantCapAlloc::Grant2Slots,
+    BasicSlotgrantCapAlloc::Grant3Slots,
+    BasicSlotgrantCapAlloc::Grant4Slots,
+    BasicSlotgrantCapAlloc::Grant5Slots,
+    BasicSlotgrantCapAlloc::Grant6Slots,
+    BasicSlotgrantCapAlloc::Grant8Slots,
+    BasicSlotgrantCapAlloc::Grant10Slots,
+    BasicSlotgrantCapAlloc::Grant13Slots,
+    BasicSlotgrantCapAlloc::Grant17Slots,
+    BasicSlotgrantCapAlloc::Grant24Slots,
+    BasicSlotgrantCapAlloc::Grant34Slots,
+    BasicSlotgrantCapAlloc::Grant51Slots,
+    BasicSlotgrantCapAlloc::Grant68Slots,
+    BasicSlotgrantCapAlloc::SecondSubslotGranted,
+];
+
+impl TryFrom<u8> for BasicSlotgrantCapAlloc {
+    type Error = UnknownCode;
+
+    ghost try_from_gives = { λ code r. r ≡ capacity_read code };
+
+    fn try_from(code: u8) -> Result<Self, UnknownCode> {
+        CAPACITIES
+            .get(code as usize)
+            .copied()
+            .ok_or(UnknownCode(code))
+    }
+}
+
+// The code of a capacity.
+impl From<BasicSlotgrantCapAlloc> for u8 {
+    ghost from_gives = { λ c code. (code ≡ capacity_code c) × (code < 16) };
+
+    fn from(c: BasicSlotgrantCapAlloc) -> u8 {
+        c as u8
+    }
 }
 
 impl BasicSlotgrantCapAlloc {
@@ -35,65 +72,17 @@ impl BasicSlotgrantCapAlloc {
     pub fn of_code(code: u8) -> Self
         ensures { result ≡ capacity_at code }
     {
-        match code {
-            0 => BasicSlotgrantCapAlloc::FirstSubslotGranted,
-            1 => BasicSlotgrantCapAlloc::Grant1Slot,
-            2 => BasicSlotgrantCapAlloc::Grant2Slots,
-            3 => BasicSlotgrantCapAlloc::Grant3Slots,
-            4 => BasicSlotgrantCapAlloc::Grant4Slots,
-            5 => BasicSlotgrantCapAlloc::Grant5Slots,
-            6 => BasicSlotgrantCapAlloc::Grant6Slots,
-            7 => BasicSlotgrantCapAlloc::Grant8Slots,
-            8 => BasicSlotgrantCapAlloc::Grant10Slots,
-            9 => BasicSlotgrantCapAlloc::Grant13Slots,
-            10 => BasicSlotgrantCapAlloc::Grant17Slots,
-            11 => BasicSlotgrantCapAlloc::Grant24Slots,
-            12 => BasicSlotgrantCapAlloc::Grant34Slots,
-            13 => BasicSlotgrantCapAlloc::Grant51Slots,
-            14 => BasicSlotgrantCapAlloc::Grant68Slots,
-            _ => BasicSlotgrantCapAlloc::SecondSubslotGranted,
-        }
-    }
-
-    // The case of a code, or that there is none.
-    pub fn try_from(x: u8) -> CapAllocRead
-        ensures { result ≡ capacity_read x }
-    {
-        if x <= 15 {
-            return CapAllocRead::Of(BasicSlotgrantCapAlloc::of_code(x));
-        }
-        CapAllocRead::Unknown
-    }
-
-    // The code of a case.
-    pub fn into_raw(self) -> u8
-        ensures { (result ≡ capacity_code self) × (result < 16) }
-    {
-        match self {
-            BasicSlotgrantCapAlloc::FirstSubslotGranted => 0,
-            BasicSlotgrantCapAlloc::Grant1Slot => 1,
-            BasicSlotgrantCapAlloc::Grant2Slots => 2,
-            BasicSlotgrantCapAlloc::Grant3Slots => 3,
-            BasicSlotgrantCapAlloc::Grant4Slots => 4,
-            BasicSlotgrantCapAlloc::Grant5Slots => 5,
-            BasicSlotgrantCapAlloc::Grant6Slots => 6,
-            BasicSlotgrantCapAlloc::Grant8Slots => 7,
-            BasicSlotgrantCapAlloc::Grant10Slots => 8,
-            BasicSlotgrantCapAlloc::Grant13Slots => 9,
-            BasicSlotgrantCapAlloc::Grant17Slots => 10,
-            BasicSlotgrantCapAlloc::Grant24Slots => 11,
-            BasicSlotgrantCapAlloc::Grant34Slots => 12,
-            BasicSlotgrantCapAlloc::Grant51Slots => 13,
-            BasicSlotgrantCapAlloc::Grant68Slots => 14,
-            BasicSlotgrantCapAlloc::SecondSubslotGranted => 15,
-        }
+        CAPACITIES
+            .get(code as usize)
+            .copied()
+            .unwrap_or(BasicSlotgrantCapAlloc::SecondSubslotGranted)
     }
 
     // The slots that are granted; half a slot counts as one.
     pub fn to_req_slotcount(self) -> usize
         ensures { result ≡ slots_granted (capacity_code self) }
     {
-        slot_codes::slots_granted(self.into_raw())
+        slot_codes::slots_granted(self.into())
     }
 
     // The least capacity that holds `req` slots; 0 stands for the first half of one, and over 68 counts as 68.

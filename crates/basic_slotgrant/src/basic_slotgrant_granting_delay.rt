@@ -2,6 +2,8 @@
 ghost use Rattle.std.specs.Prelude.{◌≡◌, ◌<◌};
 ghost use Rattle.basic_slotgrant.specs.Slotgrant.{delay_code, delay_at, delay_read};
 
+use slot_codes::UnknownCode;
+
 #[derive(Clone, Copy)]
 pub enum BasicSlotgrantGrantingDelay {
     CapAllocAtNextOpportunity,
@@ -11,11 +13,31 @@ pub enum BasicSlotgrantGrantingDelay {
     WaitForAnotherSlotgrantMessage,
 }
 
-// What a number is read as.
-#[derive(Clone, Copy)]
-pub enum GrantingDelayRead {
-    Of(BasicSlotgrantGrantingDelay),
-    Unknown,
+impl TryFrom<u8> for BasicSlotgrantGrantingDelay {
+    type Error = UnknownCode;
+
+    ghost try_from_gives = { λ code r. r ≡ delay_read code };
+
+    fn try_from(code: u8) -> Result<Self, UnknownCode> {
+        if code > 15 {
+            return Err(UnknownCode(code));
+        }
+        Ok(BasicSlotgrantGrantingDelay::of_code(code))
+    }
+}
+
+// The code of a delay; one of N is coded as the nearest of 1 to 13.
+impl From<BasicSlotgrantGrantingDelay> for u8 {
+    ghost from_gives = { λ d code. (code ≡ delay_code d) × (code < 16) };
+
+    fn from(d: BasicSlotgrantGrantingDelay) -> u8 {
+        match d {
+            BasicSlotgrantGrantingDelay::CapAllocAtNextOpportunity => 0,
+            BasicSlotgrantGrantingDelay::DelayNOpportunities(n) => n.clamp(1, 13),
+            BasicSlotgrantGrantingDelay::AllocStartsAtOpportunityInFr18 => 14,
+            BasicSlotgrantGrantingDelay::WaitForAnotherSlotgrantMessage => 15,
+        }
+    }
 }
 
 impl BasicSlotgrantGrantingDelay {
@@ -28,36 +50,6 @@ impl BasicSlotgrantGrantingDelay {
             1..=13 => BasicSlotgrantGrantingDelay::DelayNOpportunities(code),
             14 => BasicSlotgrantGrantingDelay::AllocStartsAtOpportunityInFr18,
             _ => BasicSlotgrantGrantingDelay::WaitForAnotherSlotgrantMessage,
-        }
-    }
-
-    // The case of a code, or that there is none.
-    pub fn try_from(x: u8) -> GrantingDelayRead
-        ensures { result ≡ delay_read x }
-    {
-        if x <= 15 {
-            return GrantingDelayRead::Of(BasicSlotgrantGrantingDelay::of_code(x));
-        }
-        GrantingDelayRead::Unknown
-    }
-
-    // The code of a case; a delay of N is coded as the nearest of 1 to 13.
-    pub fn into_raw(self) -> u8
-        ensures { (result ≡ delay_code self) × (result < 16) }
-    {
-        match self {
-            BasicSlotgrantGrantingDelay::CapAllocAtNextOpportunity => 0,
-            BasicSlotgrantGrantingDelay::DelayNOpportunities(n) => {
-                if n < 1 {
-                    return 1;
-                }
-                if 13 < n {
-                    return 13;
-                }
-                n
-            }
-            BasicSlotgrantGrantingDelay::AllocStartsAtOpportunityInFr18 => 14,
-            BasicSlotgrantGrantingDelay::WaitForAnotherSlotgrantMessage => 15,
         }
     }
 }

@@ -21,27 +21,27 @@ impl BasicSlotgrant {
     pub fn of_codes(capacity: u8, delay: u8) -> Self
         ensures { result ≡ grant_of capacity delay }
     {
-        let capacity_allocation = BasicSlotgrantCapAlloc::of_code(capacity);
-        let granting_delay = BasicSlotgrantGrantingDelay::of_code(delay);
         BasicSlotgrant {
-            capacity_allocation,
-            granting_delay,
+            capacity_allocation: BasicSlotgrantCapAlloc::of_code(capacity),
+            granting_delay: BasicSlotgrantGrantingDelay::of_code(delay),
         }
     }
+}
 
-    // The grant that an octet stands for: capacity above, delay below.
-    pub fn from_octet(octet: u8) -> Self
-        ensures { result ≡ grant_at octet }
-    {
+// The grant that an octet stands for: capacity above, delay below.
+impl From<u8> for BasicSlotgrant {
+    ghost from_gives = { λ octet grant. grant ≡ grant_at octet };
+
+    fn from(octet: u8) -> Self {
         BasicSlotgrant::of_codes(octet / 16, octet % 16)
     }
+}
 
-    // The octet of a grant.
-    pub fn to_octet(self) -> u8
-        ensures { result ≡ octet_of self }
-    {
-        let capacity_allocation = self.capacity_allocation;
-        let granting_delay = self.granting_delay;
-        capacity_allocation.into_raw() * 16 + granting_delay.into_raw()
+// The octet of a grant.
+impl From<BasicSlotgrant> for u8 {
+    ghost from_gives = { λ grant octet. octet ≡ octet_of grant };
+
+    fn from(grant: BasicSlotgrant) -> u8 {
+        u8::from(grant.capacity_allocation) * 16 + u8::from(grant.granting_delay)
     }
 }

@@ -12,7 +12,8 @@ use lib.Pow.{pow-add, pow_pos, shl_exact, shr_lt, shr-shr, high}
 use borrow.Author.Tests.{leb-true, leb-false}
 use lib.Dec.{leb}
 use lib.ListN.{length, take, drop, get_or, set, replicate, length-append, length-drop, length-set}
-use lib.Seq.{set-append_left, drop_at, take_at, drop-cons, drop-drop, drop-append-le, take-append-le}
+use lib.Seq.{set-append_left, drop_at, take_at, drop-cons, drop-drop, drop-append-le, take-append-le, take_all, take-take}
+use Rattle.std.proofs.lemmas.List.{drop-take, take-replicate, drop-replicate}
 use Rattle.bitbuffer.specs.Bits.{value_bits, bits_value, bits_of, written, part}
 use Rattle.bitbuffer.proofs.Laws.{length-value_bits, value_bits-append, value_bits-mod, one_shl, written-append, written-eq, length_part, length-bits_of}
 use Rattle.bitbuffer.proofs.Laws.{past, value-field}
@@ -186,18 +187,13 @@ pair-part s at n h0 h8 h fits = go (leb (at % 8 + n) 8) refl
         (two-octets s (at / 8) (omega arith) (fits (at / 8 + 1))) (omega arith))
         ∙ ap (λ (m : ℕ). part (bits_of s) m n) place
 
--- ---- a turn of a loop that goes on by `n` bits
+-- the bits of 0 are clear
+pub value_bits-zero : (n : ℕ) → value_bits n 0 ≡ replicate n 0
+unfolding value_bits
+value_bits-zero zero = refl
+value_bits-zero (suc n) = ap₂ ◌∷◌ (ap (λ (m : ℕ). m % 2) (zero-div (2 ^ n))) (value_bits-zero n)
 
--- it writes a number
-pub value-turn : (l : List ℕ) (at n left v : ℕ) → n ≤ left
-    → written (written l at (value_bits n (v / 2 ^ (left - n) % 2 ^ n))) (at + n) (value_bits (left - n) v) ≡ written l at (value_bits left v)
-value-turn l at n left v h =
-    let f = value_bits n (v / 2 ^ (left - n)) in
-    let all : n + (left - n) ≡ left = omega arith in
-    ap (λ (g : List ℕ). written (written l at g) (at + n) (value_bits (left - n) v)) (value_bits-mod n (v / 2 ^ (left - n)))
-    ∙ ap (λ (m : ℕ). written (written l at f) (at + m) (value_bits (left - n) v)) (sym (length-value_bits n (v / 2 ^ (left - n))))
-    ∙ sym (written-append l at f (value_bits (left - n) v))
-    ∙ ap (written l at) (sym (value_bits-append n (left - n) v) ∙ ap (λ (m : ℕ). value_bits m v) all)
+-- ---- a turn of a loop that goes on by `n` bits
 
 -- it copies
 pub part-turn : (l : List ℕ) (at : ℕ) (m : List ℕ) (from n left : ℕ) → n ≤ left → from + n ≤ length m
@@ -208,18 +204,49 @@ part-turn l at m from n left h hm =
     ∙ sym (written-append l at (part m from n) (part m (from + n) (left - n)))
     ∙ ap (written l at) (sym (part-split m from n (left - n)) ∙ ap (part m from) all)
 
--- it clears
-pub value_bits-zero : (n : ℕ) → value_bits n 0 ≡ replicate n 0
-unfolding value_bits
-value_bits-zero zero = refl
-value_bits-zero (suc n) = ap₂ ◌∷◌ (ap (λ (m : ℕ). m % 2) (zero-div (2 ^ n))) (value_bits-zero n)
+-- it writes the `n` bits before the last `left - n` of those that are given
+pub given-all : (l : List ℕ) (at : ℕ) (f : List ℕ) (n : ℕ) → length f ≡ n → written l at (part f (n - n) n) ≡ written l at f
+unfolding part
+given-all l at f n e =
+    let none : n - n ≡ 0 = omega arith in
+    ap (λ (i : ℕ). written l at (take n (drop i f))) none ∙ ap (written l at) (take_all n f (omega arith))
 
-pub zero_turn : (l : List ℕ) (at n left : ℕ) → n ≤ left
-    → written (written l at (value_bits n 0)) (at + n) (value_bits (left - n) 0) ≡ written l at (value_bits left 0)
-zero_turn l at n left h =
-    ap (λ (m : ℕ). written (written l at (value_bits n m)) (at + n) (value_bits (left - n) 0))
-    (sym (ap (λ (m : ℕ). m % 2 ^ n) (zero-div (2 ^ (left - n))) ∙ mod-eq_of_lt (pow_pos n)))
-    ∙ value-turn l at n left 0 h
+pub given-turn : (l : List ℕ) (at : ℕ) (f : List ℕ) (all k left v : ℕ) → k ≤ left → left ≤ all → length f ≡ all
+    → value_bits k v ≡ part f (all - (left - k) - k) k
+    → written (written l at (value_bits k v)) (at + k) (part f (all - (left - k)) (left - k)) ≡ written l at (part f (all - left) left)
+given-turn l at f all k left v h hl e ev =
+    let from : all - (left - k) - k ≡ all - left = omega arith in
+    let next : all - (left - k) ≡ all - left + k = omega arith in
+    ap₂ (λ (g : List ℕ) (i : ℕ). written (written l at g) (at + k) (part f i (left - k))) (ev ∙ ap (λ (i : ℕ). part f i k) from) next
+    ∙ part-turn l at f (all - left) k left h (omega arith)
+
+-- the bits that are given: those of a number,
+pub number-piece : (w value left k v : ℕ) → left + k ≤ w → k ≤ 8 → v ≡ value / 2 ^ left % (1 * 2 ^ k % 2 ^ 64)
+    → value_bits k v ≡ part (value_bits w value) (w - left - k) k
+number-piece w value left k v h hk e =
+    let all : w ≡ w - left - k + (k + left) = omega arith in
+    ap (value_bits k) (e ∙ ap (λ (m : ℕ). value / 2 ^ left % m) (one_shl {k = k} 64 (omega arith)))
+    ∙ value_bits-mod k (value / 2 ^ left)
+    ∙ sym (part-value_bits (w - left - k) k left value)
+    ∙ ap (λ (m : ℕ). part (value_bits m value) (w - left - k) k) (sym all)
+
+-- clear ones,
+pub clear-piece : (n left k v : ℕ) → left + k ≤ n → v ≡ 0 → value_bits k v ≡ part (replicate n 0) (n - left - k) k
+unfolding part
+clear-piece n left k v h e =
+    ap (value_bits k) e ∙ value_bits-zero k ∙ sym (ap (take k) (drop-replicate (n - left - k) n 0) ∙ take-replicate k (n - (n - left - k)) 0 (omega arith))
+
+-- and those of a part
+pub part-piece : (l : List ℕ) (from n left k v : ℕ) → left + k ≤ n → value_bits k v ≡ part l (from + (n - left - k)) k
+    → value_bits k v ≡ part (part l from n) (n - left - k) k
+unfolding part
+part-piece l from n left k v h e =
+    let i = n - left - k in
+    let all : n ≡ i + (k + left) = omega arith in
+    e
+    ∙ ap (take k) (sym (drop-drop i from l))
+    ∙ sym (take-take k (k + left) (drop i (drop from l)) (omega arith))
+    ∙ ap (take k) (sym (drop-take i (k + left) (drop from l)) ∙ ap (λ (m : ℕ). drop i (take m (drop from l))) (sym all))
 
 -- it reads a number
 pub bits_value-append : (f g : List ℕ) → bits_value (f ++ g) ≡ bits_value f * 2 ^ length g + bits_value g

@@ -1,7 +1,7 @@
 -- The laws of the definitions of `specs/Bits.antt`, each for any width. Assumes nothing. The bit facts, here and in the modules named:
 --   a value to bits and back     value-field, value-value_bits, value_bits-value
 --   bits to octets and back      Octets: packed-bits_of, bits_of-packed, bits_of-same
---   bits at their octets         get_d-place; Chunks: written-place, pair-part, octet-part
+--   bits at their octets         get_or-place; Chunks: written-place, pair-part, octet-part
 --   reading what was written     part-written, read-written, field_back
 --   what a write leaves alone    part-before, part-after, length-written; Writes: written-elsewhere
 --   two writes in a row          written-append and `then` (adjacent); Writes: written-disjoint (apart)
@@ -56,9 +56,9 @@ pub value-field : (w v : ℕ) → v < 2 ^ w → bits_value (value_bits w v) ≡ 
 value-field w v h = value-value_bits w v ∙ mod-eq_of_lt h
 
 -- the bit that counts `2 ^ j`, with `i` bits before it
-pub get_d-value_bits : (i j v : ℕ) → get_or (value_bits (i + suc j) v) i 0 ≡ v / 2 ^ j % 2
+pub get_or-value_bits : (i j v : ℕ) → get_or (value_bits (i + suc j) v) i 0 ≡ v / 2 ^ j % 2
 unfolding value_bits
-get_d-value_bits i j v =
+get_or-value_bits i j v =
     ap (λ (l : List ℕ). get_or l i 0) (value_bits-append i (suc j) v)
     ∙ get_or_at (value_bits i (v / 2 ^ suc j)) (v / 2 ^ j % 2) (value_bits j v) 0 i (length-value_bits i (v / 2 ^ suc j))
 
@@ -79,12 +79,12 @@ pub past : (x i k : ℕ) → 8 * suc i + k ≡ length (value_bits 8 x) + (8 * i 
 past x i k = rw length-value_bits (omega arith)
 
 -- a bit of octet `i` is a bit of the list
-pub get_d-bits_of : (s : List ℕ) (i k : ℕ) → i < length s → k < 8 → get_or (bits_of s) (8 * i + k) 0 ≡ get_or (value_bits 8 (get_or s i 0)) k 0
+pub get_or-bits_of : (s : List ℕ) (i k : ℕ) → i < length s → k < 8 → get_or (bits_of s) (8 * i + k) 0 ≡ get_or (value_bits 8 (get_or s i 0)) k 0
 unfolding bits_of
-get_d-bits_of [] i k h hk = absurd (omega arith)
-get_d-bits_of (x ∷ s) zero k h hk = rw zero-add (get_or-append (value_bits 8 x) (bits_of s) 0 k (rw length-value_bits hk))
-get_d-bits_of (x ∷ s) (suc i) k h hk =
-    rw (past x i k, get_or-append-add) (get_d-bits_of s i k (omega arith) hk)
+get_or-bits_of [] i k h hk = absurd (omega arith)
+get_or-bits_of (x ∷ s) zero k h hk = rw zero-add (get_or-append (value_bits 8 x) (bits_of s) 0 k (rw length-value_bits hk))
+get_or-bits_of (x ∷ s) (suc i) k h hk =
+    rw (past x i k, get_or-append-add) (get_or-bits_of s i k (omega arith) hk)
 
 -- the same by the bit's position, as code finds it
 at-octet : (at : ℕ) → 8 * (at / 8) + at % 8 ≡ at
@@ -93,11 +93,11 @@ at-octet at = omega arith
 seven : {k : ℕ} → k < 8 → k + suc (7 - k) ≡ 8
 seven h = omega arith
 
-pub get_d-place : (s : List ℕ) (at : ℕ) → at < 8 * length s → get_or (bits_of s) at 0 ≡ get_or s (at / 8) 0 / 2 ^ (7 - at % 8) % 2
-get_d-place s at h =
-    ap (λ (n : ℕ). get_or (bits_of s) n 0) (sym (at-octet at)) ∙ get_d-bits_of s (at / 8) (at % 8) (omega arith) (omega arith)
+pub get_or-place : (s : List ℕ) (at : ℕ) → at < 8 * length s → get_or (bits_of s) at 0 ≡ get_or s (at / 8) 0 / 2 ^ (7 - at % 8) % 2
+get_or-place s at h =
+    ap (λ (n : ℕ). get_or (bits_of s) n 0) (sym (at-octet at)) ∙ get_or-bits_of s (at / 8) (at % 8) (omega arith) (omega arith)
     ∙ ap (λ (n : ℕ). get_or (value_bits n (get_or s (at / 8) 0)) (at % 8) 0) (sym (seven {k = at % 8} (omega arith)))
-    ∙ get_d-value_bits (at % 8) (7 - at % 8) (get_or s (at / 8) 0)
+    ∙ get_or-value_bits (at % 8) (7 - at % 8) (get_or s (at / 8) 0)
 
 -- ---- what is 0 or 1
 
@@ -123,11 +123,11 @@ bits-take zero l h = tt
 bits-take (suc n) [] h = tt
 bits-take (suc n) (b ∷ l) h = (h.0, bits-take n l h.1)
 
-pub bits-get_d : (l : List ℕ) (i : ℕ) → AreBits l → get_or l i 0 < 2
+pub bits-get_or : (l : List ℕ) (i : ℕ) → AreBits l → get_or l i 0 < 2
 unfolding AreBits
-bits-get_d [] i h = omega arith
-bits-get_d (b ∷ l) zero h = h.0
-bits-get_d (b ∷ l) (suc i) h = bits-get_d l i h.1
+bits-get_or [] i h = omega arith
+bits-get_or (b ∷ l) zero h = h.0
+bits-get_or (b ∷ l) (suc i) h = bits-get_or l i h.1
 
 pub bits-bits_of : (s : List ℕ) → AreBits (bits_of s)
 unfolding bits_of AreBits
@@ -164,11 +164,6 @@ written-append l at [] g = ap (λ (n : ℕ). written l n g) (sym (add-zero at))
 written-append l at (b ∷ f) g = written-append (set l at b) (suc at) f g ∙ ap (λ (n : ℕ). written (written (set l at b) (suc at) f) n g) (omega arith)
 
 -- the end of a loop that writes
-pub value-done : (l : List ℕ) (at n v : ℕ) → n ≤ 0 → l ≡ written l at (value_bits n v)
-unfolding written value_bits
-value-done l at zero v h = refl
-value-done l at (suc n) v h = absurd (omega arith)
-
 pub part-done : (l : List ℕ) (at : ℕ) (m : List ℕ) (from n : ℕ) → n ≤ 0 → l ≡ written l at (part m from n)
 unfolding written part
 part-done l at m from zero h = refl
@@ -176,7 +171,7 @@ part-done l at m from (suc n) h = absurd (omega arith)
 
 -- a bit of octets is 0 or 1
 pub bit-lt : (s : List ℕ) (at : ℕ) → get_or (bits_of s) at 0 < 2
-bit-lt s at = bits-get_d (bits_of s) at (bits-bits_of s)
+bit-lt s at = bits-get_or (bits_of s) at (bits-bits_of s)
 
 -- ---- a field read
 

@@ -1,8 +1,9 @@
 // Fields of any width in a run of octets, most significant bit first.
 #![tactic(auto)]
 
-ghost use Rattle.std.specs.Prelude.{◌≡◌, ◌+◌, ◌*◌, ◌/◌, ◌%◌, ◌<◌, ◌≤◌, ◌^◌, length, get_or, set, replicate};
+ghost use Rattle.std.specs.Prelude.{ℕ, List, ◌≡◌, ◌+◌, ◌*◌, ◌/◌, ◌%◌, ◌<◌, ◌≤◌, ◌^◌, length, get_or, set, replicate};
 ghost use Rattle.bitbuffer.specs.Bits.{value_bits, bits_value, bits_of, written, part, Wrote};
+ghost use Rattle.bitbuffer.specs.Chunks.{GivesBits};
 
 // The bit at `at`.
 pub fn bit_at(s: &[u8], at: usize) -> u8
@@ -18,18 +19,7 @@ fn chunk(at: usize, left: usize) -> usize
     requires { 0 < left }
     ensures { (0 < result) × (result ≤ left) × (at % 8 + result ≤ 8) }
 {
-    let room = 8 - at % 8;
-    if left < room {
-        return left;
-    }
-    room
-}
-
-// Two octets side by side.
-fn joined(x: u8, y: u8) -> u16
-    ensures { result ≡ x * 256 + y }
-{
-    x as u16 * 256 + y as u16
+    left.min(8 - at % 8)
 }
 
 // The number that the `n` bits from `at` on write, at most eight. The second octet counts only if they go on into it.
@@ -39,7 +29,7 @@ fn bits_at(s: &[u8], at: usize, n: usize) -> u64
 {
     let i = at / 8;
     let j = (at + n - 1) / 8;
-    let pair = joined(s[i], s[j]) as u64;
+    let pair = u64::from(u16::from_be_bytes([s[i], s[j]]));
     (pair >> (16 - (at % 8 + n))) % (1 << n)
 }
 
@@ -53,7 +43,7 @@ fn with_bits(x: u8, k: usize, n: usize, v: u64) -> u8
         return v as u8;
     }
     let low = 8 - (k + n);
-    let old = x as u64;
+    let old = u64::from(x);
     let before = old >> (n + low);
     let behind = old % (1 << low);
     (((((before << n) | v) << low) | behind) % 256) as u8
@@ -73,7 +63,24 @@ pub fn set_bit(s: &mut [u8], at: usize, bit: u8)
     requires { (at < 8 * length s.old) × (bit < 2) }
     ensures { bits_of s.new ≡ set (bits_of s.old) at bit }
 {
-    put_chunk(s, at, 1, bit as u64);
+    put_chunk(s, at, 1, u64::from(bit));
+}
+
+// Writes `n` bits from `at` on, what lies in one octet at a time: `bits(left, k)` are the `k` bits before the last `left`.
+fn write_chunks<F: Fn(usize, usize) -> u64>(s: &mut [u8], at: usize, n: usize, bits: F)
+    requires room { (at + n ≤ 8 * length s.old) × (at + n < 2 ^ 64) }
+    requires callable { (left k : ℕ) → left + k ≤ n → 0 < k → k ≤ 8 → F.pre bits left k }
+    requires small { (left k v : ℕ) → left + k ≤ n → k ≤ 8 → F.post bits left k v → v < 2 ^ k }
+    ensures { (f : List ℕ) → GivesBits (F.post bits) n f → bits_of s.new ≡ written (bits_of s.old) at f }
+{
+    let mut pos = at;
+    let mut left = n;
+    while 0 < left {
+        let k = chunk(pos, left);
+        left -= k;
+        put_chunk(s, pos, k, bits(left, k));
+        pos += k;
+    }
 }
 
 // Writes the low `width` bits of `value` from `at` on.
@@ -81,14 +88,7 @@ pub fn write_bits(s: &mut [u8], at: usize, width: usize, value: u64)
     requires { (at + width ≤ 8 * length s.old) × (at + width < 2 ^ 64) × (width ≤ 64) }
     ensures { bits_of s.new ≡ written (bits_of s.old) at (value_bits width value) }
 {
-    let mut pos = at;
-    let mut left = width;
-    while 0 < left {
-        let n = chunk(pos, left);
-        left -= n;
-        put_chunk(s, pos, n, (value >> left) % (1 << n));
-        pos += n;
-    }
+    write_chunks(s, at, width, |left, k| (value >> left) % (1 << k));
 }
 
 // Writes `n` clear bits from `at` on.
@@ -96,14 +96,7 @@ pub fn write_zeroes(s: &mut [u8], at: usize, n: usize)
     requires { (at + n ≤ 8 * length s.old) × (at + n < 2 ^ 64) }
     ensures { bits_of s.new ≡ written (bits_of s.old) at (replicate n 0) }
 {
-    let mut pos = at;
-    let mut left = n;
-    while 0 < left {
-        let k = chunk(pos, left);
-        left -= k;
-        put_chunk(s, pos, k, 0);
-        pos += k;
-    }
+    write_chunks(s, at, n, |_, _| 0);
 }
 
 // Writes a field and returns the position behind it.
@@ -120,6 +113,7 @@ pub fn read_bits(s: &[u8], at: usize, width: usize) -> u64
     requires { (at + width ≤ 8 * length s.now) × (at + width < 2 ^ 64) × (width ≤ 64) }
     ensures { (result ≡ bits_value (part (bits_of s.now) at width)) × (result < 2 ^ width) }
 {
+    // Kept: a loop of its own, since `write_chunks` writes what its closure gives: a sum over a closure would have this one caller.
     let mut sum: u64 = 0;
     let mut pos = at;
     let mut left = width;
@@ -138,16 +132,7 @@ fn copy_chunks(dst: &mut [u8], at: usize, src: &[u8], from: usize, n: usize)
     requires n_bound_2 { (at + n < 2 ^ 64) × (from + n < 2 ^ 64) }
     ensures { bits_of dst.new ≡ written (bits_of dst.old) at (part (bits_of src.now) from n) }
 {
-    let mut to = at;
-    let mut pos = from;
-    let mut left = n;
-    while 0 < left {
-        let k = chunk(to, left);
-        left -= k;
-        put_chunk(dst, to, k, bits_at(src, pos, k));
-        to += k;
-        pos += k;
-    }
+    write_chunks(dst, at, n, |left, k| bits_at(src, from + (n - left - k), k));
 }
 
 // The octet that ends `r` bits before the end of two octets side by side.
@@ -155,7 +140,7 @@ fn octet_within(x: u8, y: u8, r: usize) -> u8
     requires { r ≤ 8 }
     ensures { result ≡ (x * 256 + y) / 2 ^ r % 256 }
 {
-    ((joined(x, y) >> r) % 256) as u8
+    ((u16::from_be_bytes([x, y]) >> r) % 256) as u8
 }
 
 // Copies the bits of `src` from `from` on to `n` whole octets of `dst` from octet `at` on. One octet of `src` more is read, so that
@@ -166,6 +151,8 @@ fn copy_octets(dst: &mut [u8], at: usize, src: &[u8], from: usize, n: usize)
 {
     let q = from / 8;
     let low = 8 - from % 8;
+    // Kept: tried `dst[at..at + n].iter_mut().zip(src[q..].windows(2))`: a proof knows nothing of what is written through a `zip`;
+    // under `.enumerate()` the index stays.
     for i in 0..n {
         dst[at + i] = octet_within(src[q + i], src[q + i + 1], low);
     }

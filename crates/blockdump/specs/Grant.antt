@@ -1,13 +1,12 @@
 -- What a mobile station derives from a slot granting element, as usable slots of its timeslot: slot 1 is the first at or after the block's slot.
 -- Document 01, "Request and grant". Assumes nothing.
-use Rattle.std.specs.Prelude.{cond, List, [], ◌∷◌, ℕ, ◌+◌, eqb, leb}
+use Rattle.std.specs.Prelude.{cond, List, [], ◌∷◌, ℕ, ◌+◌, eqb, leb, Option, Some, None}
 use Rattle.sizes.specs.Sizes.{latest_delay}
 use Rattle.slot_codes.specs.Codes.{slots_granted, capacity_of, delay_of}
 use Rattle.uplink.specs.HalfSlot.{Half, first_half, second_half}
 use Rattle.blockdump.specs.declared.grant.Part.{Part}
 use Rattle.blockdump.specs.declared.grant.Part.TheVariants.{FirstHalf, SecondHalf, Whole}
-use Rattle.blockdump.specs.declared.grant.GrantedSlots.{GrantedSlots}
-use Rattle.blockdump.specs.declared.grant.GrantedSlots.TheVariants.{FromTo, DelayNotSent}
+use Rattle.blockdump.specs.declared.grant.UsableSlots.{UsableSlots}
 use Rattle.blockdump.specs.declared.grant.MsGrant.{MsGrant}
 
 -- "Capacity 0 is the first half, 15 the second, 1–14 the slot counts above": the part of its slots that a capacity grants
@@ -28,8 +27,8 @@ abbrev pub last_slot : ℕ → ℕ → ℕ
 last_slot capacity delay = delay + slots_granted capacity
 
 -- "Delay 0–13 is the number of usable slots passed over; the scheduler sends no other."
-abbrev pub granted_slots : ℕ → ℕ → GrantedSlots
-granted_slots capacity delay = cond (leb delay latest_delay) (FromTo (first_slot delay) (last_slot capacity delay)) DelayNotSent
+abbrev pub granted_slots : ℕ → ℕ → Option UsableSlots
+granted_slots capacity delay = cond (leb delay latest_delay) (Some (record { first = first_slot delay; last = last_slot capacity delay })) None
 
 -- "Grant octet: four bits capacity, four bits delay."
 abbrev pub ms_grant : ℕ → MsGrant

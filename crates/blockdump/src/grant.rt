@@ -10,42 +10,43 @@ pub(crate) enum Part {
     Whole,
 }
 
-// The usable slots of a grant, the first of them and the last, or that its delay is none that the scheduler sends.
+// The usable slots of a grant, from the first to the last.
 #[derive(Clone, Copy)]
-pub(crate) enum GrantedSlots {
-    FromTo(usize, usize),
-    DelayNotSent,
+pub(crate) struct UsableSlots {
+    pub(crate) first: usize,
+    pub(crate) last: usize,
 }
 
+// A grant; it has no slots where its delay is none that the scheduler sends.
 #[derive(Clone, Copy)]
 pub(crate) struct MsGrant {
     pub(crate) part: Part,
     pub(crate) count: usize,
     pub(crate) delay: u8,
-    pub(crate) slots: GrantedSlots,
+    pub(crate) slots: Option<UsableSlots>,
 }
 
 fn part_of(capacity: u8) -> Part
     ensures { result ≡ part_of capacity }
 {
-    if capacity == 0 {
-        return Part::FirstHalf;
+    match capacity {
+        0 => Part::FirstHalf,
+        15 => Part::SecondHalf,
+        _ => Part::Whole,
     }
-    if capacity == 15 {
-        return Part::SecondHalf;
-    }
-    Part::Whole
 }
 
-fn granted_slots(capacity: u8, delay: u8) -> GrantedSlots
+fn granted_slots(capacity: u8, delay: u8) -> Option<UsableSlots>
     ensures { result ≡ granted_slots capacity delay }
 {
     let passed = delay as usize;
     if sizes::LATEST_DELAY < passed {
-        return GrantedSlots::DelayNotSent;
+        return None;
     }
-    let count = slot_codes::slots_granted(capacity);
-    GrantedSlots::FromTo(passed + 1, passed + count)
+    Some(UsableSlots {
+        first: passed + 1,
+        last: passed + slot_codes::slots_granted(capacity),
+    })
 }
 
 // The grant of a slot granting element.
@@ -54,13 +55,10 @@ pub(crate) fn ms_grant(octet: u8) -> MsGrant
 {
     let capacity = octet / 16;
     let delay = octet % 16;
-    let part = part_of(capacity);
-    let count = slot_codes::slots_granted(capacity);
-    let slots = granted_slots(capacity, delay);
     MsGrant {
-        part,
-        count,
+        part: part_of(capacity),
+        count: slot_codes::slots_granted(capacity),
         delay,
-        slots,
+        slots: granted_slots(capacity, delay),
     }
 }

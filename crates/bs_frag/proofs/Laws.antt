@@ -6,6 +6,7 @@ use mathlib.Core.List.{List, [], ◌∷◌, ◌++◌, append-nil}
 use Prim.Native.Nat.{ℕ, zero, suc, ◌+◌, ◌-◌, ◌*◌, ◌/◌, ◌≤◌, ◌<◌, min}
 use native.Mathlib.Nat.{add-zero}
 use native.Mathlib.Omega.{arith}
+use Rattle.std.specs.Int.{div_ceil}
 use lib.ListN.{length, take, drop}
 use lib.Seq.{take_at, drop_at, take-take}
 use borrow.Author.Tests.{lt-ltb, le-ltb, le-leb, lt-leb}
@@ -26,15 +27,6 @@ use Rattle.bs_frag.specs.declared.ChunkOutcome.{ChunkOutcome}
 use Rattle.bs_frag.specs.declared.ChunkOutcome.TheVariants.{Finished, Waiting, Started}
 
 -- ---- the fill bit
-
-pub flag-none : (n : ℕ) → n ≡ 0 → fill_flag n ≡ 0
-unfolding fill_flag
-flag-none n h = rw h
-
-pub flag-some : (n : ℕ) → (n ≡ 0 → ⊥) → fill_flag n ≡ 1
-unfolding fill_flag
-flag-some zero h = absurd (h refl)
-flag-some (suc n) h = refl
 
 pub flag-lt : (n : ℕ) → fill_flag n < 2
 unfolding fill_flag
@@ -137,26 +129,25 @@ module _ (may : Bool) (room : ℕ) (r : Record) (sdu : List ℕ) (h : ℕ) (e : 
   unfolding begin begin_with
   begin-starts m k i j = rw (← e, m, lt-leb (h + r.bits) room k, le-ltb room 32 i, le-ltb room h j)
 
-module _ (room : ℕ) (r : Record) (sdu : List ℕ) (rest : ℕ) (e : rest ≡ r.bits - r.sent) where
-  pub continue-ends : end_octets rest * 8 ≤ room
+-- whole octets, rounded up
+pub octets-up : (rest : ℕ) → div_ceil (13 + rest) 8 ≡ end_octets rest
+octets-up rest = omega arith
+
+module _ (room : ℕ) (r : Record) (sdu : List ℕ) (rest : ℕ) (e : rest ≡ r.bits - r.sent) (o : ℕ) (is : o ≡ end_octets rest) where
+  pub continue-ends : o * 8 ≤ room
       → continue room r sdu
-      ≡ record {
-        pdus = end_pdu (end_octets rest) (part sdu r.sent rest)
-            (end_octets rest * 8 - (13 + rest)) ∷ [];
-        room = room - end_octets rest * 8;
-        outcome = Finished;
-      }
+      ≡ record { pdus = end_pdu o (part sdu r.sent rest) (o * 8 - (13 + rest)) ∷ []; room = room - o * 8; outcome = Finished }
   unfolding continue
-  continue-ends k = rw (← e, le-leb (end_octets rest * 8) room k)
+  continue-ends k = rw (← e, ← is, le-leb (o * 8) room k)
 
-  pub continue-waits : room < end_octets rest * 8 → room < 16 → continue room r sdu ≡ record { pdus = []; room = room; outcome = Started r.sent }
+  pub continue-waits : room < o * 8 → room < 16 → continue room r sdu ≡ record { pdus = []; room = room; outcome = Started r.sent }
   unfolding continue
-  continue-waits k i = rw (← e, lt-leb (end_octets rest * 8) room k, lt-ltb room 16 i)
+  continue-waits k i = rw (← e, ← is, lt-leb (o * 8) room k, lt-ltb room 16 i)
 
-  pub continue-frags : (n : ℕ) → n ≡ min (room - 4) rest → room < end_octets rest * 8 → 16 ≤ room
+  pub continue-frags : (n : ℕ) → n ≡ min (room - 4) rest → room < o * 8 → 16 ≤ room
       → continue room r sdu ≡ record { pdus = frag_pdu (part sdu r.sent n) (room - 4 - n) ∷ []; room = 0; outcome = Started (r.sent + n) }
   unfolding continue
-  continue-frags n f k i = rw (← e, ← f, lt-leb (end_octets rest * 8) room k, le-ltb room 16 i)
+  continue-frags n f k i = rw (← e, ← f, ← is, lt-leb (o * 8) room k, le-ltb room 16 i)
 
 pub next-later : (may : Bool) (room : ℕ) (r : Record) (sdu : List ℕ) → is_started r.kind ≡ true → next may room r sdu ≡ continue room r sdu
 unfolding next

@@ -13,6 +13,7 @@ use Rattle.dl_record.specs.Kind.{is_started}
 use Rattle.dl_record.specs.Record.{resource_of}
 use Rattle.bs_frag.specs.declared.ChunkOutcome.{ChunkOutcome}
 use Rattle.bs_frag.specs.declared.ChunkOutcome.TheVariants.{Finished, Waiting, Started}
+use Rattle.bs_frag.specs.declared.body.Body.{Body}
 use Rattle.bs_frag.specs.declared.Chunk.{Chunk}
 
 -- ---- the four PDUs
@@ -49,6 +50,10 @@ end_pdu octets sdu fill = final (record { fill_bits = fill_flag fill; pos_of_gra
 -- the octets of a MAC-END with n SDU bits, rounded up
 abbrev pub end_octets : ℕ → ℕ
 end_octets n = (13 + n + 7) / 8
+
+-- a part of the SDU, and then fill
+abbrev pub body_bits : Body → List ℕ
+body_bits b = part (bits_of b.store.now) b.from b.n ++ fill_bits b.fill
 
 -- ---- a record's turn
 

@@ -3,11 +3,10 @@
 
 ghost use Rattle.std.specs.Prelude.{◌≡◌, ◌-◌};
 ghost use Rattle.bitbuffer.specs.Bits.{bits_of};
-ghost use Rattle.dl_record.specs.Kind.{is_started};
 ghost use Rattle.bs_frag.specs.NextPdu.{begin, continue, next, sdu_at, Ready, Chunked};
 
-use bs_frag::{Chunk, ChunkOutcome};
-use dl_record::{Kind, Record};
+use bs_frag::{Body, Chunk, ChunkOutcome};
+use dl_record::Record;
 use sizes::SDU_BITS;
 
 // The first PDU of a record: MAC-RESOURCE, whole or, if it may start, the first fragment, or none.
@@ -33,25 +32,18 @@ fn get_resource_chunk(
         let fill = fillbits::compute_required(n, room);
         let octets = (n + fill) / 8;
         let header = bs_frag::header_of(r, bs_frag::fill_flag(fill), octets as u8);
-        let next = bs_frag::put_resource(block, at, header, store, from, bits, fill);
+        let body = Body {
+            store,
+            from,
+            n: bits,
+            fill,
+        };
         return Chunk {
-            next,
+            next: bs_frag::put_resource(block, at, header, body),
             outcome: ChunkOutcome::Finished,
         };
     }
-    if !may_start {
-        return Chunk {
-            next: at,
-            outcome: ChunkOutcome::Waiting,
-        };
-    }
-    if room < 32 {
-        return Chunk {
-            next: at,
-            outcome: ChunkOutcome::Waiting,
-        };
-    }
-    if room < h {
+    if !may_start || room < 32 || room < h {
         return Chunk {
             next: at,
             outcome: ChunkOutcome::Waiting,
@@ -59,9 +51,14 @@ fn get_resource_chunk(
     }
     let sent = room - h;
     let header = bs_frag::header_of(r, 0, 63);
-    let next = bs_frag::put_resource(block, at, header, store, from, sent, 0);
+    let body = Body {
+        store,
+        from,
+        n: sent,
+        fill: 0,
+    };
     Chunk {
-        next,
+        next: bs_frag::put_resource(block, at, header, body),
         outcome: ChunkOutcome::Started(sent as u16),
     }
 }
@@ -80,16 +77,19 @@ fn get_frag_or_end_chunk(
         (continue (w - at) r (sdu_at store.now cell r.bits)) }
 {
     let room = w - at;
-    let bits = r.bits as usize;
     let sent = r.sent as usize;
     let from = SDU_BITS * cell + sent;
-    let rest = bits - sent;
-    let octets = (13 + rest + 7) / 8;
+    let rest = r.bits as usize - sent;
+    let octets = (13 + rest).div_ceil(8);
     if octets * 8 <= room {
-        let fill = octets * 8 - (13 + rest);
-        let next = bs_frag::put_end(block, at, octets as u8, store, from, rest, fill);
+        let body = Body {
+            store,
+            from,
+            n: rest,
+            fill: octets * 8 - (13 + rest),
+        };
         return Chunk {
-            next,
+            next: bs_frag::put_end(block, at, octets as u8, body),
             outcome: ChunkOutcome::Finished,
         };
     }
@@ -100,33 +100,23 @@ fn get_frag_or_end_chunk(
         };
     }
     let space = room - 4;
-    if space <= rest {
-        let next = bs_frag::put_frag(block, at, store, from, space, 0);
-        return Chunk {
-            next,
-            outcome: ChunkOutcome::Started((sent + space) as u16),
-        };
-    }
-    let next = bs_frag::put_frag(block, at, store, from, rest, space - rest);
+    let n = rest.min(space);
+    let body = Body {
+        store,
+        from,
+        n,
+        fill: space - n,
+    };
     Chunk {
-        next,
-        outcome: ChunkOutcome::Started((sent + rest) as u16),
-    }
-}
-
-pub fn is_started(kind: Kind) -> bool
-    ensures { result ≡ is_started kind }
-{
-    match kind {
-        Kind::Grant => false,
-        Kind::Ack => false,
-        Kind::Record => false,
-        Kind::Waiting => false,
-        Kind::Started => true,
+        next: bs_frag::put_frag(block, at, body),
+        outcome: ChunkOutcome::Started((sent + n) as u16),
     }
 }
 
 // The next PDU of a record, if there is room for one. One that is not started may start fragments or not.
+// Kept: the store, the cell and the record as three parameters: a struct of them names a lifetime, so that each clause says `x.entry.store`, and
+// the two functions above take it apart again.
+#[tactic(auto, unfolding(bs_frag::specs::NextPdu::next))]
 pub fn get_next_chunk(
     block: &mut [u8],
     at: usize,
@@ -140,8 +130,7 @@ pub fn get_next_chunk(
     ensures { Chunked (bits_of block.old) at w (bits_of block.new) result
         (next may_start (w - at) r (sdu_at store.now cell r.bits)) }
 {
-    let kind = r.kind;
-    if is_started(kind) {
+    if r.kind.is_started() {
         return get_frag_or_end_chunk(block, at, w, store, cell, r);
     }
     get_resource_chunk(block, at, w, store, cell, r, may_start)

@@ -1,4 +1,5 @@
 -- The entries' answers: questions 1 and 2 asked apart, a plan stored in the queue, and the plan of a build. Assumes nothing.
+use Rattle.std.proofs.Common.{Some, None, Result, Ok, Err}
 use mathlib.Core.Path.{◌≡◌, refl, sym, ap, ◌∙◌}
 use mathlib.Core.Bool.{Bool, true, false}
 use mathlib.Core.List.{List, [], ◌∷◌, ◌++◌}
@@ -8,40 +9,36 @@ use lib.ListN.{length, get_or, set, take}
 use lib.Seq.{paste}
 use borrow.Author.Tests.{eqb-true}
 use Rattle.sizes.specs.Sizes.{timeslots, per_timeslot, block_octets}
+use Rattle.questions.specs.declared.Refusal.{Refusal}
+use Rattle.questions.specs.Questions.{Question, question, refusal_number, ask, asked_number}
+use Rattle.questions.proofs.AskLaws.{AllYes, Positive, number-yes, number-no}
+use Rattle.questions.proofs.NumberLaws.{number-positive}
 use Rattle.dl_record.specs.declared.Record.{Record}
 use Rattle.dl_send.specs.Arrays.{tag_row}
 use Rattle.dl_send.specs.declared.Progress.{Progress}
 use Rattle.dl_build.specs.Build.{BuiltIn}
 use Rattle.sched_core.specs.declared.Station.{Station}
-use Rattle.questions.specs.declared.Refusal.{Refusal}
-use Rattle.sched_core.specs.declared.BuildReply.{BuildReply}
-use Rattle.questions.specs.Questions.{Question, question, refusal_number, ask, asked_number}
+use Rattle.sched_core.specs.Answers.{answer_of}
 use Rattle.sched_core.specs.Station.{with_queued}
 use Rattle.sched_core.specs.Questions.{Memory, memory, asks_block, memory_questions, build_lent}
 use Rattle.sched_core.specs.Replies.{Numbered}
 use Rattle.sched_core.specs.Calls.{Outcome, outcome, judged, not_built, current, builds_now, built_now, build_call}
-use Rattle.questions.proofs.AskLaws.{AllYes, Positive, number-yes, number-no}
-use Rattle.questions.proofs.NumberLaws.{number-positive}
 use Rattle.sched_core.proofs.QuestionLaws.{memory-positive}
-use Rattle.sched_enqueue.specs.Plan.{SoundQueue, Planned}
+use Rattle.sched_enqueue.specs.Plan.{SoundQueue, Refuses}
 use Rattle.sched_enqueue.proofs.PlanLaws.{Told, yes-told}
 use Rattle.sched_build.proofs.BuildCallLaws.{plan-called}
-use Rattle.bs_sched.specs.declared.Passage.{Passage}
-use Rattle.bs_sched.specs.declared.BuildAnswer.{BuildAnswer}
-use Rattle.bs_sched.specs.Entries.{passage_number, build_answer_of, build_left, left_by}
+use Rattle.bs_sched.specs.Entries.{passage_number, build_left, left_by}
 
--- a plan whose record is stored in the queue is the call on the queue itself
-pub plan-stored : (call : Memory → Outcome) (s : Station) (before after : List ℕ) {reply : Numbered} {next : Station} {place : ℕ}
-    {r : Record} (q z : List Record) → z ≡ set q place r → Planned call s before after reply next place r → SoundQueue s q before
-    → outcome reply (memory next z after) ≡ call (memory s q before)
-plan-stored call s before after {reply} {next} q z stored planned sound =
-    ap (λ (x : List Record). outcome reply (memory next x after)) stored ∙ planned.whole q sound
+-- a refusal leaves the queue, and the store as it came in
+pub refusal-left : (call : Memory → Outcome) (s : Station) (before after : List ℕ) (n : ℕ) (q : List Record) → Refuses call s before after n
+    → SoundQueue s q before → outcome (Numbered.refused n) (memory s q after) ≡ call (memory s q before)
+refusal-left call s before after n q k sound = ap (λ (l : List ℕ). outcome (Numbered.refused n) (memory s q l)) k.store ∙ k.whole q sound
 
 -- ---- questions 1 and 2, asked apart
 
 -- their no is the call's
-refused-first : {A : Type 0} (fine : A) (refused : ℕ → A) (qs own : List Question) → Positive qs → {a : Passage} {r : Refusal}
-    → passage_number a ≡ asked_number qs → a ≡ Passage.No r → refused (refusal_number r) ≡ ask (qs ++ own) fine refused
+refused-first : {A B : Type 0} (fine : A) (refused : ℕ → A) (qs own : List Question) → Positive qs → {a : Result B Refusal} {r : Refusal}
+    → passage_number a ≡ asked_number qs → a ≡ Err r → refused (refusal_number r) ≡ ask (qs ++ own) fine refused
 refused-first {A} fine refused qs own pos {a} {r} e n =
     let same : refusal_number r ≡ asked_number qs = sym (ap passage_number n) ∙ e in
     number-no (λ (i : ℕ) (o : A). refusal_number r ≡ i → refused (refusal_number r) ≡ o) fine refused (λ i p h. ap refused h) qs own pos
@@ -63,14 +60,15 @@ module _ (s : Station) (rs : List Record) (st : List ℕ) where
   positive : (lent : Bool) → Positive (asked lent)
   positive lent = memory-positive (memory s rs st) (question lent 2 ∷ []) (omega arith, tt)
 
-  yes : (lent : Bool) {a : Passage} → passage_number a ≡ asked_number (asked lent) → a ≡ Passage.Passed → AllYes (asked lent)
+  yes : {B : Type 0} (lent : Bool) {a : Result B Refusal} {x : B} → passage_number a ≡ asked_number (asked lent) → a ≡ Ok x → AllYes (asked lent)
   yes lent e passed = number-yes (asked lent) (positive lent) (sym e ∙ ap passage_number passed)
 
-  pub told : (lent : Bool) {a : Passage} → passage_number a ≡ asked_number (asked lent) → a ≡ Passage.Passed → Told s rs st lent
+  pub told : {B : Type 0} (lent : Bool) {a : Result B Refusal} {x : B} → passage_number a ≡ asked_number (asked lent) → a ≡ Ok x → Told s rs st lent
   told lent e passed = yes-told s rs st lent (yes lent e passed)
 
   -- a call that queues refuses what they refuse
-  pub plan-refused : (own : List Question) (fine : Outcome) {a : Passage} {r : Refusal} → passage_number a ≡ asked_number (asked true) → a ≡ Passage.No r
+  pub plan-refused : {B : Type 0} (own : List Question) (fine : Outcome) {a : Result B Refusal} {r : Refusal}
+      → passage_number a ≡ asked_number (asked true) → a ≡ Err r
       → outcome (Numbered.refused (refusal_number r)) (memory s rs st) ≡ judged (memory s rs st) own fine
   unfolding ask
   plan-refused own fine e refused =
@@ -78,9 +76,9 @@ module _ (s : Station) (rs : List Record) (st : List ℕ) where
       refused-first fine (λ n. outcome (Numbered.refused n) m) (asked true) own (positive true) e refused
 
   -- and so does a build
-  module _ (block : List ℕ) {a : Passage} (e : passage_number a ≡ asked_number (memory_questions (memory s rs st) (build_lent block))) where
-    pub build-refused : {r : Refusal} → a ≡ Passage.No r
-        → build_left (build_answer_of (BuildReply.Refused r) [] s) rs st block ≡ left_by (build_call (memory s rs st) block)
+  module _ {B : Type 0} (block : List ℕ) {a : Result B Refusal}
+      (e : passage_number a ≡ asked_number (memory_questions (memory s rs st) (build_lent block))) where
+    pub build-refused : {r : Refusal} → a ≡ Err r → build_left (answer_of s (Err r)) rs st block ≡ left_by (build_call (memory s rs st) block)
     unfolding build_call
     build-refused refused =
         let m = memory s rs st in
@@ -88,8 +86,8 @@ module _ (s : Station) (rs : List Record) (st : List ℕ) where
         (refused-first _ (λ n. not_built (Numbered.refused n) m block) (memory_questions m (build_lent block)) [] (positive (asks_block block).holds) e refused)
 
     -- every question is answered yes, and there is nothing to build
-    pub build-nothing : a ≡ Passage.Passed → builds_now s ≡ false
-        → build_left (build_answer_of BuildReply.NoBlock [] s) rs st block ≡ left_by (build_call (memory s rs st) block)
+    pub build-nothing : {x : B} → a ≡ Ok x → builds_now s ≡ false
+        → build_left (answer_of s (Ok (None, s))) rs st block ≡ left_by (build_call (memory s rs st) block)
     unfolding build_call ask
     build-nothing passed nothing =
         let y = yes (asks_block block).holds e passed in
@@ -97,17 +95,13 @@ module _ (s : Station) (rs : List Record) (st : List ℕ) where
 
   -- every question is answered yes, and of the plan of the current timeslot as many records are stored as were queued
   pub plan-built : (block : List ℕ) → Told s rs st (asks_block block).holds → builds_now s ≡ true → length s.queued ≡ timeslots
-      → (p : Progress) (answer : BuildAnswer) (z : List Record) (st' block' : List ℕ)
+      → (p : Progress) (next : Station) (z : List Record) (st' block' : List ℕ)
       → BuiltIn (built_now (memory s rs st)) block_octets st (per_timeslot * current s) p st' block'
-      → answer ≡ record {
-        reply = BuildReply.Built;
-        tags = p.tags;
-        tag_count = p.tag_count;
-        station = with_queued s (set s.queued (current s) p.left);
-      } → z ≡ paste rs (per_timeslot * current s) p.records (get_or s.queued (current s) 0)
-      → build_left answer z st' block' ≡ left_by (build_call (memory s rs st) block)
-  plan-built block passed builds four p answer z st' block' h ea ez =
-      rw (ea, h.tags, h.tag-count, tags-taken per_timeslot (built_now (memory s rs st)).tags (omega (arith, h.few-tags, h.tag-count)))
+      → next ≡ with_queued s (set s.queued (current s) p.left)
+      → z ≡ paste rs (per_timeslot * current s) p.records (get_or s.queued (current s) 0)
+      → build_left (answer_of s (Ok (Some p.tags, next))) z st' block' ≡ left_by (build_call (memory s rs st) block)
+  plan-built block passed builds four p next z st' block' h en ez =
+      rw (h.tags, h.tag-count, tags-taken per_timeslot (built_now (memory s rs st)).tags (omega (arith, h.few-tags, h.tag-count)))
       (ap left_by
       (plan-called (memory s rs st) passed.station passed.queue.places passed.queue.cells passed.queue.sound block
-      (eqb-true _ _ passed.lengths) builds four p _ z st' block' h refl ez))
+      (eqb-true _ _ passed.lengths) builds four p next z st' block' h en ez))

@@ -1,2 +1,2 @@
+pub mod CellLaws
 pub mod EntryLaws
-pub mod LeftLaws

@@ -1,4 +1,7 @@
 -- The questions that an export asks first, and the words of a queue that passes them. Assumes nothing.
+use Rattle.std.proofs.Common.{Result, Ok}
+use Rattle.questions.specs.declared.Refusal.{Refusal}
+use Rattle.sched_core.specs.Replies.{reply_number, queue_reply}
 use mathlib.Core.Path.{◌≡◌, refl, sym, ap, ◌∙◌}
 use mathlib.Core.Bool.{Bool, true, false, cond}
 use mathlib.Core.List.{List, [], ◌∷◌}
@@ -63,13 +66,16 @@ four-counts ws = go (same_words (station_words (station_read ws)) ws)
     go true = refl
     go false = refl
 
--- no no: the station is sound, and so are queue and store
-pub asked-yes : (s : Station) (qs st : List ℕ) (lent : Bool) (n : ℕ)
-    → n ≡ asked_number (memory_questions (memory s (records_from qs) st) (question lent 2 ∷ [])) → n ≡ 0 → Told s (records_from qs) st lent
-asked-yes s qs st lent n e z =
+-- questions 1 and 2 let the call pass: the station is sound, and so are queue and store
+pub asked-told : (s : Station) (qs st : List ℕ) (lent : Bool) {a : Result (Unit {0}) Refusal} {x : Unit {0}}
+    → reply_number (queue_reply a) ≡ asked_number (memory_questions (memory s (records_from qs) st) (question lent 2 ∷ [])) → a ≡ Ok x
+    → Told s (records_from qs) st lent
+asked-told s qs st lent e passed =
     let m = memory s (records_from qs) st in
     let own = question lent 2 ∷ [] in
-    yes-told s (records_from qs) st lent (number-yes (memory_questions m own) (memory-positive m own (omega arith, tt)) (sym e ∙ z))
+    yes-told s (records_from qs) st lent
+    (number-yes (memory_questions m own) (memory-positive m own (omega arith, tt))
+    (sym e ∙ ap (λ (r : Result (Unit {0}) Refusal). reply_number (queue_reply r)) passed))
 
 -- ---- the words of a sound queue
 

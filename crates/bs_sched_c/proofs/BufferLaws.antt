@@ -3,43 +3,46 @@ use mathlib.Core.Path.{◌≡◌, sym, ap, subst, ◌∙◌}
 use mathlib.Core.List.{List}
 use Prim.Native.Nat.{ℕ}
 use lib.ListN.{length}
-use borrow.Author.Tests.{eq-eqb, ne_eqb}
+use borrow.Author.Tests.{ne_eqb}
+use lib.Dec.{eqb}
+use mathlib.Core.Bool.{true, false}
+use native.Mathlib.Omega.{arith}
+use Rattle.std.proofs.Common.{Result, Ok, Err}
+use Rattle.questions.proofs.NumberLaws.{number-positive}
 use Rattle.sizes.specs.Sizes.{block_octets}
 use Rattle.questions.specs.declared.Refusal.{Refusal}
 use Rattle.questions.specs.Questions.{refusal_number}
 use Rattle.questions.proofs.AskLaws.{first-no, every-yes}
 use Rattle.mac_reader.specs.declared.BlockHeaders.{BlockHeaders}
-use Rattle.mac_reader.specs.Reader.{reading_of, read_block, outcome_number}
+use Rattle.mac_reader.specs.Reader.{reading_of, read_block}
 use Rattle.header_words.specs.HeaderWords.{list_word_count, list_words}
 use Rattle.header_words.proofs.ListLaws.{FewAndLow, listed-low}
-use Rattle.bs_sched_c.specs.declared.buffers.BsSchedRead.{BsSchedRead}
 use Rattle.bs_sched_c.specs.Buffers.{read_struct, read_left, read_left_by, headers_questions, read_block_left}
 
 module _ (block ws : List ℕ) where
-  pub other-list : (length ws ≡ list_word_count → ⊥) → (n : ℕ) → n ≡ refusal_number Refusal.Lengths → (x : BsSchedRead) → x ≡ read_struct n 0
-      → read_left x ws ≡ read_block_left block ws
+  pub other-list : eqb (length ws) list_word_count ≡ false → read_left (read_struct 2 0) ws ≡ read_block_left block ws
   unfolding read_block_left
-  other-list h n e x ex =
-      ap (λ (y : BsSchedRead). read_left y ws) (ex ∙ ap (λ (m : ℕ). read_struct m 0) e)
-      ∙ first-no _ _ 0 (headers_questions ws) tt (ne_eqb _ _ h)
+  other-list h = first-no _ _ 0 (headers_questions ws) tt h
 
-  module _ (size : length ws ≡ list_word_count) (r : BlockHeaders) (read : reading_of r ≡ read_block block_octets block) where
-    pub few-and-low : FewAndLow (reading_of r)
-    few-and-low = subst FewAndLow (sym read) (listed-low block)
-
+  module _ (size : eqb (length ws) list_word_count ≡ true) where
     -- the reader's own reply
-    left_by : read_left_by ws (reading_of r) ≡ read_block_left block ws
+    left_by : (r : Result BlockHeaders Refusal) → reading_of r ≡ read_block block_octets block → read_left_by ws (reading_of r) ≡ read_block_left block ws
     unfolding read_block_left
-    left_by = ap (read_left_by ws) read ∙ every-yes _ _ (headers_questions ws) (tt, eq-eqb _ _ size)
+    left_by r read = ap (read_left_by ws) read ∙ every-yes _ _ (headers_questions ws) (tt, size)
 
-    module _ (n : ℕ) (e : n ≡ outcome_number r.outcome) where
-      pub not_listed : (n ≡ 0 → ⊥) → (x : BsSchedRead) → x ≡ read_struct n 0 → read_left x ws ≡ read_block_left block ws
-      not_listed h x ex =
-          let same : read_left x ws ≡ read_left_by ws (reading_of r) = rw (sym e, ne_eqb _ _ h, ex) in
-          same ∙ left_by
+    pub not_listed : {r : Result BlockHeaders Refusal} → reading_of r ≡ read_block block_octets block → {x : Refusal} → r ≡ Err x
+        → read_left (read_struct (refusal_number x) 0) ws ≡ read_block_left block ws
+    not_listed read {x} h =
+        let none : eqb (refusal_number x) 0 ≡ false = ne_eqb _ _ (λ z. omega (arith, z, number-positive x)) in
+        let same : read_left (read_struct (refusal_number x) 0) ws ≡ read_left_by ws (reading_of (Err x)) = rw none in
+        same ∙ left_by (Err x) (ap reading_of (sym h) ∙ read)
 
-      pub listed : n ≡ 0 → (ws' : List ℕ) → ws' ≡ list_words r.count r.headers → (x : BsSchedRead) → x ≡ read_struct 0 r.count
-          → read_left x ws' ≡ read_block_left block ws
-      listed h ws' ew x ex =
-          let same : read_left x ws' ≡ read_left_by ws (reading_of r) = rw (eq-eqb _ _ (sym e ∙ h), ex, ew) in
-          same ∙ left_by
+    module _ {r : Result BlockHeaders Refusal} (read : reading_of r ≡ read_block block_octets block) {b : BlockHeaders} (h : r ≡ Ok b) where
+      listed-is : reading_of (Ok b) ≡ read_block block_octets block
+      listed-is = ap reading_of (sym h) ∙ read
+
+      pub few-and-low : FewAndLow (reading_of (Ok b))
+      few-and-low = subst FewAndLow (sym listed-is) (listed-low block)
+
+      pub listed : {ws' : List ℕ} → ws' ≡ list_words b.count b.headers → read_left (read_struct 0 b.count) ws' ≡ read_block_left block ws
+      listed ew = ap (read_left (read_struct 0 b.count)) ew ∙ left_by (Ok b) listed-is

@@ -1,4 +1,7 @@
 -- What the export of a build leaves, exit by exit. Assumes nothing.
+use Rattle.std.proofs.Common.{Result, Err}
+use Rattle.questions.specs.declared.Refusal.{Refusal}
+use Rattle.questions.proofs.NumberLaws.{number-positive}
 use mathlib.Core.Path.{◌≡◌, refl, sym, ap, ◌∙◌}
 use mathlib.Core.Bool.{true, false}
 use mathlib.Core.List.{List, [], ◌∷◌}
@@ -13,20 +16,19 @@ use Rattle.dl_send.specs.declared.Progress.{Progress}
 use Rattle.dl_send.specs.Arrays.{tag_row}
 use Rattle.dl_build.specs.Build.{BuiltIn}
 use Rattle.sched_core.specs.declared.Station.{Station}
-use Rattle.questions.specs.Questions.{ask, asked_number}
+use Rattle.questions.specs.Questions.{refusal_number, ask, asked_number}
 use Rattle.questions.proofs.AskLaws.{number-no}
 use Rattle.sched_core.specs.Station.{with_queued}
 use Rattle.sched_core.specs.Questions.{Memory, sound_station, memory_questions, build_lent}
-use Rattle.sched_core.specs.Replies.{Numbered}
+use Rattle.sched_core.specs.Replies.{Numbered, reply_number, queue_reply}
 use Rattle.sched_core.specs.Calls.{BuildOutcome, current, builds_now, built_now, build_call}
 use Rattle.sched_core.specs.Calls.{not_built as nothing}
 use Rattle.sched_core.proofs.QuestionLaws.{memory-positive}
-use Rattle.sched_core.proofs.StationLaws.{sound-time}
+use Rattle.sched_core.proofs.StationLaws.{sound-time, current-low, few-now}
 use Rattle.sched_enqueue.specs.Plan.{SoundQueue}
 use Rattle.sched_build.proofs.BuildCallLaws as plan
 use Rattle.sched_words.specs.Words.{station_word_count, record_word_count, station_words, station_from, queue_words, records_from}
 use Rattle.sched_words.proofs.RoundTrip.{station-words-back}
-use Rattle.bs_sched_c.specs.declared.reply.BsSchedBuilt.{BsSchedBuilt}
 use Rattle.bs_sched_c.specs.Exports.{asks_station_words, memory_from, not_built_struct, BuildWordsLeft, build_words_left, build_words_left_by}
 use Rattle.bs_sched_c.proofs.AskedLaws.{four-counts, words_back, records-stored}
 use Rattle.bs_sched_c.proofs.LeftLaws.{is-station}
@@ -53,26 +55,29 @@ module _ (ws qs st block : List ℕ) (size : length ws ≡ station_word_count) w
   refused-left n p = rw (ne_eqb n 0 (λ z. omega (arith, z, p)))
 
   -- a no to one of the questions
-  pub build-no : (n : ℕ) → n ≡ asked_number (memory_questions m (build_lent block)) → (n ≡ 0 → ⊥)
-      → (x : BsSchedBuilt) → x ≡ not_built_struct n → build_words_left x ws qs st block ≡ promised
+  pub build-no : {a : Result (Unit {0}) Refusal} {x : Refusal} → a ≡ Err x
+      → reply_number (queue_reply a) ≡ asked_number (memory_questions m (build_lent block)) → no (refusal_number x) ≡ promised
   unfolding build_call
-  build-no n e h x ex =
-      ap (λ (y : BsSchedBuilt). build_words_left y ws qs st block) (ex ∙ ap not_built_struct e)
+  build-no {a} {x} told e =
+      let same : refusal_number x ≡ asked_number (memory_questions m (build_lent block)) =
+      sym (ap (λ (r : Result (Unit {0}) Refusal). reply_number (queue_reply r)) told) ∙ e in
+      ap no same
       ∙ is-station ws _ no size
       (number-no (λ (i : ℕ) (o : BuildOutcome). build_words_left (not_built_struct i) ws qs st block ≡ build_words_left_by ws qs st block o) _
       (λ i. nothing (Numbered.refused i) m block)
-      refused-left (memory_questions m (build_lent block)) [] (memory-positive m (build_lent block) (omega arith, tt)) (λ z. h (e ∙ z)))
+      refused-left (memory_questions m (build_lent block)) [] (memory-positive m (build_lent block) (omega arith, tt))
+      (λ z. omega (arith, same, z, number-positive x)))
 
   -- every question is answered yes
   module _ (good : sound_station s ≡ true) (full : length block ≡ block_octets) (queue : SoundQueue s (records_from qs) st) where
     -- no block: station and queue keep their words
-    pub build-none : builds_now s ≡ false → (x : BsSchedBuilt) → x ≡ not_built_struct 0 → build_words_left x ws qs st block ≡ promised
+    pub build-none : builds_now s ≡ false → no 0 ≡ promised
     unfolding tag_row
-    build-none idle x ex =
+    build-none idle =
         let o : nothing Numbered.no_block m block ≡ build_call m block = plan.none-called m good queue.places queue.cells
         queue.sound block full idle in
         is-station ws _ no size
-        ((λ i. build_words_left (ex i) (sym (station-words-back ws good) i) (sym (words_back ws qs st queue) i) st block)
+        ((λ i. build_words_left (not_built_struct 0) (sym (station-words-back ws good) i) (sym (words_back ws qs st queue) i) st block)
         ∙ ap (build_words_left_by ws qs st block) o)
 
     -- a block: as many records of the current timeslot are stored as were queued
@@ -80,10 +85,10 @@ module _ (ws qs st block : List ℕ) (size : length ws ≡ station_word_count) w
         → BuiltIn (built_now m) block_octets st (per_timeslot * current s) p st' block'
         → ws' ≡ station_words (with_queued s (set s.queued (current s) p.left))
         → qs' ≡ sets qs (record_word_count * (per_timeslot * current s)) (queue_words (take (get_or s.queued (current s) 0) p.records))
-        → build_words_left (record { refusal = 0; built = 1; tag_count = p.tag_count; tags = p.tags }) ws' qs' st' block' ≡ promised
+        → build_words_left (record { refusal = 0; built = 1; tag_count = p.tags.tag_count; tags = p.tags.tags }) ws' qs' st' block' ≡ promised
     build-built can p st' block' ws' qs' h ew eq =
-        let low = plan.current-low s (sound-time s good) in
-        let few = plan.few-now s good (four-counts ws) in
+        let low = current-low s (sound-time s good) in
+        let few = few-now s good (four-counts ws) in
         let row = ap length h.records ∙ length-records per_timeslot (built_now m).left in
         let stored = eq ∙ records-stored ws qs st queue (per_timeslot * current s) (get_or s.queued (current s) 0) (omega (arith, low, few)) p.records
         (omega (arith, few, row)) in

@@ -1,10 +1,12 @@
 -- What an export leaves, exit by exit. Assumes nothing.
 use mathlib.Core.Path.{◌≡◌, refl, sym, ap, ◌∙◌}
-use mathlib.Core.Bool.{true, false}
+use Rattle.std.proofs.Common.{Result, Ok, Err}
+use lib.Dec.{eqb}
+use mathlib.Core.Bool.{Bool, true, false, cond}
 use mathlib.Core.List.{List, [], ◌∷◌}
-use Prim.Native.Nat.{ℕ, zero, suc, ◌*◌, ◌≤◌}
+use Prim.Native.Nat.{ℕ, ◌*◌, ◌≤◌}
 use native.Mathlib.Omega.{arith}
-use lib.ListN.{length, set}
+use lib.ListN.{length}
 use lib.Seq.{sets}
 use borrow.Author.Tests.{eq-eqb, ne_eqb}
 use Rattle.tdma_time.specs.declared.TdmaTime.{TdmaTime}
@@ -14,15 +16,20 @@ use Rattle.uplink.specs.declared.PhyBlockNum.{PhyBlockNum}
 use Rattle.uplink.specs.UplinkEntry.{entry_at, usage_of, usage_number, marker_of_usage, marker_or_zero}
 use Rattle.dl_record.specs.declared.Record.{Record}
 use Rattle.sched_core.specs.declared.Station.{Station}
-use Rattle.questions.specs.Questions.{Question, question, ask, asked_number}
+use Rattle.questions.specs.Questions.{Question, question, refusal_number, ask, asked_number}
 use Rattle.questions.proofs.AskLaws.{first-no, every-yes, yes-before, number-yes, number-no}
 use Rattle.sched_core.specs.Station.{new_station, advanced_station}
-use Rattle.sched_core.specs.Questions.{Memory, memory, sound_station, memory_questions}
-use Rattle.sched_core.specs.Replies.{Numbered, reply_number}
+use Rattle.sched_core.specs.Questions.{Memory, sound_station, memory_questions}
+use Rattle.sched_core.specs.Replies.{Numbered, reply_number, queue_reply}
 use Rattle.sched_core.specs.Calls.{Outcome, outcome, judged, new_call, advance_call, owner_call, usage_call}
 use Rattle.sched_core.proofs.QuestionLaws.{memory-positive}
 use Rattle.sched_core.proofs.ReplyLaws.{usage-numbered}
-use Rattle.sched_enqueue.specs.Plan.{SoundQueue, Planned}
+use Rattle.sched_enqueue.specs.declared.Joining.{Joining}
+use Rattle.sched_enqueue.specs.Plan.{SoundQueue, Joins, Refuses, joined_queued, plan_queued, plan_of}
+use Rattle.uplink.specs.declared.Uplink.{Uplink}
+use Rattle.std.specs.Prelude.{IfOk}
+use Rattle.questions.specs.declared.Refusal.{Refusal}
+use Rattle.questions.proofs.NumberLaws.{number-positive}
 use Rattle.sched_words.specs.Words.{station_word_count, record_word_count, station_words, station_from, record_words, records_from}
 use Rattle.bs_sched_c.specs.declared.reply.BsSchedGrant.{BsSchedGrant}
 use Rattle.bs_sched_c.specs.declared.reply.BsSchedOwners.{BsSchedOwners}
@@ -30,24 +37,27 @@ use Rattle.bs_sched_c.specs.Exports.{no_owners_struct, entry_owners, owners_stru
 use Rattle.bs_sched_c.specs.Exports.{asks_station_words, time_then_words, left, memory_from, words_left_by, not_granted_struct, grant_struct}
 use Rattle.bs_sched_c.proofs.AskedLaws.{record-stored}
 
+-- a question that refuses
+pub asked-no : (b : Bool) (q : Refusal) {a : Result (Unit {0}) Refusal} {r : Refusal} → a ≡ cond b (Ok tt) (Err q) → a ≡ Err r → (b ≡ false) × (r ≡ q)
+asked-no true q e h = absurd (cc)
+asked-no false q e h = (refl, cc)
+
 -- a station of its number of words, and one of another
 module _ {A : Type 0} (ws : List ℕ) (done : A) (refused : ℕ → A) where
   pub is-station : {a : A} → length ws ≡ station_word_count → a ≡ done → a ≡ ask (asks_station_words ws ∷ []) done refused
   is-station h e = e ∙ every-yes done refused (asks_station_words ws ∷ []) (tt, eq-eqb _ _ h)
 
   -- with further questions
-  pub no-station : (more : List Question) → (length ws ≡ station_word_count → ⊥)
-      → refused 2 ≡ ask (asks_station_words ws ∷ more) done refused
-  no-station more h = first-no done refused 0 (asks_station_words ws ∷ more) tt (ne_eqb _ _ h)
+  pub no-station : (more : List Question) → eqb (length ws) station_word_count ≡ false → refused 2 ≡ ask (asks_station_words ws ∷ more) done refused
+  no-station more h = first-no done refused 0 (asks_station_words ws ∷ more) tt h
 
   -- behind a time that is given
   module _ (x : TdmaTime) where
     pub no-time : valid x ≡ false → refused 1 ≡ ask (time_then_words x ws) done refused
     no-time v = first-no done refused 0 (time_then_words x ws) tt v
 
-    pub no-station-then : valid x ≡ true → (length ws ≡ station_word_count → ⊥)
-        → refused 2 ≡ ask (time_then_words x ws) done refused
-    no-station-then v h = first-no done refused 1 (time_then_words x ws) (tt, v) (ne_eqb _ _ h)
+    pub no-station-then : valid x ≡ true → eqb (length ws) station_word_count ≡ false → refused 2 ≡ ask (time_then_words x ws) done refused
+    no-station-then v h = first-no done refused 1 (time_then_words x ws) (tt, v) h
 
     pub is-station-then : {a : A} → valid x ≡ true → length ws ≡ station_word_count → a ≡ done → a ≡ ask (time_then_words x ws) done refused
     is-station-then v h e = e ∙ every-yes done refused (time_then_words x ws) ((tt, v), eq-eqb _ _ h)
@@ -94,6 +104,15 @@ module _ (s : Station) (x : TdmaTime) where
 
 -- ---- calls that queue
 
+-- what the counts alone gave, for the station of an uplink
+pub joined-uplink : (u : Uplink) (r : Result Joining Refusal) → IfOk (plan_of u r) (λ p. p.station.uplink ≡ u)
+joined-uplink u (Ok j) = refl
+joined-uplink u (Err x) = tt
+
+pub joined-plan : (s : Station) (st : List ℕ) (r : Result Joining Refusal) → plan_queued (plan_of s.uplink r) s st ≡ joined_queued r s.queued st
+joined-plan s st (Ok j) = refl
+joined-plan s st (Err x) = refl
+
 -- how such a call answers: its replies, and its refusals, as the export's
 pub record Replies (R : Type 0) : Type 0 where
   pub reply : Numbered → R
@@ -105,10 +124,6 @@ queue_replies = record { reply = reply_number; numbered = λ n. n; told = λ n. 
 
 abbrev pub grant_replies : Replies BsSchedGrant
 grant_replies = record { reply = grant_struct; numbered = not_granted_struct; told = λ n. refl }
-
-positive : (n : ℕ) → (n ≡ 0 → ⊥) → 1 ≤ n
-positive zero h = absurd (h refl)
-positive (suc n) h = omega arith
 
 -- a station of its number of words
 module _ {R : Type 0} (k : Replies R) (ws qs st : List ℕ) (size : length ws ≡ station_word_count) where
@@ -128,47 +143,52 @@ module _ {R : Type 0} (k : Replies R) (ws qs st : List ℕ) (size : length ws �
   refused-left a m' o e h = rw (sym e, ne_eqb _ _ h)
 
   -- a no to one of the first questions
-  pub exit-no : (own : List Question) (fine : Outcome) (n : ℕ)
-      → n ≡ asked_number (memory_questions m (question true 2 ∷ [])) → (n ≡ 0 → ⊥)
-      → (x : R) → x ≡ k.numbered n → left x ws qs st ≡ promised (judged m own fine)
-  unfolding ask
-  exit-no own fine n e h x ex =
-      ap (λ (y : R). left y ws qs st) (ex ∙ ap k.numbered e)
-      ∙ is-station ws _ no size
-      (number-no (λ (i : ℕ) (o : Outcome). left (k.numbered i) ws qs st ≡ words_left_by k.reply ws qs st o) fine (λ i. outcome (Numbered.refused i) m)
-      (λ i p. ap (λ (y : R). left y ws qs st) (k.told i) ∙ refused-left (Numbered.refused i) m _ refl (λ z. omega (arith, z, p)))
-      (memory_questions m []) own (memory-positive m [] tt) (λ z. h (e ∙ z)))
+  module _ {a : Result (Unit {0}) Refusal} {x : Refusal} (no-is : a ≡ Err x) where
+    same : {n : ℕ} → reply_number (queue_reply a) ≡ n → refusal_number x ≡ n
+    same e = sym (ap (λ (r : Result (Unit {0}) Refusal). reply_number (queue_reply r)) no-is) ∙ e
 
-  -- where the length of what else is lent is asked too: a no, and a yes to all
-  module _ (lent : Question) (positive-lent : 1 ≤ lent.number) (n : ℕ) (e : n ≡ asked_number (memory_questions m (lent ∷ []))) (done : Left R) where
-    pub lent-no : (n ≡ 0 → ⊥) → no n ≡ ask (asks_station_words ws ∷ memory_questions m (lent ∷ [])) done no
-    lent-no h =
-        ap no e
+    pub exit-no : (own : List Question) (fine : Outcome) → reply_number (queue_reply a) ≡ asked_number (memory_questions m (question true 2 ∷ []))
+        → left (k.numbered (refusal_number x)) ws qs st ≡ promised (judged m own fine)
+    unfolding ask
+    exit-no own fine e =
+        ap no (same e)
+        ∙ is-station ws _ no size
+        (number-no (λ (i : ℕ) (o : Outcome). left (k.numbered i) ws qs st ≡ words_left_by k.reply ws qs st o) fine (λ i. outcome (Numbered.refused i) m)
+        (λ i p. ap (λ (y : R). left y ws qs st) (k.told i) ∙ refused-left (Numbered.refused i) m _ refl (λ z. omega (arith, z, p)))
+        (memory_questions m []) own (memory-positive m [] tt) (λ z. omega (arith, same e, z, number-positive x)))
+
+    -- where the length of what else is lent is asked too
+    pub lent-no : (lent : Question) → 1 ≤ lent.number → reply_number (queue_reply a) ≡ asked_number (memory_questions m (lent ∷ [])) → (done : Left R)
+        → no (refusal_number x) ≡ ask (asks_station_words ws ∷ memory_questions m (lent ∷ [])) done no
+    lent-no lent positive e done =
+        ap no (same e)
         ∙ number-no (λ (i : ℕ) (o : Left R). no i ≡ o) done no (λ i p. refl) (memory_questions m (lent ∷ [])) []
-        (memory-positive m (lent ∷ []) (positive-lent, tt)) (λ z. h (e ∙ z))
+        (memory-positive m (lent ∷ []) (positive, tt)) (λ z. omega (arith, same e, z, number-positive x))
         ∙ sym (yes-before done no (asks_station_words ws ∷ []) (memory_questions m (lent ∷ [])) (eq-eqb _ _ size, tt))
 
-    pub lent-yes : n ≡ 0 → {a : Left R} → a ≡ ask (asks_station_words ws ∷ []) done no
-        → a ≡ ask (asks_station_words ws ∷ memory_questions m (lent ∷ [])) done no
-    lent-yes z a =
-        a ∙ yes-before done no (asks_station_words ws ∷ []) [] (eq-eqb _ _ size, tt)
-        ∙ sym (yes-before done no (asks_station_words ws ∷ memory_questions m (lent ∷ [])) []
-        (eq-eqb _ _ size, number-yes (memory_questions m (lent ∷ [])) (memory-positive m (lent ∷ []) (positive-lent, tt)) (sym e ∙ z)))
+  -- and a yes to all
+  pub lent-yes : (lent : Question) → 1 ≤ lent.number → {a : Result (Unit {0}) Refusal} {x : Unit {0}} → a ≡ Ok x
+      → reply_number (queue_reply a) ≡ asked_number (memory_questions m (lent ∷ [])) → (l done : Left R) → l ≡ ask (asks_station_words ws ∷ []) done no
+      → l ≡ ask (asks_station_words ws ∷ memory_questions m (lent ∷ [])) done no
+  lent-yes lent positive passed e l done h =
+      let none : asked_number (memory_questions m (lent ∷ [])) ≡ 0 =
+      sym e ∙ ap (λ (r : Result (Unit {0}) Refusal). reply_number (queue_reply r)) passed in
+      h ∙ yes-before done no (asks_station_words ws ∷ []) [] (eq-eqb _ _ size, tt)
+      ∙ sym (yes-before done no (asks_station_words ws ∷ memory_questions m (lent ∷ [])) []
+      (eq-eqb _ _ size, number-yes (memory_questions m (lent ∷ [])) (memory-positive m (lent ∷ []) (positive, tt)) none))
 
   -- every one of them is answered yes: there is a plan
-  module _ (queue : SoundQueue (station_from ws) (records_from qs) st) (call : Memory → Outcome) (st' : List ℕ) (a : Numbered) (s' : Station) (place : ℕ)
-      (r : Record) (plan : Planned call (station_from ws) st st' a s' place r) (n : ℕ) (en : n ≡ reply_number a) (x : R) (ex : x ≡ k.reply a) where
-    called : outcome a (memory s' (set (records_from qs) place r) st') ≡ call m
-    called = plan.whole (records_from qs) queue
+  module _ (queue : SoundQueue (station_from ws) (records_from qs) st) (call : Memory → Outcome) (st' : List ℕ) where
+    pub exit-refused : (x : Refusal) → Refuses call (station_from ws) st st' (refusal_number x)
+        → left (k.reply (Numbered.refused (refusal_number x))) ws qs st' ≡ promised (call m)
+    exit-refused x plan =
+        ap (λ (l : List ℕ). left (k.reply (Numbered.refused (refusal_number x))) ws qs l) plan.store
+        ∙ is-station ws _ no size
+        (refused-left (Numbered.refused (refusal_number x)) m _ (plan.whole (records_from qs) queue) (λ z. omega (arith, z, number-positive x)))
 
-    pub exit-refused : (n ≡ 0 → ⊥) → left x ws qs st' ≡ promised (call m)
-    exit-refused h =
-        let not-0 : reply_number a ≡ 0 → ⊥ = λ z. h (en ∙ z) in
-        ap (λ (l : List ℕ). left x ws qs l) (plan.refused (positive (reply_number a) not-0)).2
-        ∙ is-station ws _ no size (ap (λ (y : R). left y ws qs st) ex ∙ refused-left a (memory s' (set (records_from qs) place r) st') _ called not-0)
-
-    pub exit-done : n ≡ 0 → (ws' qs' : List ℕ) → ws' ≡ station_words s' → qs' ≡ sets qs (record_word_count * place) (record_words r)
-        → left x ws' qs' st' ≡ promised (call m)
-    exit-done h ws' qs' ew eq =
+    pub exit-done : (a : Numbered) (s' : Station) (place : ℕ) (r : Record) → Joins call (station_from ws) st st' a s' place r
+        → (ws' qs' : List ℕ) → ws' ≡ station_words s' → qs' ≡ sets qs (record_word_count * place) (record_words r)
+        → left (k.reply a) ws' qs' st' ≡ promised (call m)
+    exit-done a s' place r plan ws' qs' ew eq =
         is-station ws _ no size
-        (rw (sym called, ex, ew, eq, record-stored ws qs st queue place (plan.joins (sym en ∙ h)) r, eq-eqb _ _ (sym en ∙ h)))
+        (rw (sym (plan.whole (records_from qs) queue), ew, eq, record-stored ws qs st queue place plan.place-in-queue r, eq-eqb _ _ plan.done))

@@ -1,7 +1,8 @@
 -- What the block reader, the header writer and fill removal answer and leave, with headers as words. Assumes nothing.
-use Rattle.std.specs.Prelude.{◌≡◌, cond, List, [], ◌∷◌, ℕ, eqb, length, get_or}
+use Rattle.std.specs.Prelude.{◌≡◌, cond, List, [], ◌∷◌, ℕ, eqb, length, get_or, Result, Ok, Err}
 use Rattle.sizes.specs.Sizes.{block_octets}
-use Rattle.questions.specs.Questions.{Question, question, ask}
+use Rattle.questions.specs.declared.Refusal.{Refusal}
+use Rattle.questions.specs.Questions.{Question, question, refusal_number, ask}
 use Rattle.bitbuffer.specs.Bits.{bits_of}
 use Rattle.mac_reader.specs.Reader.{Reading, read_block}
 use Rattle.header_words.specs.HeaderWords.{list_word_count, list_words, write_words_reply, bits_after_words}
@@ -13,6 +14,11 @@ use Rattle.bs_sched_c.specs.declared.buffers.BsSchedFill.{BsSchedFill}
 
 abbrev pub read_struct : ℕ → ℕ → BsSchedRead
 read_struct n count = record { refusal = n; count = count }
+
+-- how many headers are listed, or a refusal
+abbrev pub read_of : Result ℕ Refusal → BsSchedRead
+read_of (Ok count) = read_struct 0 count
+read_of (Err r) = read_struct (refusal_number r) 0
 
 -- all that it answers and leaves
 pub record ReadLeft : Type 0 where

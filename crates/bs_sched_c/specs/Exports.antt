@@ -1,18 +1,20 @@
 -- What each exported function answers and leaves, by the calls of document 01 on what the caller's words stand for. Assumes nothing.
-use Rattle.std.specs.Prelude.{cond, List, [], ◌∷◌, ℕ, eqb, length, replicate}
+use Rattle.std.specs.Prelude.{cond, List, [], ◌∷◌, ℕ, eqb, length, replicate, Option, Some, None, Result, Ok, Err}
 use Rattle.sizes.specs.Sizes.{per_timeslot}
 use Rattle.tdma_time.specs.declared.TdmaTime.{TdmaTime}
 use Rattle.uplink.specs.declared.PhyBlockNum.{PhyBlockNum}
 use Rattle.uplink.specs.declared.Entry.{Entry}
-use Rattle.uplink.specs.UplinkEntry.{owner_of, marker_or_zero}
+use Rattle.uplink.specs.UplinkEntry.{owner_of, usage_of, usage_number, marker_of_usage, marker_or_zero}
 use Rattle.dl_send.specs.Arrays.{tag_row}
-use Rattle.questions.specs.Questions.{Question, question, ask}
+use Rattle.questions.specs.declared.Refusal.{Refusal}
+use Rattle.questions.specs.Questions.{Question, question, refusal_number, ask}
+use Rattle.dl_send.specs.declared.Tags.{Tags}
 use Rattle.sched_core.specs.Station.{new_station}
 use Rattle.sched_core.specs.Questions.{Memory, memory, asks_time, memory_questions}
 use Rattle.sched_core.specs.Replies.{Numbered, reply_number, tags_in}
 use Rattle.sched_core.specs.Calls.{Outcome, StationOutcome, BuildOutcome}
 use Rattle.sched_core.specs.Calls.{advance_call, owner_call, usage_call, request_call, ack_call, tma_call, build_call}
-use Rattle.sched_words.specs.Words.{station_word_count, record_word_count, word_of32, station_words, station_from, queue_words, records_from, offered_from}
+use Rattle.sched_words.specs.Words.{station_word_count, record_word_count, opt_word, station_words, station_from, queue_words, records_from, offered_from}
 use Rattle.bs_sched_c.specs.declared.reply.BsSchedGrant.{BsSchedGrant}
 use Rattle.bs_sched_c.specs.declared.reply.BsSchedBuilt.{BsSchedBuilt}
 use Rattle.bs_sched_c.specs.declared.reply.BsSchedOwners.{BsSchedOwners}
@@ -58,7 +60,7 @@ owner_word (Numbered.refused n) = 0
 owner_word (Numbered.granted c d m) = 0
 owner_word (Numbered.block octets tags) = 0
 owner_word Numbered.no_block = 0
-owner_word (Numbered.owned o) = word_of32 o
+owner_word (Numbered.owned o) = opt_word o
 owner_word (Numbered.used n m) = 0
 
 -- "On a no, the number is the whole reply": all else 0
@@ -70,9 +72,9 @@ abbrev pub entry_owners : Entry → BsSchedOwners
 entry_owners e =
     record {
       refusal = 0;
-      both = word_of32 (owner_of PhyBlockNum.Both e);
-      first = word_of32 (owner_of PhyBlockNum.Block1 e);
-      second = word_of32 (owner_of PhyBlockNum.Block2 e);
+      both = opt_word (owner_of PhyBlockNum.Both e);
+      first = opt_word (owner_of PhyBlockNum.Block1 e);
+      second = opt_word (owner_of PhyBlockNum.Block2 e);
     }
 
 abbrev pub owners_struct : Numbered → Numbered → Numbered → BsSchedOwners
@@ -90,6 +92,23 @@ usage_struct_of (Numbered.block octets tags) = usage_struct 0 0 0
 usage_struct_of Numbered.no_block = usage_struct 0 0 0
 usage_struct_of (Numbered.owned o) = usage_struct 0 0 0
 usage_struct_of (Numbered.used n m) = usage_struct 0 n (marker_or_zero m)
+
+-- ---- the same by the code's answers
+
+-- the tags of a build: as many as a timeslot has places, zeros behind those that come back
+abbrev pub built_of : Result (Option Tags) Refusal → BsSchedBuilt
+built_of (Ok (Some t)) = record { refusal = 0; built = 1; tag_count = t.tag_count; tags = t.tags }
+built_of (Ok None) = not_built_struct 0
+built_of (Err r) = not_built_struct (refusal_number r)
+
+-- of the slot of an entry
+abbrev pub owners_of : Result Entry Refusal → BsSchedOwners
+owners_of (Ok e) = entry_owners e
+owners_of (Err r) = no_owners_struct (refusal_number r)
+
+abbrev pub usage_of_slot : Result Entry Refusal → BsSchedUsage
+usage_of_slot (Ok e) = usage_struct 0 (usage_number (usage_of e)) (marker_or_zero (marker_of_usage (usage_of e)))
+usage_of_slot (Err r) = usage_struct (refusal_number r) 0 0
 
 -- the time that a caller names
 abbrev pub time_at : ℕ → ℕ → ℕ → ℕ → TdmaTime

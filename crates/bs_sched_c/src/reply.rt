@@ -1,13 +1,13 @@
 // The replies of the exported functions, and how the scheduler's replies become them.
 ghost use Rattle.std.specs.Prelude.{◌≡◌};
-ghost use Rattle.uplink.specs.UplinkEntry.{usage_number, marker_of_usage, marker_or_zero};
 ghost use Rattle.sched_core.specs.Replies.{reply_number, queue_reply, request_reply};
-ghost use Rattle.bs_sched_c.specs.Exports.{not_granted_struct, grant_struct, not_built_struct, no_owners_struct, entry_owners, usage_struct};
+ghost use Rattle.bs_sched_c.specs.Exports.{grant_struct, not_built_struct, built_of, owners_of, usage_of_slot};
 
-use optional::OptU8;
-use sched_core::{Reply, RequestReply};
+use dl_send::Tags;
+use questions::Refusal;
+use sched_words::word::Field;
 use sizes::PER_TIMESLOT;
-use uplink::{AccessAssignUlUsage, Entry, PhyBlockNum};
+use uplink::{AccessAssignUlUsage, Entry, Grant, PhyBlockNum};
 
 // The grant of a request; usage_marker is 0 if there is none.
 #[repr(C)]
@@ -48,108 +48,111 @@ pub struct BsSchedUsage {
     pub usage_marker: u8,
 }
 
-pub fn reply_number(r: Reply) -> u8
-    ensures { result ≡ reply_number (queue_reply r) }
+// The number of a reply: 0 for done.
+pub fn number(reply: Result<(), Refusal>) -> u8
+    ensures { result ≡ reply_number (queue_reply reply) }
 {
-    match r {
-        Reply::Done => 0,
-        Reply::Refused(q) => questions::number(q),
+    match reply {
+        Ok(()) => 0,
+        Err(refusal) => u8::from(refusal),
     }
 }
 
-pub fn not_granted(n: u8) -> BsSchedGrant
-    ensures { result ≡ not_granted_struct n }
-{
-    BsSchedGrant {
-        refusal: n,
-        capacity: 0,
-        delay: 0,
-        usage_marker: 0,
+impl From<Result<Grant, Refusal>> for BsSchedGrant {
+    ghost from_gives = { λ reply x. x ≡ grant_struct (request_reply reply) };
+
+    fn from(reply: Result<Grant, Refusal>) -> BsSchedGrant {
+        match reply {
+            Ok(grant) => BsSchedGrant {
+                refusal: 0,
+                capacity: grant.capacity,
+                delay: grant.delay,
+                usage_marker: grant.usage_marker.unwrap_or(0),
+            },
+            Err(refusal) => BsSchedGrant {
+                refusal: u8::from(refusal),
+                capacity: 0,
+                delay: 0,
+                usage_marker: 0,
+            },
+        }
     }
 }
 
-fn granted(capacity: u8, delay: u8, usage_marker: OptU8) -> BsSchedGrant
-    ensures { result ≡ record { refusal = 0; capacity = capacity; delay = delay; usage_marker = marker_or_zero usage_marker } }
-{
-    let m = uplink::marker_or_zero(usage_marker);
-    BsSchedGrant {
+impl BsSchedBuilt {
+    // No block.
+    const NOTHING: BsSchedBuilt = BsSchedBuilt {
         refusal: 0,
-        capacity: capacity,
-        delay: delay,
-        usage_marker: m,
-    }
-}
-
-pub fn grant_of(r: RequestReply) -> BsSchedGrant
-    ensures { result ≡ grant_struct (request_reply r) }
-{
-    match r {
-        RequestReply::Granted {
-            capacity,
-            delay,
-            usage_marker,
-        } => granted(capacity, delay, usage_marker),
-        RequestReply::Refused(q) => not_granted(questions::number(q)),
-    }
-}
-
-pub fn not_built(n: u8) -> BsSchedBuilt
-    ensures { result ≡ not_built_struct n }
-{
-    BsSchedBuilt {
-        refusal: n,
         built: 0,
         tag_count: 0,
-        tags: [0u16; PER_TIMESLOT],
+        tags: [0; PER_TIMESLOT],
+    };
+}
+
+impl From<Result<Option<Tags>, Refusal>> for BsSchedBuilt {
+    ghost from_gives = { λ reply x. x ≡ built_of reply };
+
+    fn from(reply: Result<Option<Tags>, Refusal>) -> BsSchedBuilt {
+        match reply {
+            Ok(Some(back)) => {
+                // Kept: the check does not cover an array that goes from one value's field straight into another's; tried, by pattern too.
+                let tags = back.tags;
+                BsSchedBuilt {
+                    refusal: 0,
+                    built: 1,
+                    tag_count: back.tag_count,
+                    tags,
+                }
+            }
+            Ok(None) => BsSchedBuilt::NOTHING,
+            Err(refusal) => BsSchedBuilt {
+                refusal: u8::from(refusal),
+                ..BsSchedBuilt::NOTHING
+            },
+        }
     }
 }
 
-pub fn no_owners(n: u8) -> BsSchedOwners
-    ensures { result ≡ no_owners_struct n }
-{
-    BsSchedOwners {
-        refusal: n,
-        both: 0,
-        first: 0,
-        second: 0,
+// The owners of the slot of an entry.
+impl From<Result<Entry, Refusal>> for BsSchedOwners {
+    ghost from_gives = { λ slot x. x ≡ owners_of slot };
+
+    fn from(slot: Result<Entry, Refusal>) -> BsSchedOwners {
+        match slot {
+            Ok(entry) => BsSchedOwners {
+                refusal: 0,
+                both: entry.owner(PhyBlockNum::Both).word(),
+                first: entry.owner(PhyBlockNum::Block1).word(),
+                second: entry.owner(PhyBlockNum::Block2).word(),
+            },
+            Err(refusal) => BsSchedOwners {
+                refusal: u8::from(refusal),
+                both: 0,
+                first: 0,
+                second: 0,
+            },
+        }
     }
 }
 
-// The owners of an entry's slot.
-pub fn owners_of(e: Entry) -> BsSchedOwners
-    ensures { result ≡ entry_owners e }
-{
-    let both = uplink::owner_of(e, PhyBlockNum::Both);
-    let first = uplink::owner_of(e, PhyBlockNum::Block1);
-    let second = uplink::owner_of(e, PhyBlockNum::Block2);
-    let b = sched_words::word::word_of_32(both);
-    let x = sched_words::word::word_of_32(first);
-    let y = sched_words::word::word_of_32(second);
-    BsSchedOwners {
-        refusal: 0,
-        both: b,
-        first: x,
-        second: y,
-    }
-}
+// How the slot of an entry is used.
+impl From<Result<Entry, Refusal>> for BsSchedUsage {
+    ghost from_gives = { λ slot x. x ≡ usage_of_slot slot };
 
-pub fn usage_answer(n: u8, usage: u8, usage_marker: u8) -> BsSchedUsage
-    ensures { result ≡ usage_struct n usage usage_marker }
-{
-    BsSchedUsage {
-        refusal: n,
-        usage: usage,
-        usage_marker: usage_marker,
-    }
-}
-
-pub fn usage_found(u: AccessAssignUlUsage) -> BsSchedUsage
-    ensures { result ≡ usage_struct 0 (usage_number u) (marker_or_zero (marker_of_usage u)) }
-{
-    match u {
-        AccessAssignUlUsage::CommonOnly => usage_answer(0, 0, 0),
-        AccessAssignUlUsage::CommonAndAssigned => usage_answer(0, 1, 0),
-        AccessAssignUlUsage::AssignedOnly => usage_answer(0, 2, 0),
-        AccessAssignUlUsage::Traffic(m) => usage_answer(0, 3, m),
+    fn from(slot: Result<Entry, Refusal>) -> BsSchedUsage {
+        let (refusal, usage, usage_marker) = match slot {
+            Ok(entry) => match entry.usage() {
+                AccessAssignUlUsage::CommonOnly => (0, 0, 0),
+                AccessAssignUlUsage::CommonAndAssigned => (0, 1, 0),
+                AccessAssignUlUsage::AssignedOnly => (0, 2, 0),
+                AccessAssignUlUsage::Traffic(marker) => (0, 3, marker),
+            },
+            Err(refusal) => (u8::from(refusal), 0, 0),
+        };
+        BsSchedUsage {
+            refusal,
+            usage,
+            usage_marker,
+        }
     }
 }

@@ -8,6 +8,7 @@ mod lengths;
 mod memory;
 mod offers;
 mod reading;
+mod record;
 mod starting;
 mod values;
 

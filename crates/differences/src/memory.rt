@@ -1,48 +1,45 @@
-// A new station, and what a call leaves of its buffers.
-
+// A new station with its queue and its store, lent to the calls, and what a call leaves of them.
+use bs_sched_c::reply::BsSchedBuilt;
 use std::io;
 
-// The words of a new station at 0/1/1/1.
-pub(crate) fn new_station() -> [u32; 228] {
-    let mut station = [0u32; 228];
-    let _new = bs_sched_c::bs_sched_new(&mut station, 0, 1, 1, 1);
-    station
+// The words of a station and of its queue, and the octets of its store.
+#[derive(Clone, Copy, PartialEq)]
+pub(crate) struct Memory {
+    pub(crate) station: [u32; 228],
+    pub(crate) queue: [u32; 1472],
+    pub(crate) store: [u8; 16384],
 }
 
-// The number that a call answers.
-pub(crate) fn number(rt: &impl Print, n: u8) -> io::Result<()> {
-    show::number(rt, n as u64)
-}
-
-// Whether a and b hold the same words.
-fn same_words(a: &[u32], b: &[u32]) -> bool {
-    if a.len() != b.len() {
-        return false;
-    }
-    let mut i = 0;
-    while i < a.len() {
-        if a[i] != b[i] {
-            return false;
+impl Memory {
+    // A new station at 0/1/1/1, with nothing queued.
+    pub(crate) fn new() -> Self {
+        let mut station = [0; 228];
+        let _new = bs_sched_c::bs_sched_new(&mut station, 0, 1, 1, 1);
+        Memory {
+            station,
+            queue: [0; 1472],
+            store: [0; 16384],
         }
-        i += 1;
     }
-    true
+
+    // Offers a record to timeslot 1.
+    pub(crate) fn enqueue(&mut self, record: &[u32], sdu: &[u8]) -> u8 {
+        bs_sched_c::bs_sched_enqueue(
+            &mut self.station,
+            &mut self.queue,
+            &mut self.store,
+            1,
+            record,
+            sdu,
+        )
+    }
+
+    pub(crate) fn build(&mut self, block: &mut [u8]) -> BsSchedBuilt {
+        bs_sched_c::bs_sched_build(&mut self.station, &mut self.queue, &mut self.store, block)
+    }
 }
 
-// The end of a line: whether state, queue and octets are what they were before the call.
-pub(crate) fn compared(
-    rt: &impl Print,
-    state: &[u32],
-    station: &[u32],
-    words: &[u32],
-    queue: &[u32],
-    before: &[u8],
-    octets: &[u8],
-) -> io::Result<()> {
-    let same = same_words(state, station) & same_words(words, queue) & (before == octets);
-    if same {
-        show::word(rt, b", nothing altered\n")?;
-        return Ok(());
-    }
-    show::word(rt, b", altered\n")
+// The end of a line: whether a call left what it was lent as it was.
+pub(crate) fn compared(rt: &impl Print, same: bool) -> io::Result<()> {
+    println!(rt; ", {}", if same { "nothing altered" } else { "altered" })
 }

@@ -3,12 +3,12 @@
 use std::io;
 
 // The number that the reader answers for a block.
-fn read(rt: &impl Print, text: &[u8], block: &[u8]) -> io::Result<()> {
-    let b = mac_reader::read_block(block);
-    let outcome = b.outcome;
-    show::word(rt, text)?;
-    show::number(rt, mac_reader::outcome_number(outcome) as u64)?;
-    show::end(rt)
+fn read(rt: &impl Print, text: &str, block: &[u8]) -> io::Result<()> {
+    let number = match mac_reader::read_block(block) {
+        Ok(_) => 0,
+        Err(refusal) => u8::from(refusal),
+    };
+    println!(rt; "{text} {number}")
 }
 
 // A MAC-END of three octets, with its two flags in the second octet.
@@ -18,17 +18,17 @@ fn end_flags(rt: &impl Print) -> io::Result<()> {
     block[1] = 0x60;
     block[2] = 0x80;
     block[3] = 0x40;
-    read(rt, b"D5 MAC-END with flags 0 read:", &block)?;
+    read(rt, "D5 MAC-END with flags 0 read:", &block)?;
     block[1] = 0x70;
     read(
         rt,
-        b"D5 MAC-END with its slot granting flag set read:",
+        "D5 MAC-END with its slot granting flag set read:",
         &block,
     )?;
     block[1] = 0x68;
     read(
         rt,
-        b"D5 MAC-END with its channel allocation flag set read:",
+        "D5 MAC-END with its channel allocation flag set read:",
         &block,
     )
 }
@@ -44,27 +44,27 @@ fn allocations(rt: &impl Print) -> io::Result<()> {
     block[7] = 0xf4;
     block[8] = 0x06;
     block[10] = 0x10;
-    read(rt, b"R11 direction 3 read:", &block)?;
+    read(rt, "R11 direction 3 read:", &block)?;
     block[6] = 0x01;
-    read(rt, b"R11 direction 0 read:", &block)?;
+    read(rt, "R11 direction 0 read:", &block)?;
     block[6] = 0x61;
     block[8] = 0x46;
-    read(rt, b"R11 extended carrier read:", &block)
+    read(rt, "R11 extended carrier read:", &block)
 }
 
 // A null PDU, its fields in the first octet.
 fn nulls(rt: &impl Print) -> io::Result<()> {
     let mut block = [0u8; 34];
     block[1] = 0x10;
-    read(rt, b"R23 null PDU read:", &block)?;
+    read(rt, "R23 null PDU read:", &block)?;
     block[0] = 0x20;
-    read(rt, b"R23 null PDU with fill bit 1 read:", &block)?;
+    read(rt, "R23 null PDU with fill bit 1 read:", &block)?;
     block[0] = 0x10;
-    read(rt, b"R23 null PDU with position 1 read:", &block)?;
+    read(rt, "R23 null PDU with position 1 read:", &block)?;
     block[0] = 0x04;
-    read(rt, b"R23 null PDU with encryption 1 read:", &block)?;
+    read(rt, "R23 null PDU with encryption 1 read:", &block)?;
     block[0] = 0x02;
-    read(rt, b"R23 null PDU with random access flag 1 read:", &block)
+    read(rt, "R23 null PDU with random access flag 1 read:", &block)
 }
 
 // A MAC-RESOURCE of 31 octets, and at bit 248 a null PDU or a header with an SSI, which has 43 bits.
@@ -73,14 +73,14 @@ fn behind_the_block(rt: &impl Print) -> io::Result<()> {
     block[1] = 0xf9;
     block[4] = 0x01;
     block[32] = 0x10;
-    read(rt, b"R24 null PDU at bit 248 read:", &block)?;
+    read(rt, "R24 null PDU at bit 248 read:", &block)?;
     block[32] = 0x11;
-    read(rt, b"R24 header of 43 bits at bit 248 read:", &block)?;
+    read(rt, "R24 header of 43 bits at bit 248 read:", &block)?;
     block[31] = 0x01;
     block[32] = 0xf9;
     read(
         rt,
-        b"R24 header of 43 bits at bit 248, to the block's end, read:",
+        "R24 header of 43 bits at bit 248, to the block's end, read:",
         &block,
     )
 }
@@ -93,9 +93,9 @@ fn encryption(rt: &impl Print) -> io::Result<()> {
     block[4] = 0x01;
     block[5] = 0x10;
     block[7] = 0x10;
-    read(rt, b"R25 SSI with encryption 0 read:", &block)?;
+    read(rt, "R25 SSI with encryption 0 read:", &block)?;
     block[0] = 0x24;
-    read(rt, b"R25 SSI with encryption 1 read:", &block)
+    read(rt, "R25 SSI with encryption 1 read:", &block)
 }
 
 // The same with other length codes, their first bit in the first octet.
@@ -103,14 +103,14 @@ fn length_codes(rt: &impl Print) -> io::Result<()> {
     let mut block = [0u8; 34];
     block[4] = 0x01;
     block[1] = 0x01;
-    read(rt, b"R26 length code 0 read:", &block)?;
+    read(rt, "R26 length code 0 read:", &block)?;
     block[1] = 0x09;
-    read(rt, b"R26 length code 1 read:", &block)?;
+    read(rt, "R26 length code 1 read:", &block)?;
     block[0] = 0x01;
     block[1] = 0x19;
-    read(rt, b"R26 length code 35 read:", &block)?;
+    read(rt, "R26 length code 35 read:", &block)?;
     block[1] = 0xf1;
-    read(rt, b"R26 length code 62 read:", &block)
+    read(rt, "R26 length code 62 read:", &block)
 }
 
 // Length code 63 in a MAC-RESOURCE, a null PDU and a MAC-END.
@@ -118,12 +118,12 @@ fn code_63(rt: &impl Print) -> io::Result<()> {
     let mut block = [0u8; 34];
     block[0] = 0x01;
     block[1] = 0xf9;
-    read(rt, b"R27 MAC-RESOURCE with code 63 read:", &block)?;
+    read(rt, "R27 MAC-RESOURCE with code 63 read:", &block)?;
     block[1] = 0xf8;
-    read(rt, b"R27 null PDU with code 63 read:", &block)?;
+    read(rt, "R27 null PDU with code 63 read:", &block)?;
     block[0] = 0x67;
     block[1] = 0xe0;
-    read(rt, b"R27 MAC-END with code 63 read:", &block)
+    read(rt, "R27 MAC-END with code 63 read:", &block)
 }
 
 // A header of 43 bits in PDUs of 33, 34 and 5 octets.
@@ -131,27 +131,27 @@ fn inside(rt: &impl Print) -> io::Result<()> {
     let mut block = [0u8; 34];
     block[0] = 0x01;
     block[1] = 0x09;
-    read(rt, b"R28 PDU of 33 octets read:", &block)?;
+    read(rt, "R28 PDU of 33 octets read:", &block)?;
     block[1] = 0x11;
-    read(rt, b"R28 PDU of 34 octets read:", &block)?;
+    read(rt, "R28 PDU of 34 octets read:", &block)?;
     block[0] = 0x00;
     block[1] = 0x29;
-    read(rt, b"R29 header of 43 bits in a PDU of 40 read:", &block)
+    read(rt, "R29 header of 43 bits in a PDU of 40 read:", &block)
 }
 
 // The types behind MAC-RESOURCE and MAC-FRAG, and the bits behind a null PDU and the block.
 fn types(rt: &impl Print) -> io::Result<()> {
     let mut block = [0u8; 34];
     block[0] = 0x80;
-    read(rt, b"R30 PDU of type 10 read:", &block)?;
+    read(rt, "R30 PDU of type 10 read:", &block)?;
     block[0] = 0xc0;
-    read(rt, b"R30 PDU of type 11 read:", &block)?;
+    read(rt, "R30 PDU of type 11 read:", &block)?;
     block[0] = 0x00;
     block[1] = 0x10;
     block[33] = 0x10;
-    read(rt, b"R31 bit 267 set, read:", &block)?;
+    read(rt, "R31 bit 267 set, read:", &block)?;
     block[33] = 0x01;
-    read(rt, b"R31 bit 271 set, read:", &block)
+    read(rt, "R31 bit 271 set, read:", &block)
 }
 
 pub(crate) fn run(rt: &impl Print) -> io::Result<()> {

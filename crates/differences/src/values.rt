@@ -4,61 +4,54 @@ use basic_slotgrant::basic_slotgrant_granting_delay::BasicSlotgrantGrantingDelay
 use std::io;
 
 // How many slots a capacity is taken for.
-fn slots(rt: &impl Print, text: &[u8], c: BasicSlotgrantCapAlloc) -> io::Result<()> {
-    show::word(rt, text)?;
-    show::number(rt, c.to_req_slotcount() as u64)?;
-    show::end(rt)
+fn slots(rt: &impl Print, text: &str, c: BasicSlotgrantCapAlloc) -> io::Result<()> {
+    println!(rt; "{text} {}", c.to_req_slotcount())
 }
 
 // The capacity code for so many slots, and how many it grants.
-fn capacity(rt: &impl Print, text: &[u8], count: usize) -> io::Result<()> {
+fn capacity(rt: &impl Print, text: &str, count: usize) -> io::Result<()> {
     let c = BasicSlotgrantCapAlloc::from_req_slotcount(count);
-    show::word(rt, text)?;
-    show::word(rt, b" capacity")?;
-    show::number(rt, c.into_raw() as u64)?;
-    show::word(rt, b",")?;
-    show::number(rt, c.to_req_slotcount() as u64)?;
-    show::word(rt, b" slots\n")
+    println!(rt;
+        "{text} capacity {}, {} slots",
+        u8::from(c),
+        c.to_req_slotcount()
+    )
 }
 
-fn delay(rt: &impl Print, text: &[u8], n: u8) -> io::Result<()> {
+fn delay(rt: &impl Print, n: u8) -> io::Result<()> {
     let d = BasicSlotgrantGrantingDelay::DelayNOpportunities(n);
-    show::word(rt, text)?;
-    show::number(rt, d.into_raw() as u64)?;
-    show::end(rt)
+    println!(rt; "V5 into_raw of DelayNOpportunities({n}): {}", u8::from(d))
 }
 
-fn fill(rt: &impl Print, text: &[u8], total: usize, room: usize) -> io::Result<()> {
-    show::word(rt, text)?;
-    show::number(rt, fillbits::compute_required(total, room) as u64)?;
-    show::end(rt)
+fn fill(rt: &impl Print, text: &str, total: usize, room: usize) -> io::Result<()> {
+    println!(rt; "{text} {}", fillbits::compute_required(total, room))
 }
 
 pub(crate) fn run(rt: &impl Print) -> io::Result<()> {
     slots(
         rt,
-        b"V2 to_req_slotcount of capacity 0:",
+        "V2 to_req_slotcount of capacity 0:",
         BasicSlotgrantCapAlloc::FirstSubslotGranted,
     )?;
     slots(
         rt,
-        b"V2 to_req_slotcount of capacity 15:",
+        "V2 to_req_slotcount of capacity 15:",
         BasicSlotgrantCapAlloc::SecondSubslotGranted,
     )?;
-    capacity(rt, b"V3 from_req_slotcount of 69:", 69)?;
-    capacity(rt, b"V4 from_req_slotcount of 99:", 99)?;
-    delay(rt, b"V5 into_raw of DelayNOpportunities(13):", 13)?;
-    delay(rt, b"V5 into_raw of DelayNOpportunities(14):", 14)?;
+    capacity(rt, "V3 from_req_slotcount of 69:", 69)?;
+    capacity(rt, "V4 from_req_slotcount of 99:", 99)?;
+    delay(rt, 13)?;
+    delay(rt, 14)?;
     fill(
         rt,
-        b"V7 compute_required of 2^64 - 1 bits in 268:",
-        18446744073709551615,
+        "V7 compute_required of 2^64 - 1 bits in 268:",
+        usize::MAX,
         268,
     )?;
     fill(
         rt,
-        b"V7 compute_required of 2^64 - 2 bits in 2^64 - 1:",
-        18446744073709551614,
-        18446744073709551615,
+        "V7 compute_required of 2^64 - 2 bits in 2^64 - 1:",
+        usize::MAX - 1,
+        usize::MAX,
     )
 }

@@ -1,11 +1,11 @@
 -- Cells written one after another in a new order, from a copy or in place. Assumes nothing.
 use mathlib.Core.Path.{◌≡◌, refl, sym, ap, ap₂, ◌∙◌}
 use mathlib.Core.Bool.{Bool, true, false, cond}
-use mathlib.Core.List.{List, [], ◌∷◌, ◌++◌, append-nil}
+use mathlib.Core.List.{List, [], ◌∷◌, ◌++◌}
 use Prim.Native.Nat.{ℕ, zero, suc, ◌+◌, ◌-◌, ◌*◌, ◌<◌, ◌≤◌}
 use native.Mathlib.Omega.{arith}
 use lib.Dec.{ltb}
-use lib.ListN.{length, get_or, drop, take, replicate, length-append, length-drop, drop_of_length-le, take-append-drop}
+use lib.ListN.{length, get_or, drop, take, replicate, length-append, length-drop, take-append-drop}
 use lib.Seq.{take_at, take_all, take-take, take-add, drop-drop, drop-append-add, length-take-le, paste, drop-paste}
 use borrow.Author.Tests.{ltb-true, lt-ltb, le-ltb}
 use Rattle.sizes.specs.Sizes.{per_timeslot, cell_octets, timeslot_octets}
@@ -156,17 +156,9 @@ module _ (d : List ℕ) (first : ℕ) (fs : List ℕ) (room : cell_octets * firs
   rest-kept n h e =
       paste-rest d (cell_octets * first) (arranged cells fs) (cell_octets * n) timeslot_octets (omega arith) (omega arith) (omega (arith, whole)) e
 
--- a whole array written over
-pub read-list : {A : Type 0} (n : ℕ) (z e : List A) → length z ≡ n → paste z 0 e n ≡ take n e
-read-list {A} n z e h =
-    let b : length z ≤ 0 + n = omega arith in
-    ap (λ (l : List A). take n e ++ l) (drop_of_length-le z b) ∙ append-nil (take n e)
-
 -- a cell copied out and in
-pub cell-moved : (s z : List ℕ) (to from : ℕ) (c s' : List ℕ) → length z ≡ cell_octets → c ≡ paste z 0 (drop from s) cell_octets
-    → s' ≡ paste s to (drop 0 c) cell_octets
+pub cell-moved : (s : List ℕ) (to from : ℕ) (c s' : List ℕ) → c ≡ take cell_octets (drop from s) → s' ≡ paste s to (drop 0 c) cell_octets
     → s' ≡ paste s to (drop from s) cell_octets
-cell-moved s z to from c s' size reads writes =
+cell-moved s to from c s' reads writes =
     writes
-    ∙ paste-same s to c (drop from s) cell_octets
-    (ap (take cell_octets) (reads ∙ read-list cell_octets z (drop from s) size) ∙ take-take cell_octets cell_octets (drop from s) (omega arith))
+    ∙ paste-same s to c (drop from s) cell_octets (ap (take cell_octets) reads ∙ take-take cell_octets cell_octets (drop from s) (omega arith))

@@ -28,13 +28,13 @@ use Rattle.dl_merge.proofs.ListLaws.{length-counted}
 use Rattle.bs_frag.specs.NextPdu.{Sendable}
 use Rattle.dl_send.specs.declared.Progress.{Progress}
 use Rattle.dl_send.specs.Send.{Sent, send_all, cell_sdu, block_of}
-use Rattle.dl_send.specs.Arrays.{listed, records_at, place_sdu, sent_of, tag_row, progress_of, CanSend, BuiltAs}
+use Rattle.dl_send.specs.Arrays.{listed, records_at, places_at, place_sdu, sent_of, tag_row, progress_of, CanSend, BuiltAs}
 use Rattle.dl_send.proofs.ArrayLaws.{length-listed}
 use Rattle.dl_send.proofs.MapLaws.{SameSdu, reload_sent, send_all-map}
 use Rattle.dl_send.proofs.KeptLaws.{StoredItem, stored_loaded, left-few, left-all}
 use Rattle.dl_build.specs.Moved.{cells_at, arranged, moved}
 use Rattle.dl_build.specs.Build.{in_order, build_list, built_from, built_of, Takes, CanBuild, BuiltIn}
-use Rattle.dl_build.specs.declared.Order.{Order}
+use Rattle.dl_send.specs.declared.Order.{Order}
 use Rattle.dl_build.proofs.MergeMap.{cell_from, cells-map, merged-cells}
 use Rattle.dl_build.proofs.OrderLaws.{order-length, order-all, order-map}
 use Rattle.dl_build.proofs.PlaceLaws.{Sourced, counted-sourced, all-reload, all-sendable, place-sdu, no-sdu, cells-behind}
@@ -175,17 +175,20 @@ module _ (octets w : ℕ) (store : List ℕ) (first n : ℕ) (rs : List Record) 
       (all_both (λ (x : Item ℕ). Sendable x.rec) Sourced merged sendable sourced)))
 
   module _ (m : Merged) (merges : listed m.count m.records m.from ≡ merge_places (counted 0 n rs)) where
-    module _ (o : Order) (orders : Takes m.records o.at o.from o.count (in_order (listed m.count m.records m.from))) where
+    module _ (o : Order) (orders : Takes m.records m.from o.at o.count (in_order (listed m.count m.records m.from))) where
       abbrev chosen : List Record
       chosen = records_at o.at m.records
 
-      listed-as : listed o.count chosen o.from ≡ taken
+      abbrev sources : List ℕ
+      sources = places_at o.at m.from
+
+      listed-as : listed o.count chosen sources ≡ taken
       listed-as = orders.items ∙ ap in_order merges
 
-      pub can-send : CanSend octets w store first chosen o.from o.count
+      pub can-send : CanSend octets w store first chosen sources o.count
       can-send =
           record {
-            count = omega (arith, sym (length-listed o.count chosen o.from) ∙ ap length listed-as, taken-few);
+            count = omega (arith, sym (length-listed o.count chosen sources) ∙ ap length listed-as, taken-few);
             width = can.width;
             inside = can.inside;
             bounded = can.bounded;
@@ -194,11 +197,11 @@ module _ (octets w : ℕ) (store : List ℕ) (first n : ℕ) (rs : List Record) 
             all = rw listed-as (all-sendable taken (order-all (λ (x : Item ℕ). Sendable x.rec) merged sendable));
           }
 
-      sent_is : sent_of store first w chosen o.from o.count ≡ sent
+      sent_is : sent_of store first w chosen sources o.count ≡ sent
       unfolding sent_of sent
       sent_is = ap (send_all (place_sdu store first) true w) listed-as
 
-      module _ (p : Progress) (b : List ℕ) (builds : BuiltAs octets b p (sent_of store first w chosen o.from o.count)) where
+      module _ (p : Progress) (b : List ℕ) (builds : BuiltAs octets b p (sent_of store first w chosen sources o.count)) where
         x : Sent (List ℕ)
         x = built_from w n rs s
 
@@ -224,8 +227,8 @@ module _ (octets w : ℕ) (store : List ℕ) (first n : ℕ) (rs : List Record) 
               records = ap (λ (y : Progress). y.records) is ∙ sym (records-map (cell_from cells) per_timeslot sent.left)
                   ∙ ap (records_of per_timeslot) (sym same_left);
               count = ap (λ (y : Progress). y.left) is ∙ sym (length-map sent.left (reload (cell_from cells))) ∙ ap length (sym same_left);
-              tags = ap (λ (y : Progress). y.tags) is ∙ ap (tag_row per_timeslot) given;
-              tag-count = ap (λ (y : Progress). y.tag_count) is ∙ ap length given;
+              tags = ap (λ (y : Progress). y.tags.tags) is ∙ ap (tag_row per_timeslot) given;
+              tag-count = ap (λ (y : Progress). y.tags.tag_count) is ∙ ap length given;
               few = builds.few;
               few-tags = builds.few-tags;
               cells = moves ∙ ap (λ (l : List ℕ). paste store (cell_octets * first) l timeslot_octets) kept;

@@ -18,7 +18,7 @@ use Rattle.dl_queue.specs.Queue.{Item, item}
 use Rattle.dl_record.specs.Kind.{is_record, is_underway}
 use Rattle.dl_merge.specs.Merge.{only}
 use Rattle.dl_merge.proofs.MergeLaws.{only-all, only-pass, only-fail, only-map, reload}
-use Rattle.dl_send.specs.Arrays.{listed, records_at}
+use Rattle.dl_send.specs.Arrays.{listed, records_at, places_at}
 use Rattle.dl_send.proofs.ArrayLaws.{length-listed}
 use Rattle.dl_build.specs.Build.{in_order, Takes}
 
@@ -60,18 +60,18 @@ abbrev pub took : (Kind → Bool) → List (Item ℕ) → ℕ → List Record �
 took p ys i rs fs = ys ++ only p (listed i rs fs)
 
 -- what is written at k is not among the first k
-listed-set : (k : ℕ) (at from : List ℕ) (rs : List Record) (i f : ℕ) → listed k (records_at (set at k i) rs) (set from k f) ≡ listed k (records_at at rs) from
+listed-set : (k : ℕ) (at : List ℕ) (rs : List Record) (fs : List ℕ) (i : ℕ)
+    → listed k (records_at (set at k i) rs) (places_at (set at k i) fs) ≡ listed k (records_at at rs) (places_at at fs)
 unfolding listed
-listed-set zero at from rs i f = refl
-listed-set (suc k) [] [] rs i f = refl
-listed-set (suc k) [] (y ∷ from) rs i f = ap (◌∷◌ (item empty_record y)) (listed-set k [] from rs i f)
-listed-set (suc k) (x ∷ at) [] rs i f = ap (◌∷◌ (item (get_or rs x empty_record) 0)) (listed-set k at [] rs i f)
-listed-set (suc k) (x ∷ at) (y ∷ from) rs i f = ap (◌∷◌ (item (get_or rs x empty_record) y)) (listed-set k at from rs i f)
+listed-set zero at rs fs i = refl
+listed-set (suc k) [] rs fs i = refl
+listed-set (suc k) (x ∷ at) rs fs i = ap (◌∷◌ (item (get_or rs x empty_record) (get_or fs x 0))) (listed-set k at rs fs i)
 
-record-set : (k : ℕ) (at : List ℕ) (rs : List Record) (i : ℕ) → k < length at → get_or (records_at (set at k i) rs) k empty_record ≡ get_or rs i empty_record
-record-set k [] rs i h = absurd (omega arith)
-record-set zero (x ∷ at) rs i h = refl
-record-set (suc k) (x ∷ at) rs i h = record-set k at rs i (omega arith)
+at-set : {A : Type 0} (k : ℕ) (at : List ℕ) (xs : List A) (i : ℕ) (d : A) → k < length at
+    → get_or (map (λ (p : ℕ). get_or xs p d) (set at k i)) k d ≡ get_or xs i d
+at-set k [] xs i d h = absurd (omega arith)
+at-set zero (x ∷ at) xs i d h = refl
+at-set (suc k) (x ∷ at) xs i d h = at-set k at xs i d (omega arith)
 
 within-set : (k : ℕ) (at : List ℕ) (i : ℕ) → k < length at → i < per_timeslot → ((j : ℕ) → j < k → get_or at j 0 < per_timeslot)
     → (j : ℕ) → j < k + 1 → get_or (set at k i) j 0 < per_timeslot
@@ -81,55 +81,67 @@ within-set k at i h b w j l = go (eqb j k) refl
     go true e = let same : j ≡ k = eqb-true j k e in rw (ap (λ (q : ℕ). get_or (set at k i) q 0) same ∙ get_or-set_same at k i 0 h) b
     go false e = let less : j < k = omega (arith, eqb-false j k e) in rw (get_or-set_other at k j i 0 (λ q. omega arith)) (w j less)
 
-module _ (rs : List Record) (at from : List ℕ) (k : ℕ) where
+module _ (rs : List Record) (fs : List ℕ) (at : List ℕ) (k : ℕ) where
   -- another name for the list
-  takes-as : (xs ys : List (Item ℕ)) → xs ≡ ys → Takes rs at from k xs → Takes rs at from k ys
+  takes-as : (xs ys : List (Item ℕ)) → xs ≡ ys → Takes rs fs at k xs → Takes rs fs at k ys
   takes-as xs ys e h = record { items = h.items ∙ e; within = h.within }
 
-  pub takes-size : (xs : List (Item ℕ)) → Takes rs at from k xs → k ≡ length xs
-  takes-size xs h = sym (length-listed k (records_at at rs) from) ∙ ap length h.items
+  pub takes-size : (xs : List (Item ℕ)) → Takes rs fs at k xs → k ≡ length xs
+  takes-size xs h = sym (length-listed k (records_at at rs) (places_at at fs)) ∙ ap length h.items
 
   -- one more: the record that stands at i
-  takes-snoc : (xs : List (Item ℕ)) (i f : ℕ) (r : Record) → r ≡ get_or rs i empty_record → k < length at → k < length from → i < per_timeslot
-      → Takes rs at from k xs
-      → Takes rs (set at k i) (set from k f) (k + 1) (xs ++ item r f ∷ [])
-  takes-snoc xs i f r is a b c h =
+  takes-snoc : (xs : List (Item ℕ)) (i : ℕ) (r : Record) → r ≡ get_or rs i empty_record → k < length at → i < per_timeslot → Takes rs fs at k xs
+      → Takes rs fs (set at k i) (k + 1) (xs ++ item r (get_or fs i 0) ∷ [])
+  takes-snoc xs i r is a c h =
       record {
         items =
-            listed_more k (records_at (set at k i) rs) (set from k f) r (is ∙ sym (record-set k at rs i a))
-            ∙ ap₂ (λ (l : List (Item ℕ)) (g : ℕ). l ++ item r g ∷ []) (listed-set k at from rs i f ∙ h.items) (get_or-set_same from k f 0 b);
+            listed_more k (records_at (set at k i) rs) (places_at (set at k i) fs) r (is ∙ sym (at-set k at rs i empty_record a))
+            ∙ ap₂ (λ (l : List (Item ℕ)) (g : ℕ). l ++ item r g ∷ []) (listed-set k at rs fs i ∙ h.items) (at-set k at fs i 0 a);
         within = within-set k at i a c h.within;
       }
 
-pub took-start : (p : Kind → Bool) (rs : List Record) (fs at from : List ℕ) → Takes rs at from 0 (took p [] 0 rs fs)
-unfolding only listed
-took-start p rs fs at from = record { items = refl; within = λ i h. absurd (omega arith) }
+-- none is taken yet
+pub takes-none : (rs : List Record) (fs at : List ℕ) → Takes rs fs at 0 []
+unfolding listed
+takes-none rs fs at = record { items = refl; within = λ i h. absurd (omega arith) }
 
-pub took-none : (p : Kind → Bool) (ys : List (Item ℕ)) (rs : List Record) (fs at from : List ℕ) (k : ℕ) → Takes rs at from k ys
-    → Takes rs at from k (took p ys 0 rs fs)
+pub took-none : (p : Kind → Bool) (ys : List (Item ℕ)) (rs : List Record) (fs at : List ℕ) (k : ℕ) → Takes rs fs at k ys → Takes rs fs at k (took p ys 0 rs fs)
 unfolding only listed
-took-none p ys rs fs at from k h = takes-as rs at from k ys (ys ++ []) (sym (append-nil ys)) h
+took-none p ys rs fs at k h = takes-as rs fs at k ys (ys ++ []) (sym (append-nil ys)) h
 
-module _ (p : Kind → Bool) (ys : List (Item ℕ)) (rs : List Record) (fs : List ℕ) (i : ℕ) (at from : List ℕ) (k : ℕ) (r : Record)
-    (is : r ≡ get_or rs i empty_record) where
+pub count-none : (p : Kind → Bool) (rs : List Record) (fs : List ℕ) → length (only p (listed 0 rs fs)) ≡ 0
+unfolding only listed
+count-none p rs fs = refl
+
+module _ (p : Kind → Bool) (rs : List Record) (fs : List ℕ) (i : ℕ) (r : Record) (is : r ≡ get_or rs i empty_record) where
   abbrev x : Item ℕ
   x = item r (get_or fs i 0)
 
-  more : p r.kind ≡ true → took p ys (i + 1) rs fs ≡ took p ys i rs fs ++ x ∷ []
-  more e =
-      ap (◌++◌ ys) (ap (only p) (listed_more i rs fs r is) ∙ only-pass p (listed i rs fs) x e)
-      ∙ sym (append_assoc ys (only p (listed i rs fs)) (x ∷ []))
+  passes : p r.kind ≡ true → only p (listed (i + 1) rs fs) ≡ only p (listed i rs fs) ++ x ∷ []
+  passes e = ap (only p) (listed_more i rs fs r is) ∙ only-pass p (listed i rs fs) x e
 
-  pub took-pass : k < length at → k < length from → i < per_timeslot → p r.kind ≡ true → Takes rs at from k (took p ys i rs fs)
-      → Takes rs (set at k i) (set from k (get_or fs i 0)) (k + 1) (took p ys (i + 1) rs fs)
-  took-pass a b c e h =
-      takes-as rs (set at k i) (set from k (get_or fs i 0)) (k + 1) (took p ys i rs fs ++ x ∷ []) (took p ys (i + 1) rs fs) (sym (more e))
-      (takes-snoc rs at from k (took p ys i rs fs) i (get_or fs i 0) r is a b c h)
+  fails : p r.kind ≡ false → only p (listed (i + 1) rs fs) ≡ only p (listed i rs fs)
+  fails e = ap (only p) (listed_more i rs fs r is) ∙ only-fail p (listed i rs fs) x e
 
-  pub took-fail : p r.kind ≡ false → Takes rs at from k (took p ys i rs fs) → Takes rs at from k (took p ys (i + 1) rs fs)
-  took-fail e h =
-      takes-as rs at from k (took p ys i rs fs) (took p ys (i + 1) rs fs)
-      (sym (ap (◌++◌ ys) (ap (only p) (listed_more i rs fs r is) ∙ only-fail p (listed i rs fs) x e))) h
+  pub count-pass : p r.kind ≡ true → length (only p (listed (i + 1) rs fs)) ≡ length (only p (listed i rs fs)) + 1
+  count-pass e = ap length (passes e) ∙ length-append (only p (listed i rs fs)) (x ∷ [])
+
+  pub count-fail : p r.kind ≡ false → length (only p (listed (i + 1) rs fs)) ≡ length (only p (listed i rs fs))
+  count-fail e = ap length (fails e)
+
+  -- with a record of these kinds still to come there is room for one more
+  pub count-room : (n : ℕ) → i < n → p r.kind ≡ true → length (only p (listed i rs fs)) < length (only p (listed n rs fs))
+  count-room n h e = omega (arith, count-pass e, only-mono p (i + 1) n rs fs (omega arith))
+
+  module _ (ys : List (Item ℕ)) (at : List ℕ) (k : ℕ) (h : Takes rs fs at k (took p ys i rs fs)) where
+    pub took-pass : k < length at → i < per_timeslot → p r.kind ≡ true → Takes rs fs (set at k i) (k + 1) (took p ys (i + 1) rs fs)
+    took-pass a c e =
+        takes-as rs fs (set at k i) (k + 1) (took p ys i rs fs ++ x ∷ []) (took p ys (i + 1) rs fs)
+        (append_assoc ys (only p (listed i rs fs)) (x ∷ []) ∙ ap (◌++◌ ys) (sym (passes e)))
+        (takes-snoc rs fs at k (took p ys i rs fs) i r is a c h)
+
+    pub took-fail : p r.kind ≡ false → Takes rs fs at k (took p ys (i + 1) rs fs)
+    took-fail e = takes-as rs fs at k (took p ys i rs fs) (took p ys (i + 1) rs fs) (ap (◌++◌ ys) (sym (fails e))) h
 
 -- no record is both
 apart : (k : Kind) → is_underway k ≡ true → is_record k ≡ true → ⊥
@@ -151,26 +163,6 @@ order-few {C} (x ∷ xs) = go (is_underway x.rec.kind) refl (is_record x.rec.kin
     go true e false f ih = omega arith
     go false e true f ih = omega arith
     go false e false f ih = omega arith
-
--- with a record still to come there is room for one more
-pub order-room : (n : ℕ) (rs : List Record) (fs : List ℕ) (j : ℕ) (r : Record) → r ≡ get_or rs j empty_record → j < n → is_record r.kind ≡ true
-    → length (took is_record (only is_underway (listed n rs fs)) j rs fs) < n
-order-room n rs fs j r is h e =
-    let one : length (only is_record (listed (j + 1) rs fs)) ≡ length (only is_record (listed j rs fs)) + 1 =
-    ap length (ap (only is_record) (listed_more j rs fs r is) ∙ only-pass is_record (listed j rs fs) (item r (get_or fs j 0)) e)
-    ∙ length-append (only is_record (listed j rs fs)) (item r (get_or fs j 0) ∷ []) in
-    omega (
-      arith,
-      one,
-      length-append (only is_underway (listed n rs fs)) (only is_record (listed j rs fs)),
-      only-mono is_record (j + 1) n rs fs (omega arith),
-      order-few (listed n rs fs),
-      length-listed n rs fs,
-    )
-
-pub order_is : (n : ℕ) (rs : List Record) (fs : List ℕ) → took is_record (only is_underway (listed n rs fs)) n rs fs ≡ in_order (listed n rs fs)
-unfolding in_order
-order_is n rs fs = refl
 
 -- ---- what the order keeps
 

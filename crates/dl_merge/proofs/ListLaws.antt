@@ -8,7 +8,6 @@ use native.Mathlib.Numerals.{add-one, one-add}
 use native.Mathlib.Omega.{arith}
 use lib.ListN.{length, get_or, drop, set}
 use lib.Seq.{get_or-drop}
-use Rattle.sizes.specs.Sizes.{per_timeslot}
 use Rattle.dl_record.specs.declared.Record.{Record}
 use Rattle.dl_record.specs.Record.{empty_record}
 use Rattle.dl_queue.specs.Queue.{Item, item, records_of}
@@ -46,13 +45,6 @@ sources-snoc zero xs x h = absurd (omega arith)
 sources-snoc (suc k) [] x h = refl
 sources-snoc (suc k) (y ∷ xs) x h = ap (λ (l : List ℕ). y.load ∷ l) (sources-snoc k xs x (omega arith))
 
--- an item that comes from no place changes no source
-pub sources-none : (k : ℕ) (xs : List (Item ℕ)) (r : Record) → sources_of k (xs ++ item r per_timeslot ∷ []) ≡ sources_of k xs
-unfolding sources_of
-sources-none zero xs r = refl
-sources-none (suc k) [] r = refl
-sources-none (suc k) (y ∷ xs) r = ap (λ (l : List ℕ). y.load ∷ l) (sources-none k xs r)
-
 pub sources-keep : (k : ℕ) (xs : List (Item ℕ)) (i : ℕ) (r : Record) (d : Item ℕ) → i < length xs
     → sources_of k (set xs i (item r (get_or xs i d).load)) ≡ sources_of k xs
 unfolding sources_of
@@ -78,9 +70,11 @@ counted-snoc i (suc n) rs =
     ∙ ap₂ (λ (r : Record) (m : ℕ). counted (suc i) n (drop 1 rs) ++ item r m ∷ [])
     (get_or-drop 1 rs n empty_record ∙ ap (λ (j : ℕ). get_or rs j empty_record) (one-add n)) e)
 
-pub counted-more : (n : ℕ) (rs : List Record) → counted 0 (n + 1) rs ≡ counted 0 n rs ++ item (get_or rs n empty_record) n ∷ []
-counted-more n rs =
-    ap (λ (m : ℕ). counted 0 m rs) (add-one n) ∙ counted-snoc 0 n rs ∙ ap (λ (m : ℕ). counted 0 n rs ++ item (get_or rs n empty_record) m ∷ []) (zero-add n)
+-- its last record as the code takes it out
+pub counted-more : (n : ℕ) (rs : List Record) (r : Record) → r ≡ get_or rs n empty_record → counted 0 (n + 1) rs ≡ counted 0 n rs ++ item r n ∷ []
+counted-more n rs r is =
+    ap (λ (m : ℕ). counted 0 m rs) (add-one n) ∙ counted-snoc 0 n rs
+    ∙ ap₂ (λ (x : Record) (m : ℕ). counted 0 n rs ++ item x m ∷ []) (sym is) (zero-add n)
 
 -- fewer records, fewer of each kind
 pub only-mono : (p : Kind → Bool) (a i n : ℕ) (rs : List Record) → i ≤ n → length (only p (counted a i rs)) ≤ length (only p (counted a n rs))

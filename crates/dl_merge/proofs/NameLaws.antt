@@ -1,14 +1,13 @@
 -- "A grant keeps its name through merging into the header written": what ties number, grant and name together before merging does so after it. Assumes nothing.
+use Rattle.std.proofs.lemmas.Bool.{and_parts}
+use Rattle.std.proofs.Common.{Option}
 use mathlib.Core.Path.{◌≡◌, sym, subst}
 use mathlib.Core.Bool.{true}
 use mathlib.Core.List.{List}
-use mathlib.Core.Option.{Option}
 use Prim.Native.Nat.{ℕ}
 use lib.Dec.{eqb}
 use borrow.Author.Tests.{eqb-true}
 use Rattle.lists.proofs.Every.{All}
-use Rattle.optional.specs.declared.OptU8.{OptU8}
-use Rattle.optional.proofs.Tests.{and_right}
 use Rattle.dl_record.specs.declared.Record.{Record}
 use Rattle.dl_record.specs.declared.Kind.{Kind}
 use Rattle.dl_queue.specs.Queue.{Item, item}
@@ -18,9 +17,9 @@ use Rattle.dl_merge.proofs.MergeLaws.{merge-all}
 
 same_number : (n : ℕ) (r : Record) → takes_number n r ≡ true → r.number ≡ n
 unfolding takes_number
-same_number n r e = eqb-true r.number n (and_right (is_record r.kind) (eqb r.number n) e)
+same_number n r e = eqb-true r.number n (and_parts (is_record r.kind) (eqb r.number n) e).1
 
-module _ {S N : Type 0} (R : ℕ → OptU8 → Option N → Type 0) where
+module _ {S N : Type 0} (R : ℕ → Option ℕ → Option N → Type 0) where
   -- the number, the grant and its name are tied together
   abbrev pub Tied : Item (Named S N) → Type 0
   Tied x = R x.rec.number x.rec.header.slot_granting_element x.load.name

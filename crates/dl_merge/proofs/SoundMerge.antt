@@ -1,4 +1,6 @@
 -- Merging keeps records and cells sound. Assumes nothing.
+use Rattle.std.proofs.lemmas.Bool.{and_parts, and_from}
+use Rattle.std.proofs.Common.{Option, Some, None}
 use mathlib.Core.Path.{◌≡◌, refl, ap, ◌∙◌}
 use mathlib.Core.Bool.{true, not, ◌&&◌}
 use mathlib.Core.List.{List, [], ◌∷◌}
@@ -9,9 +11,7 @@ use lib.ListN.{length, drop, length-drop}
 use lib.Seq.{length-take-le}
 use Rattle.lists.proofs.Every.{All}
 use Rattle.sizes.specs.Sizes.{cell_octets, sdu_bits}
-use Rattle.optional.specs.declared.OptU8.{OptU8}
-use Rattle.optional.proofs.Tests.{and_left, and_right, and_intro}
-use Rattle.mac_pdus.specs.Legal.{absent_u8, fits, opt_fits, legal_queued}
+use Rattle.mac_pdus.specs.Legal.{absent, fits, opt_fits, legal_queued}
 use Rattle.mac_pdus.proofs.Conjunctions.{false-not-true, and3, and4}
 use Rattle.dl_record.proofs.HeaderLaws.{LegalHeader, legal-fields, fields-legal}
 use Rattle.dl_record.specs.declared.Record.{Record}
@@ -30,24 +30,24 @@ use Rattle.dl_merge.proofs.MergeLaws.{merge-all}
 
 -- ---- records
 
-absent-fits : (w : ℕ) (o : OptU8) → absent_u8 o ≡ true → opt_fits w o ≡ true
-absent-fits w OptU8.Absent e = refl
-absent-fits w (OptU8.Of x) e = false-not-true e
+absent-fits : (w : ℕ) (o : Option ℕ) → absent o ≡ true → opt_fits w o ≡ true
+absent-fits w None e = refl
+absent-fits w (Some x) e = false-not-true e
 
-either-fits : (w : ℕ) (a b : OptU8) → opt_fits w a ≡ true → opt_fits w b ≡ true → opt_fits w (or_else a b) ≡ true
-either-fits w OptU8.Absent b p q = q
-either-fits w (OptU8.Of x) b p q = p
+either-fits : (w : ℕ) (a b : Option ℕ) → opt_fits w a ≡ true → opt_fits w b ≡ true → opt_fits w (or_else a b) ≡ true
+either-fits w None b p q = q
+either-fits w (Some x) b p q = p
 
 -- the grant and the marker of a sound grant or ack have their widths
 grant-fits : (k : Kind) (g : Record) → is_grant_or_ack k ≡ true → sound_as k g ≡ true
     → (opt_fits 8 g.header.slot_granting_element ≡ true) × (opt_fits 6 g.header.usage_marker ≡ true)
 grant-fits Kind.Grant g l e =
     let h = g.header in
-    let p = and4 (holds_grant_only g) (not (absent_u8 h.slot_granting_element)) (opt_fits 8 h.slot_granting_element) (opt_fits 6 h.usage_marker) e in
+    let p = and4 (holds_grant_only g) (not (absent h.slot_granting_element)) (opt_fits 8 h.slot_granting_element) (opt_fits 6 h.usage_marker) e in
     (p.2, p.3)
 grant-fits Kind.Ack g l e =
     let h = g.header in
-    let p = and3 (holds_grant_only g) (absent_u8 h.slot_granting_element) (absent_u8 h.usage_marker) e in
+    let p = and3 (holds_grant_only g) (absent h.slot_granting_element) (absent h.usage_marker) e in
     (absent-fits 8 h.slot_granting_element p.1, absent-fits 6 h.usage_marker p.2)
 grant-fits Kind.Record g l e = false-not-true l
 grant-fits Kind.Waiting g l e = false-not-true l
@@ -102,8 +102,8 @@ record-header Kind.Grant r q p b s f e = false-not-true p
 record-header Kind.Ack r q p b s f e = false-not-true p
 record-header Kind.Record r q p b s f e =
     let h = and3 (legal_queued (resource_of r 0 0)) (leb r.bits sdu_bits) (eqb r.sent 0) e in
-    and_intro (legal_queued (resource_of q 0 0) && leb q.bits sdu_bits) (eqb q.sent 0)
-    (and_intro (legal_queued (resource_of q 0 0)) (leb q.bits sdu_bits) (fields-legal q 0 0 refl refl (f (legal-fields r 0 0 h.0)))
+    and_from (legal_queued (resource_of q 0 0) && leb q.bits sdu_bits) (eqb q.sent 0)
+    (and_from (legal_queued (resource_of q 0 0)) (leb q.bits sdu_bits) (fields-legal q 0 0 refl refl (f (legal-fields r 0 0 h.0)))
     (ap (λ (n : ℕ). leb n sdu_bits) b ∙ h.1))
     (ap (λ (n : ℕ). eqb n 0) s ∙ h.2)
 record-header Kind.Waiting r q p b s f e = false-not-true p
@@ -113,11 +113,11 @@ pub joined-sound : (g r : Record) → sound_record g ≡ true → is_grant_or_ac
     → sound_record (joined g r) ≡ true
 unfolding sound_record
 joined-sound g r eg kg er kr =
-    let fit = grant-fits g.kind g kg (and_right (legal_address g.address_kind g.number) (sound_as g.kind g) eg) in
-    and_intro (legal_address r.address_kind r.number) (sound_as r.kind (joined g r))
-    (and_left (legal_address r.address_kind r.number) (sound_as r.kind r) er)
+    let fit = grant-fits g.kind g kg (and_parts (legal_address g.address_kind g.number) (sound_as g.kind g) eg).1 in
+    and_from (legal_address r.address_kind r.number) (sound_as r.kind (joined g r))
+    (and_parts (legal_address r.address_kind r.number) (sound_as r.kind r) er).0
     (record-header r.kind r (joined g r) kr refl refl (header-joined g.kind g r fit.0 fit.1)
-    (and_right (legal_address r.address_kind r.number) (sound_as r.kind r) er))
+    (and_parts (legal_address r.address_kind r.number) (sound_as r.kind r) er).1)
 
 flag-fits : (k : Kind) → fits 1 (ack_flag k) ≡ true
 flag-fits Kind.Grant = refl
@@ -129,24 +129,24 @@ flag-fits Kind.Started = refl
 pub minimal-sound : (g : Record) → sound_record g ≡ true → is_grant_or_ack g.kind ≡ true → sound_record (minimal g) ≡ true
 unfolding sound_record legal_address
 minimal-sound g e k =
-    let a : legal_address g.address_kind g.number ≡ true = and_left (legal_address g.address_kind g.number) (sound_as g.kind g) e in
-    let fit = grant-fits g.kind g k (and_right (legal_address g.address_kind g.number) (sound_as g.kind g) e) in
+    let a : legal_address g.address_kind g.number ≡ true = (and_parts (legal_address g.address_kind g.number) (sound_as g.kind g) e).0 in
+    let fit = grant-fits g.kind g k (and_parts (legal_address g.address_kind g.number) (sound_as g.kind g) e).1 in
     let legal : legal_queued (resource_of (minimal g) 0 0) ≡ true =
     fields-legal (minimal g) 0 0 refl refl
     (record {
       position = refl;
       encryption = refl;
       flag = flag-fits g.kind;
-      number = and_right (leb g.address_kind 2)
-          (fits 24 g.number) a;
+      number = (and_parts (leb g.address_kind 2)
+          (fits 24 g.number) a).1;
       label = refl;
       marker = fit.1;
       power = refl;
       grant = fit.0;
       alloc = refl;
     }) in
-    and_intro (legal_address g.address_kind g.number) (legal_queued (resource_of (minimal g) 0 0) && true && true) a
-    (and_intro (legal_queued (resource_of (minimal g) 0 0) && true) true (and_intro (legal_queued (resource_of (minimal g) 0 0)) true legal refl) refl)
+    and_from (legal_address g.address_kind g.number) (legal_queued (resource_of (minimal g) 0 0) && true && true) a
+    (and_from (legal_queued (resource_of (minimal g) 0 0) && true) true (and_from (legal_queued (resource_of (minimal g) 0 0)) true legal refl) refl)
 
 -- ---- lists
 
@@ -157,31 +157,31 @@ pub items-each : (xs : List (Item (List ℕ))) → sound_items xs ≡ true → A
 unfolding sound_items
 items-each [] e = tt
 items-each (x ∷ xs) e =
-    (and_left (sound_place true x.rec x.load) (sound_items xs) e, items-each xs (and_right (sound_place true x.rec x.load) (sound_items xs) e))
+    ((and_parts (sound_place true x.rec x.load) (sound_items xs) e).0, items-each xs (and_parts (sound_place true x.rec x.load) (sound_items xs) e).1)
 
 pub each-items : (xs : List (Item (List ℕ))) → All SoundItem xs → sound_items xs ≡ true
 unfolding sound_items
 each-items [] h = refl
-each-items (x ∷ xs) h = and_intro (sound_place true x.rec x.load) (sound_items xs) h.0 (each-items xs h.1)
+each-items (x ∷ xs) h = and_from (sound_place true x.rec x.load) (sound_items xs) h.0 (each-items xs h.1)
 
 taken : (n : ℕ) (r : Record) → takes_number n r ≡ true → is_record r.kind ≡ true
 unfolding takes_number
-taken n r e = and_left (is_record r.kind) (eqb r.number n) e
+taken n r e = (and_parts (is_record r.kind) (eqb r.number n) e).0
 
 item-joined : (g x : Item (List ℕ)) → is_grant_or_ack g.rec.kind ≡ true → takes_number g.rec.number x.rec ≡ true → SoundItem g → SoundItem x
     → SoundItem (item (joined g.rec x.rec) x.load)
 unfolding sound_place
 item-joined g x k t eg ex =
-    and_intro (sound_record (joined g.rec x.rec)) (clean_past x.rec.bits x.load)
-    (joined-sound g.rec x.rec (and_left (sound_record g.rec) (clean_past g.rec.bits g.load) eg) k
-    (and_left (sound_record x.rec) (clean_past x.rec.bits x.load) ex) (taken g.rec.number x.rec t))
-    (and_right (sound_record x.rec) (clean_past x.rec.bits x.load) ex)
+    and_from (sound_record (joined g.rec x.rec)) (clean_past x.rec.bits x.load)
+    (joined-sound g.rec x.rec (and_parts (sound_record g.rec) (clean_past g.rec.bits g.load) eg).0 k
+    (and_parts (sound_record x.rec) (clean_past x.rec.bits x.load) ex).0 (taken g.rec.number x.rec t))
+    (and_parts (sound_record x.rec) (clean_past x.rec.bits x.load) ex).1
 
 item-minimal : (g : Item (List ℕ)) → is_grant_or_ack g.rec.kind ≡ true → SoundItem g → SoundItem (item (minimal g.rec) zero_cell)
 unfolding sound_place
 item-minimal g k e =
-    and_intro (sound_record (minimal g.rec)) (clean_past 0 zero_cell)
-    (minimal-sound g.rec (and_left (sound_record g.rec) (clean_past g.rec.bits g.load) e) k) zero-clean
+    and_from (sound_record (minimal g.rec)) (clean_past 0 zero_cell)
+    (minimal-sound g.rec (and_parts (sound_record g.rec) (clean_past g.rec.bits g.load) e).0 k) zero-clean
 
 pub merge-sound : (xs : List (Item (List ℕ))) → sound_items xs ≡ true → sound_items (merge_cells xs) ≡ true
 merge-sound xs e = each-items (merge_cells xs) (merge-all (always zero_cell) keep SoundItem item-joined item-minimal xs (items-each xs e))

@@ -1,9 +1,7 @@
 -- Document 01, "Queued record": merging. A record goes with a load that merging does not look at: its cell, the place that it comes from,
 -- or its SDU with the name of its grant. Assumes nothing.
-use Rattle.std.specs.Prelude.{Bool, ◌&&◌, cond, List, [], ◌∷◌, ℕ, eqb}
-use Rattle.std.proofs.Math.Option.{Option}
-use Rattle.optional.specs.declared.OptU8.{OptU8}
-use Rattle.optional.specs.declared.OptU16.{OptU16}
+use Rattle.std.specs.Prelude.{Bool, ◌&&◌, cond, List, [], ◌∷◌, ℕ, eqb, Option, None}
+use Rattle.std.specs.Option.{option_or}
 use Rattle.dl_record.specs.declared.Record.{Record}
 use Rattle.dl_record.specs.declared.QueuedHeader.{QueuedHeader}
 use Rattle.dl_record.specs.declared.Kind.{Kind}
@@ -11,9 +9,8 @@ use Rattle.dl_record.specs.Kind.{is_grant_or_ack, is_kept, is_record}
 use Rattle.dl_record.specs.Record.{grant_header}
 use Rattle.dl_queue.specs.Queue.{Item, item, zero_cell}
 
-abbrev pub or_else : OptU8 → OptU8 → OptU8
-or_else OptU8.Absent o = o
-or_else (OptU8.Of m) o = OptU8.Of m
+abbrev pub or_else : Option ℕ → Option ℕ → Option ℕ
+or_else m o = option_or m o
 
 -- "A grant replaces the grant there; the marker is set only if there was none."
 abbrev pub with_grant : QueuedHeader → QueuedHeader → QueuedHeader
@@ -77,7 +74,7 @@ minimal g =
       kind = Kind.Record;
       address_kind = g.address_kind;
       number = g.number;
-      tag = OptU16.Absent;
+      tag = None;
       header = grant_header (ack_flag g.kind) g.header.usage_marker g.header.slot_granting_element;
       bits = 0;
       sent = 0;

@@ -1,5 +1,5 @@
 -- How a list of records stands in arrays, with the places that they come from. Assumes nothing.
-use Rattle.std.specs.Prelude.{List, [], ◌∷◌, ℕ, zero, suc, length, get_or, drop}
+use Rattle.std.specs.Prelude.{List, [], ◌∷◌, ℕ, zero, suc, ◌+◌, length, get_or, set, drop}
 use Rattle.sizes.specs.Sizes.{per_timeslot, no_place}
 use Rattle.dl_record.specs.declared.Record.{Record}
 use Rattle.dl_record.specs.Record.{empty_record}
@@ -21,6 +21,10 @@ unfoldable pub sources_of : ℕ → List (Item ℕ) → List ℕ
 sources_of zero xs = []
 sources_of (suc k) [] = no_place ∷ sources_of k []
 sources_of (suc k) (x ∷ xs) = x.load ∷ sources_of k xs
+
+-- a record and its place behind those that are held
+abbrev pub pushed : Merged → Record → ℕ → Merged
+pushed m r place = record { records = set m.records m.count r; from = set m.from m.count place; count = m.count + 1 }
 
 -- a list of no more items than a timeslot has places, as the code holds it
 abbrev pub merged_of : List (Item ℕ) → Merged

@@ -1,4 +1,6 @@
 -- What queueing does to a sound memory: the record joins the end of its timeslot's list, no other list changes, and the memory stays sound. Assumes nothing.
+use Rattle.std.proofs.lemmas.Bool.{and_parts, and_from}
+use Rattle.std.proofs.Common.{Option}
 use mathlib.Core.Path.{◌≡◌, refl, ap, ◌∙◌}
 use mathlib.Core.Bool.{true}
 use mathlib.Core.List.{List, [], ◌∷◌, ◌++◌}
@@ -7,9 +9,6 @@ use lib.Dec.{leb}
 use lib.ListN.{length, get_or, set}
 use borrow.Author.Tests.{leb-true}
 use Rattle.sizes.specs.Sizes.{per_timeslot, cell_octets, timeslot_octets, sdu_bits}
-use Rattle.optional.specs.declared.OptU8.{OptU8}
-use Rattle.optional.specs.declared.OptU16.{OptU16}
-use Rattle.optional.proofs.Tests.{and_left, and_right, and_intro}
 use Rattle.mac_pdus.specs.Legal.{fits, opt_fits, legal_offered}
 use Rattle.dl_record.specs.declared.Record.{Record}
 use Rattle.dl_record.specs.declared.QueuedHeader.{QueuedHeader}
@@ -42,9 +41,9 @@ module _ (ns : List ℕ) (rs : List Record) (s : List ℕ) (t : ℕ) (inside : t
   unfolding sound_place present_sdu
   record-keeps r sdu good present =
       push-sound ns rs s t (get_or ns t 0) r (cell_of r.bits sdu) inside refl room places size (length-cell_of r.bits sdu)
-      (and_intro (sound_record r) (clean_past r.bits (cell_of r.bits sdu)) good
-      (clean-cell_of r.bits sdu (leb-true r.bits sdu_bits (and_left (leb r.bits sdu_bits) (leb r.bits (8 * length sdu)) present))
-      (leb-true r.bits (8 * length sdu) (and_right (leb r.bits sdu_bits) (leb r.bits (8 * length sdu)) present)))) sound
+      (and_from (sound_record r) (clean_past r.bits (cell_of r.bits sdu)) good
+      (clean-cell_of r.bits sdu (leb-true r.bits sdu_bits (and_parts (leb r.bits sdu_bits) (leb r.bits (8 * length sdu)) present).0)
+      (leb-true r.bits (8 * length sdu) (and_parts (leb r.bits sdu_bits) (leb r.bits (8 * length sdu)) present).1))) sound
 
   -- without SDU: its cell is zero as it stands
   pub empty-joins : (r : Record) → Octets s
@@ -58,10 +57,10 @@ module _ (ns : List ℕ) (rs : List Record) (s : List ℕ) (t : ℕ) (inside : t
   empty-keeps r octets good none =
       ap (sound_queue (enqueued ns rs t r).counts (enqueued ns rs t r).records) (unused-cell ns rs s t (get_or ns t 0) inside refl room size octets sound)
       ∙ push-sound ns rs s t (get_or ns t 0) r zero_cell inside refl room places size zero-size
-      (and_intro (sound_record r) (clean_past r.bits zero_cell) good (ap (λ (b : ℕ). clean_past b zero_cell) none ∙ zero-clean)) sound
+      (and_from (sound_record r) (clean_past r.bits zero_cell) good (ap (λ (b : ℕ). clean_past b zero_cell) none ∙ zero-clean)) sound
 
   -- a grant, an ack and a record join the end of their timeslot's list, no other list changes, and the memory stays sound
-  pub grant-joins : (k number octet : ℕ) (m : OptU8) → Octets s → legal_address k number ≡ true → fits 8 octet ≡ true → opt_fits 6 m ≡ true
+  pub grant-joins : (k number octet : ℕ) (m : Option ℕ) → Octets s → legal_address k number ≡ true → fits 8 octet ≡ true → opt_fits 6 m ≡ true
       → HoldsQueues (with_last (queues_of ns rs s) t (item (grant_record k number octet m) zero_cell)) (enqueued ns rs t (grant_record k number octet m)) s
   grant-joins k number octet m octets a o w =
       let r = grant_record k number octet m in
@@ -73,7 +72,7 @@ module _ (ns : List ℕ) (rs : List Record) (s : List ℕ) (t : ℕ) (inside : t
       let r = ack_record k number in
       record { lists = empty-joins r octets; sound = empty-keeps r octets (ack-sound k number a) refl; octets = octets }
 
-  pub offered-joins : (k number : ℕ) (tag : OptU16) (h : QueuedHeader) (bits : ℕ) (sdu : List ℕ) → Octets s → legal_address k number ≡ true
+  pub offered-joins : (k number : ℕ) (tag : Option ℕ) (h : QueuedHeader) (bits : ℕ) (sdu : List ℕ) → Octets s → legal_address k number ≡ true
       → legal_offered (resource_of (offered_record k number tag h bits) 0 0) ≡ true → present_sdu bits sdu ≡ true
       → HoldsQueues (with_last (queues_of ns rs s) t (item (offered_record k number tag h bits) (cell_of bits sdu)))
       (enqueued ns rs t (offered_record k number tag h bits)) (with_cell s ns t (cell_of bits sdu))

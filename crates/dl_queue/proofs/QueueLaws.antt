@@ -1,4 +1,5 @@
 -- The places of a timeslot and the list that they hold determine each other. Assumes nothing.
+use Rattle.std.proofs.lemmas.Bool.{and_parts}
 use mathlib.Core.Path.{◌≡◌, refl, sym, ap, ap₂, ◌∙◌}
 use mathlib.Core.Bool.{true, false}
 use mathlib.Core.List.{List, [], ◌∷◌, ◌++◌, map}
@@ -9,7 +10,6 @@ use lib.ListN.{length, get_or, drop, take, replicate, length-drop, take-append-d
 use lib.Seq.{length-take-le, take-add}
 use borrow.Author.Tests.{leb-true}
 use Rattle.sizes.specs.Sizes.{per_timeslot, cell_octets, timeslot_octets}
-use Rattle.optional.proofs.Tests.{and_left, and_right}
 use Rattle.mac_pdus.proofs.Conjunctions.{and3}
 use Rattle.dl_record.proofs.RecordLaws.{empty-is}
 use Rattle.dl_record.specs.declared.Record.{Record}
@@ -47,13 +47,13 @@ cell-length s k e = length-take-le cell_octets s (omega arith)
 -- a place that is not filled holds the empty record, and its cell zeros
 empty-record : (r : Record) (cell : List ℕ) → sound_place false r cell ≡ true → r ≡ empty_record
 unfolding sound_place
-empty-record r cell e = empty-is r (and_left (is_empty r) (clean_past r.bits cell) e)
+empty-record r cell e = empty-is r (and_parts (is_empty r) (clean_past r.bits cell) e).0
 
 pub empty-cell : (r : Record) (cell : List ℕ) → length cell ≡ cell_octets → Octets cell → sound_place false r cell ≡ true → cell ≡ zero_cell
 unfolding sound_place
 empty-cell r cell l h e =
     zero-cell cell l h
-    (ap (λ (x : Record). clean_past x.bits cell) (sym (empty-record r cell e)) ∙ and_right (is_empty r) (clean_past r.bits cell) e)
+    (ap (λ (x : Record). clean_past x.bits cell) (sym (empty-record r cell e)) ∙ (and_parts (is_empty r) (clean_past r.bits cell) e).1)
 
 -- a sound timeslot is what its list gives back
 records-back : (k n : ℕ) (rs : List Record) (s : List ℕ) → n ≤ k → k ≤ length rs → sound_places k n rs s ≡ true → records_of k (queue_of n rs s) ≡ take k rs
@@ -63,16 +63,16 @@ records-back zero (suc n) rs s b l e = absurd (omega arith)
 records-back (suc k) zero rs s b l e =
     let r : Record = get_or rs 0 empty_record in
     let p : sound_place false r (take cell_octets s) ≡ true =
-    and_left (sound_place false r (take cell_octets s)) (sound_places k zero (drop 1 rs) (drop cell_octets s)) e in
+    (and_parts (sound_place false r (take cell_octets s)) (sound_places k zero (drop 1 rs) (drop cell_octets s)) e).0 in
     let q : sound_places k zero (drop 1 rs) (drop cell_octets s) ≡ true =
-    and_right (sound_place false r (take cell_octets s)) (sound_places k zero (drop 1 rs) (drop cell_octets s)) e in
+    (and_parts (sound_place false r (take cell_octets s)) (sound_places k zero (drop 1 rs) (drop cell_octets s)) e).1 in
     ap₂ (λ (x : Record) (l : List Record). x ∷ l) (sym (empty-record r (take cell_octets s) p))
     (records-back k zero (drop 1 rs) (drop cell_octets s) (omega arith) (tail-length rs k l) q)
     ∙ sym (first rs empty_record k l)
 records-back (suc k) (suc n) rs s b l e =
     let r : Record = get_or rs 0 empty_record in
     let q : sound_places k n (drop 1 rs) (drop cell_octets s) ≡ true =
-    and_right (sound_place true r (take cell_octets s)) (sound_places k n (drop 1 rs) (drop cell_octets s)) e in
+    (and_parts (sound_place true r (take cell_octets s)) (sound_places k n (drop 1 rs) (drop cell_octets s)) e).1 in
     ap (λ (l : List Record). r ∷ l) (records-back k n (drop 1 rs) (drop cell_octets s) (omega arith) (tail-length rs k l) q)
     ∙ sym (first rs empty_record k l)
 
@@ -84,16 +84,16 @@ cells-back zero (suc n) rs s b m h e = absurd (omega arith)
 cells-back (suc k) zero rs s b m h e =
     let r : Record = get_or rs 0 empty_record in
     let p : sound_place false r (take cell_octets s) ≡ true =
-    and_left (sound_place false r (take cell_octets s)) (sound_places k zero (drop 1 rs) (drop cell_octets s)) e in
+    (and_parts (sound_place false r (take cell_octets s)) (sound_places k zero (drop 1 rs) (drop cell_octets s)) e).0 in
     let q : sound_places k zero (drop 1 rs) (drop cell_octets s) ≡ true =
-    and_right (sound_place false r (take cell_octets s)) (sound_places k zero (drop 1 rs) (drop cell_octets s)) e in
+    (and_parts (sound_place false r (take cell_octets s)) (sound_places k zero (drop 1 rs) (drop cell_octets s)) e).1 in
     ap₂ (λ (a b : List ℕ). a ++ b) (sym (empty-cell r (take cell_octets s) (cell-length s k m) (octets-take cell_octets s h) p))
     (cells-back k zero (drop 1 rs) (drop cell_octets s) (omega arith) (cells-length s k m) (octets-drop cell_octets s h) q)
     ∙ cells-first s k
 cells-back (suc k) (suc n) rs s b m h e =
     let r : Record = get_or rs 0 empty_record in
     let q : sound_places k n (drop 1 rs) (drop cell_octets s) ≡ true =
-    and_right (sound_place true r (take cell_octets s)) (sound_places k n (drop 1 rs) (drop cell_octets s)) e in
+    (and_parts (sound_place true r (take cell_octets s)) (sound_places k n (drop 1 rs) (drop cell_octets s)) e).1 in
     ap (λ (b : List ℕ). take cell_octets s ++ b) (cells-back k n (drop 1 rs) (drop cell_octets s) (omega arith) (cells-length s k m)
     (octets-drop cell_octets s h) q)
     ∙ cells-first s k

@@ -1,4 +1,5 @@
 -- A sound memory stays sound when a timeslot gets a list of sound records, or one more. Assumes nothing.
+use Rattle.std.proofs.lemmas.Bool.{and_parts, and_from}
 use mathlib.Core.Path.{◌≡◌, refl, sym, ap, ap₂, ◌∙◌, subst}
 use mathlib.Core.Bool.{Bool, true, false, ◌&&◌}
 use mathlib.Core.List.{List, [], ◌∷◌, ◌++◌, append_assoc}
@@ -9,7 +10,6 @@ use lib.Dec.{eqb, leb, ltb}
 use lib.ListN.{length, get_or, drop, take, set, replicate, length-set, length-drop, take-append-drop}
 use lib.Seq.{get_or-set_same, get_or-set_other, drop-drop, drop_at, take_at, take-take, length-take-le, paste}
 use Rattle.sizes.specs.Sizes.{per_timeslot, cell_octets, timeslot_octets}
-use Rattle.optional.proofs.Tests.{and_left, and_right, and_intro}
 use Rattle.dl_sdu_store.proofs.CellBits.{all-zeros}
 use Rattle.dl_sdu_store.proofs.OctetLaws.{Octets, octets-take, octets-drop, octets-zero}
 use Rattle.dl_queue.proofs.QueueLaws.{empty-cell}
@@ -39,10 +39,10 @@ pub places-at : (k n : ℕ) (rs : List Record) (s : List ℕ) → sound_places k
     → sound_place (ltb i n) (rec_at rs i) (cell_at s i) ≡ true
 places-at zero n rs s e i h = absurd (omega arith)
 places-at (suc k) n rs s e zero h =
-    and_left (sound_place (ltb 0 n) (rec_at rs 0) (take cell_octets s)) (sound_places k (n - 1) (drop 1 rs) (drop cell_octets s)) (sym (step k n rs s) ∙ e)
+    (and_parts (sound_place (ltb 0 n) (rec_at rs 0) (take cell_octets s)) (sound_places k (n - 1) (drop 1 rs) (drop cell_octets s)) (sym (step k n rs s) ∙ e)).0
 places-at (suc k) n rs s e (suc i) h =
     let q : sound_places k (n - 1) (drop 1 rs) (drop cell_octets s) ≡ true =
-    and_right (sound_place (ltb 0 n) (rec_at rs 0) (take cell_octets s)) (sound_places k (n - 1) (drop 1 rs) (drop cell_octets s)) (sym (step k n rs s) ∙ e) in
+    (and_parts (sound_place (ltb 0 n) (rec_at rs 0) (take cell_octets s)) (sound_places k (n - 1) (drop 1 rs) (drop cell_octets s)) (sym (step k n rs s) ∙ e)).1 in
     let here : sound_place (ltb i (n - 1)) (rec_at (drop 1 rs) i) (cell_at (drop cell_octets s) i) ≡ true =
     places-at k (n - 1) (drop 1 rs) (drop cell_octets s) q i (omega arith) in
     ap (λ (j : ℕ). sound_place (ltb j n) (rec_at rs j) (cell_at s j)) (sym (one-add i))
@@ -56,7 +56,7 @@ unfolding sound_places
 places-all zero n rs s f = refl
 places-all (suc k) n rs s f =
     step k n rs s
-    ∙ and_intro (sound_place (ltb 0 n) (rec_at rs 0) (take cell_octets s)) (sound_places k (n - 1) (drop 1 rs) (drop cell_octets s)) (f 0 (omega arith))
+    ∙ and_from (sound_place (ltb 0 n) (rec_at rs 0) (take cell_octets s)) (sound_places k (n - 1) (drop 1 rs) (drop cell_octets s)) (f 0 (omega arith))
     (places-all k (n - 1) (drop 1 rs) (drop cell_octets s)
     (λ i h. ap (λ (b : Bool). sound_place b (rec_at (drop 1 rs) i) (cell_at (drop cell_octets s) i)) (later i n)
     ∙ ap₂ (sound_place (ltb (1 + i) n)) (rec-shift 1 rs i) (cell-shift 1 s i) ∙ f (1 + i) (omega arith)))
@@ -90,8 +90,8 @@ unfolding sound_queue
 queue-all [] rs s f = refl
 queue-all (n ∷ ns) rs s f =
     let one = f 0 (omega arith) in
-    and_intro (leb n per_timeslot && sound_places per_timeslot n rs s) (sound_queue ns (drop per_timeslot rs) (drop timeslot_octets s))
-    (and_intro (leb n per_timeslot) (sound_places per_timeslot n rs s) (le-leb n per_timeslot one.0) one.1)
+    and_from (leb n per_timeslot && sound_places per_timeslot n rs s) (sound_queue ns (drop per_timeslot rs) (drop timeslot_octets s))
+    (and_from (leb n per_timeslot) (sound_places per_timeslot n rs s) (le-leb n per_timeslot one.0) one.1)
     (queue-all ns (drop per_timeslot rs) (drop timeslot_octets s)
     (λ u h. let q = f (suc u) (omega arith) in
     let a : per_timeslot + per_timeslot * u ≡ per_timeslot * suc u = omega arith in
@@ -108,10 +108,10 @@ unfolding sound_items queue_of sound_places
 items-sound k zero rs s h e = refl
 items-sound zero (suc n) rs s h e = absurd (omega arith)
 items-sound (suc k) (suc n) rs s h e =
-    and_intro (sound_place true (rec_at rs 0) (take cell_octets s)) (sound_items (queue_of n (drop 1 rs) (drop cell_octets s)))
-    (and_left (sound_place true (rec_at rs 0) (take cell_octets s)) (sound_places k n (drop 1 rs) (drop cell_octets s)) e)
+    and_from (sound_place true (rec_at rs 0) (take cell_octets s)) (sound_items (queue_of n (drop 1 rs) (drop cell_octets s)))
+    (and_parts (sound_place true (rec_at rs 0) (take cell_octets s)) (sound_places k n (drop 1 rs) (drop cell_octets s)) e).0
     (items-sound k n (drop 1 rs) (drop cell_octets s) (omega arith)
-    (and_right (sound_place true (rec_at rs 0) (take cell_octets s)) (sound_places k n (drop 1 rs) (drop cell_octets s)) e))
+    (and_parts (sound_place true (rec_at rs 0) (take cell_octets s)) (sound_places k n (drop 1 rs) (drop cell_octets s)) e).1)
 
 pub zero-clean : clean_past 0 zero_cell ≡ true
 unfolding clean_past zero_cell
@@ -119,7 +119,7 @@ zero-clean = zero-bits_of (replicate cell_octets 0) (octets-zero cell_octets) �
 
 pub empty-sound : sound_place false empty_record zero_cell ≡ true
 unfolding sound_place
-empty-sound = and_intro (is_empty empty_record) (clean_past 0 zero_cell) is-empty zero-clean
+empty-sound = and_from (is_empty empty_record) (clean_past 0 zero_cell) is-empty zero-clean
 
 pub places-sound : (k : ℕ) (xs : List (Item (List ℕ))) → length xs ≤ k → Cells xs → sound_items xs ≡ true
     → sound_places k (length xs) (records_of k xs) (cells_of k xs) ≡ true
@@ -128,14 +128,14 @@ places-sound zero xs b h e = refl
 places-sound (suc k) [] b h e =
     ap₂ (λ (a b : List ℕ). sound_place false empty_record a && sound_places k 0 (records_of {C = List ℕ} k []) b)
     (take_at zero_cell (cells_of k []) cell_octets zero-size) (drop_at zero_cell (cells_of k []) cell_octets zero-size)
-    ∙ and_intro (sound_place false empty_record zero_cell) (sound_places k 0 (records_of {C = List ℕ} k []) (cells_of k [])) empty-sound
+    ∙ and_from (sound_place false empty_record zero_cell) (sound_places k 0 (records_of {C = List ℕ} k []) (cells_of k [])) empty-sound
     (places-sound k [] (omega arith) h e)
 places-sound (suc k) (x ∷ xs) b h e =
     ap₂ (λ (a b : List ℕ). sound_place true x.rec a && sound_places k (length xs) (records_of k xs) b) (take_at x.load (cells_of k xs) cell_octets h.0)
     (drop_at x.load (cells_of k xs) cell_octets h.0)
-    ∙ and_intro (sound_place true x.rec x.load) (sound_places k (length xs) (records_of k xs) (cells_of k xs))
-    (and_left (sound_place true x.rec x.load) (sound_items xs) e)
-    (places-sound k xs (omega arith) h.1 (and_right (sound_place true x.rec x.load) (sound_items xs) e))
+    ∙ and_from (sound_place true x.rec x.load) (sound_places k (length xs) (records_of k xs) (cells_of k xs))
+    (and_parts (sound_place true x.rec x.load) (sound_items xs) e).0
+    (places-sound k xs (omega arith) h.1 (and_parts (sound_place true x.rec x.load) (sound_items xs) e).1)
 
 -- ---- a timeslot's list set: the memory stays sound
 

@@ -7,6 +7,7 @@ ghost use Rattle.dl_queue.specs.Questions.{sound_place};
 use dl_record::Record;
 
 // Question 1 for a place that is filled, and its cell.
+#[tactic(auto, unfolding(crate::specs::Questions::sound_place))]
 pub fn filled_is_sound(r: Record, cell: &[u8]) -> bool
     ensures { result ≡ sound_place true r cell.now }
 {

@@ -1,7 +1,7 @@
 -- Document 01, "Questions put to each call", 1 and 5 to 7 for one record. Assumes nothing.
 use Rattle.std.specs.Prelude.{Bool, not, ◌&&◌, List, ℕ, ◌*◌, leb, eqb, length}
 use Rattle.sizes.specs.Sizes.{sdu_bits}
-use Rattle.mac_pdus.specs.Legal.{absent_u8, absent_u16, absent_chan_alloc, fits, opt_fits, legal_queued}
+use Rattle.mac_pdus.specs.Legal.{absent, fits, opt_fits, legal_queued}
 use Rattle.dl_record.specs.declared.Record.{Record}
 use Rattle.dl_record.specs.declared.QueuedHeader.{QueuedHeader}
 use Rattle.dl_record.specs.declared.Kind.{Kind}
@@ -19,19 +19,19 @@ present_sdu bits octets = leb bits sdu_bits && leb bits (8 * length octets)
 -- every part of a header but the grant and the marker 0 or absent
 unfoldable pub header_holds_grant_only : QueuedHeader → Bool
 header_holds_grant_only h =
-    eqb h.pos_of_grant 0 && eqb h.encryption_mode 0 && eqb h.random_access_flag 0 && absent_u16 h.event_label
-    && absent_u8 h.power_control_element && absent_chan_alloc h.chan_alloc_element
+    eqb h.pos_of_grant 0 && eqb h.encryption_mode 0 && eqb h.random_access_flag 0 && absent h.event_label
+    && absent h.power_control_element && absent h.chan_alloc_element
 
 -- no SDU, no tag, and such a header
 unfoldable pub holds_grant_only : Record → Bool
-holds_grant_only r = eqb r.bits 0 && eqb r.sent 0 && absent_u16 r.tag && header_holds_grant_only r.header
+holds_grant_only r = eqb r.bits 0 && eqb r.sent 0 && absent r.tag && header_holds_grant_only r.header
 
 -- "A grant or ack holds only its address, a grant its octet and marker too"; "stored records passing 5–7, sent bits within the SDU and 0 unless started"
 abbrev pub sound_as : Kind → Record → Bool
 sound_as Kind.Grant r =
-    holds_grant_only r && not (absent_u8 r.header.slot_granting_element) && opt_fits 8 r.header.slot_granting_element
+    holds_grant_only r && not (absent r.header.slot_granting_element) && opt_fits 8 r.header.slot_granting_element
     && opt_fits 6 r.header.usage_marker
-sound_as Kind.Ack r = holds_grant_only r && absent_u8 r.header.slot_granting_element && absent_u8 r.header.usage_marker
+sound_as Kind.Ack r = holds_grant_only r && absent r.header.slot_granting_element && absent r.header.usage_marker
 sound_as Kind.Record r = legal_queued (resource_of r 0 0) && leb r.bits sdu_bits && eqb r.sent 0
 sound_as Kind.Waiting r = legal_queued (resource_of r 0 0) && leb r.bits sdu_bits && eqb r.sent 0
 sound_as Kind.Started r = legal_queued (resource_of r 0 0) && leb r.bits sdu_bits && leb r.sent r.bits
@@ -43,5 +43,5 @@ sound_record r = legal_address r.address_kind r.number && sound_as r.kind r
 -- the record of a place that is not filled: the empty record, as a test
 unfoldable pub is_empty : Record → Bool
 is_empty r =
-    is_grant r.kind && eqb r.address_kind 0 && eqb r.number 0 && holds_grant_only r && absent_u8 r.header.slot_granting_element
-    && absent_u8 r.header.usage_marker
+    is_grant r.kind && eqb r.address_kind 0 && eqb r.number 0 && holds_grant_only r && absent r.header.slot_granting_element
+    && absent r.header.usage_marker

@@ -7,8 +7,8 @@ use Prim.Native.Nat.{ℕ, zero, suc, ◌+◌, ◌-◌, ◌*◌, ◌/◌, ◌%◌
 use native.Mathlib.Nat.{add-zero}
 use lib.Dec.{eqb}
 use borrow.Author.Tests.{eqb-true}
+use Rattle.std.proofs.lemmas.Bool.{and_parts}
 use Rattle.sizes.specs.Sizes.{cell_octets, sdu_bits}
-use Rattle.optional.proofs.Tests.{and_left, and_right}
 use Rattle.dl_record.proofs.Tests.{lt-or-le}
 use native.Mathlib.Omega.{arith}
 use lib.Pow.{pow_pos, split}
@@ -143,7 +143,7 @@ clean-cell_of n s h l =
 pub zero-list : (l : List ℕ) → all_zero l ≡ true → l ≡ zeros (length l)
 unfolding all_zero
 zero-list [] e = refl
-zero-list (x ∷ l) e = ap₂ (λ (y : ℕ) (m : List ℕ). y ∷ m) (eqb-true x 0 (and_left (eqb x 0) (all_zero l) e)) (zero-list l (and_right (eqb x 0) (all_zero l) e))
+zero-list (x ∷ l) e = ap₂ (λ (y : ℕ) (m : List ℕ). y ∷ m) (eqb-true x 0 (and_parts (eqb x 0) (all_zero l) e).0) (zero-list l (and_parts (eqb x 0) (all_zero l) e).1)
 
 -- a clean cell is determined by the bits of its SDU
 pub clean-same : (n : ℕ) (c d : List ℕ) → length c ≡ length d → ((i : ℕ) → get_or c i 0 < 2 ^ 8) → ((i : ℕ) → get_or d i 0 < 2 ^ 8)

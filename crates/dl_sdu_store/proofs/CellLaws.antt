@@ -6,8 +6,10 @@ use native.Mathlib.Nat.{mod-eq_of_lt}
 use native.Mathlib.Numerals.{add-one, one-add}
 use native.Mathlib.Omega.{arith}
 use lib.Pow.{split}
-use lib.ListN.{length, drop, take, get_or, set, replicate, length-replicate, length-drop, get_or-replicate}
-use lib.Seq.{get_or-drop, drop-drop, length-take-le, drop-paste, take-paste, take-add, get_or-take, ext_get_or, paste, paste-suc}
+use lib.ListN.{length, drop, take, get_or, set, replicate, length-replicate, length-drop, length-set, length-take, get_or-replicate}
+use lib.Seq.{get_or-drop, drop-drop, length-take-le, drop-paste, take-paste, take-add, get_or-take, ext_get_or, paste, paste-suc, take-take, length-paste}
+use borrow.Rule.Slice.PartMut.{put_mid}
+use Rattle.std.proofs.lemmas.Slice.{put_mid-paste}
 use Rattle.sizes.specs.Sizes.{cell_octets, sdu_bits}
 use Rattle.dl_sdu_store.specs.Cells.{first_bits}
 
@@ -125,6 +127,17 @@ cell-suffix n s h =
     get_or-take k z i 0 q ∙ get_or-replicate k i 0 0 q
     ∙ cell-past n (w + 1 + i) s (omega arith) (omega arith) ∙ sym (get_or-drop (w + 1) (octet_cell n s) i 0) ∙ sym (get_or-take k t i 0 q))
 
+-- the first `w` of a list copied into a part of that length, and a part filled with zeros
+put-first : (d ys s : List ℕ) (base k w : ℕ) → ys ≡ take w s → k ≡ w → w ≤ length s → put_mid base k d ys ≡ paste d base s w
+put-first d ys s base k w e ek h =
+    put_mid-paste base k d ys (take w s) w e (sym ek) (sym (length-take-le w s h)) ∙ paste-same d base (take w s) s w (take-take w w s (omega arith))
+
+put-zeros : (l ys : List ℕ) (at k n : ℕ) → ys ≡ replicate (length (take k (drop at l))) 0 → k ≡ n → at + n ≤ length l
+    → put_mid at k l ys ≡ paste l at (replicate n 0) n
+put-zeros l ys at k n e ek h =
+    let long : length (take k (drop at l)) ≡ n = rw (length-take, length-drop) (omega arith) in
+    put_mid-paste at k l ys (replicate n 0) n (e ∙ ap (λ (m : ℕ). replicate m 0) long) (sym ek) (sym (length-replicate n 0))
+
 -- a cell written in three steps
 pub cell-written : (d : List ℕ) (base n : ℕ) (s : List ℕ) (x : ℕ) → base + cell_octets ≤ length d → n ≤ sdu_bits → n ≤ 8 * length s → n / 8 < cell_octets
     → x ≡ first_bits (n % 8) (get_or s (n / 8) 0)
@@ -145,3 +158,20 @@ cell-written d base n s x hd h k b e =
 pub cell_full : (d : List ℕ) (base n : ℕ) (s : List ℕ) → n ≤ sdu_bits → n ≤ 8 * length s → n / 8 ≡ cell_octets
     → paste d base s (n / 8) ≡ paste d base (octet_cell n s) cell_octets
 cell_full d base n s h k e = paste-same d base s (octet_cell n s) (n / 8) (cell-prefix n s h k) ∙ ap (paste d base (octet_cell n s)) e
+
+-- as the code writes it: `k` octets copied, one stored, and `j` filled
+pub cell-put : (d : List ℕ) (base n : ℕ) (s : List ℕ) (x k j : ℕ) (ys zs : List ℕ) → base + cell_octets ≤ length d → n ≤ sdu_bits → n ≤ 8 * length s
+    → n / 8 < cell_octets → x ≡ first_bits (n % 8) (get_or s (n / 8) 0) → ys ≡ take (n / 8) s → k ≡ n / 8 → j ≡ cell_octets - 1 - n / 8
+    → zs ≡ replicate (length (take j (drop (base + (n / 8 + 1)) (set (put_mid base k d ys) (base + n / 8) x)))) 0
+    → put_mid (base + (n / 8 + 1)) j (set (put_mid base k d ys) (base + n / 8) x) zs ≡ paste d base (octet_cell n s) cell_octets
+cell-put d base n s x k j ys zs hd h hs b e ey ek ej ez =
+    let w : ℕ = n / 8 in
+    let first : put_mid base k d ys ≡ paste d base s w = put-first d ys s base k w ey ek (omega arith) in
+    let long : length (put_mid base k d ys) ≡ length d = ap length first ∙ length-paste d base s w (omega arith) (omega arith) in
+    put-zeros (set (put_mid base k d ys) (base + w) x) zs (base + (w + 1)) j (cell_octets - 1 - w) ez ej (rw length-set (omega (arith, long)))
+    ∙ ap (λ (l : List ℕ). paste (set l (base + w) x) (base + (w + 1)) (replicate (cell_octets - 1 - w) 0) (cell_octets - 1 - w)) first
+    ∙ cell-written d base n s x hd h hs b e
+
+pub cell_put-full : (d : List ℕ) (base n : ℕ) (s : List ℕ) (k : ℕ) (ys : List ℕ) → n ≤ sdu_bits → n ≤ 8 * length s → n / 8 ≡ cell_octets
+    → ys ≡ take (n / 8) s → k ≡ n / 8 → put_mid base k d ys ≡ paste d base (octet_cell n s) cell_octets
+cell_put-full d base n s k ys h hs e ey ek = put-first d ys s base k (n / 8) ey ek (omega arith) ∙ cell_full d base n s h hs e

@@ -13,7 +13,7 @@ use lib.Pow.{pow_pos, pow-add, shl-shr, mod-pow-add}
 use lib.ListN.{length, drop, get_or, drop_of_length-le, take}
 use lib.Seq.{get_or-drop, drop-drop, drop-cons, drop-append-le, drop_at}
 use borrow.Author.Tests.{eqb-true, eq-eqb}
-use Rattle.optional.proofs.Tests.{and_left, and_right, and_intro}
+use Rattle.std.proofs.lemmas.Bool.{and_parts, and_from}
 use Rattle.dl_record.proofs.Tests.{same_test}
 use Rattle.bitbuffer.specs.Bits.{bits_of, value_bits}
 use Rattle.bitbuffer.proofs.Laws.{length-value_bits, value_bits-append, length-bits_of, sum-le}
@@ -23,22 +23,21 @@ use Rattle.dl_sdu_store.specs.Cells.{all_zero, clean_past}
 pub or-zero : (a b : ℕ) → eqb (bit_or a b) 0 ≡ eqb a 0 && eqb b 0
 or-zero a b =
     same_test (eqb (bit_or a b) 0) (eqb a 0 && eqb b 0)
-    (λ e. and_intro (eqb a 0) (eqb b 0) (eq-eqb a 0 (omega (arith, eqb-true (bit_or a b) 0 e, or_add_and a b, and_le_l a b, and_le_r a b)))
+    (λ e. and_from (eqb a 0) (eqb b 0) (eq-eqb a 0 (omega (arith, eqb-true (bit_or a b) 0 e, or_add_and a b, and_le_l a b, and_le_r a b)))
     (eq-eqb b 0 (omega (arith, eqb-true (bit_or a b) 0 e, or_add_and a b, and_le_l a b, and_le_r a b))))
-    (λ e. eq-eqb (bit_or a b) 0 (omega (arith, eqb-true a 0 (and_left (eqb a 0) (eqb b 0) e), eqb-true b 0 (and_right (eqb a 0) (eqb b 0) e), or_add_and a b)))
-
--- a turn of the loop that gathers octets, and its end
-pub or_turn : (s : List ℕ) (i a : ℕ) → i < length s → eqb (bit_or a (get_or s i 0)) 0 && all_zero (drop (i + 1) s) ≡ eqb a 0 && all_zero (drop i s)
-unfolding all_zero
-or_turn s i a h =
-    ap (λ (t : Bool). t && all_zero (drop (i + 1) s)) (or-zero a (get_or s i 0))
-    ∙ and_assoc (eqb a 0) (eqb (get_or s i 0) 0) (all_zero (drop (i + 1) s))
-    ∙ ap (λ (t : Bool). eqb a 0 && t) (ap (λ (n : ℕ). eqb (get_or s i 0) 0 && all_zero (drop n s)) (add-one i) ∙ ap all_zero (sym (drop-cons s i 0 h)))
+    (λ e. eq-eqb (bit_or a b) 0 (omega (arith, eqb-true a 0 (and_parts (eqb a 0) (eqb b 0) e).0, eqb-true b 0 (and_parts (eqb a 0) (eqb b 0) e).1, or_add_and a b)))
 
 pub zero-append : (l m : List ℕ) → all_zero (l ++ m) ≡ all_zero l && all_zero m
 unfolding all_zero
 zero-append [] m = refl
 zero-append (x ∷ l) m = ap (λ (t : Bool). eqb x 0 && t) (zero-append l m) ∙ sym (and_assoc (eqb x 0) (all_zero l) (all_zero m))
+
+-- one octet more is gathered
+pub or-more : (ys : List ℕ) (a x b : ℕ) → eqb a 0 ≡ all_zero ys → b ≡ bit_or a x → eqb b 0 ≡ all_zero (ys ++ (x ∷ []))
+unfolding all_zero
+or-more ys a x b h e =
+    ap (λ (n : ℕ). eqb n 0) e ∙ or-zero a x ∙ ap (λ (t : Bool). t && eqb x 0) h
+    ∙ sym (zero-append ys (x ∷ []) ∙ ap (λ (t : Bool). all_zero ys && t) (and-true (eqb x 0)))
 
 -- the low w bits of a number are zero exactly if it is a multiple of 2 ^ w
 pub zero-value_bits : (w x : ℕ) → all_zero (value_bits w x) ≡ eqb (x % 2 ^ w) 0
@@ -47,10 +46,10 @@ zero-value_bits zero x = sym (eq-eqb (x % 1) 0 (omega arith))
 zero-value_bits (suc w) x =
     ap (λ (t : Bool). eqb (x / 2 ^ w % 2) 0 && t) (zero-value_bits w x)
     ∙ same_test (eqb (x / 2 ^ w % 2) 0 && eqb (x % 2 ^ w) 0) (eqb (x % 2 ^ suc w) 0)
-    (λ e. eq-eqb (x % 2 ^ suc w) 0 (up (eqb-true (x / 2 ^ w % 2) 0 (and_left (eqb (x / 2 ^ w % 2) 0) (eqb (x % 2 ^ w) 0) e))
-    (eqb-true (x % 2 ^ w) 0 (and_right (eqb (x / 2 ^ w % 2) 0) (eqb (x % 2 ^ w) 0) e))))
+    (λ e. eq-eqb (x % 2 ^ suc w) 0 (up (eqb-true (x / 2 ^ w % 2) 0 (and_parts (eqb (x / 2 ^ w % 2) 0) (eqb (x % 2 ^ w) 0) e).0)
+    (eqb-true (x % 2 ^ w) 0 (and_parts (eqb (x / 2 ^ w % 2) 0) (eqb (x % 2 ^ w) 0) e).1)))
     (λ e. let z : x / 2 ^ w % 2 * 2 ^ w + x % 2 ^ w ≡ 0 = sym whole ∙ eqb-true (x % 2 ^ suc w) 0 e in
-    and_intro (eqb (x / 2 ^ w % 2) 0) (eqb (x % 2 ^ w) 0) (eq-eqb (x / 2 ^ w % 2) 0 (omega (arith, sum-le (x / 2 ^ w % 2) w (x % 2 ^ w) 0 z)))
+    and_from (eqb (x / 2 ^ w % 2) 0) (eqb (x % 2 ^ w) 0) (eq-eqb (x / 2 ^ w % 2) 0 (omega (arith, sum-le (x / 2 ^ w % 2) w (x % 2 ^ w) 0 z)))
     (eq-eqb (x % 2 ^ w) 0 (omega (arith, z))))
   where
     whole : x % 2 ^ suc w ≡ x / 2 ^ w % 2 * 2 ^ w + x % 2 ^ w
@@ -119,10 +118,6 @@ unfolding clean_past all_zero
 clean-over s n k =
     let h : length (bits_of s) ≤ n = rw length-bits_of (omega arith) in
     sym (ap all_zero (drop_of_length-le (bits_of s) h))
-
-pub none_left : (s : List ℕ) (i a : ℕ) → length s ≤ i → eqb a 0 ≡ eqb a 0 && all_zero (drop i s)
-unfolding all_zero
-none_left s i a h = sym (ap (λ (l : List ℕ). eqb a 0 && all_zero l) (drop_of_length-le s h) ∙ and-true (eqb a 0))
 
 -- a first part that is looked at twice
 twice : (m : ℕ) (l : List ℕ) → all_zero (take m l) && all_zero l ≡ all_zero l

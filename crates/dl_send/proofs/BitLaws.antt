@@ -1,4 +1,5 @@
 -- Headers and fill are bits, and fill is found again behind the SDU. Assumes nothing.
+use Rattle.std.proofs.Common.{Option, Some, None}
 use mathlib.Core.Path.{◌≡◌, refl, ap, ◌∙◌}
 use mathlib.Core.List.{List, [], ◌∷◌, ◌++◌, append-nil}
 use Prim.Native.Nat.{ℕ, zero, suc, ◌+◌, ◌-◌}
@@ -10,10 +11,8 @@ use Rattle.bitbuffer.specs.Bits.{value_bits, AreBits}
 use Rattle.bitbuffer.proofs.Laws.{bits-value_bits, bits-append}
 use Rattle.fillbits.specs.Fill.{fill_bits, from_last_set}
 use Rattle.fillbits.proofs.Laws.{length-fill_bits, fill-removed}
-use Rattle.optional.specs.declared.OptU8.{OptU8}
 use Rattle.mac_pdus.specs.declared.Address.{Address}
 use Rattle.mac_pdus.specs.declared.ChanAllocElement.{ChanAllocElement}
-use Rattle.mac_pdus.specs.declared.OptChanAlloc.{OptChanAlloc}
 use Rattle.mac_pdus.specs.declared.ResourceHeader.{ResourceHeader}
 use Rattle.mac_pdus.specs.declared.PduHeader.{PduHeader}
 use Rattle.mac_pdus.specs.Headers.{opt_bits, address_type, address_bits, frame18_bits, chan_alloc_bits, opt_chan_alloc_bits, fixed_bits, elements_bits}
@@ -35,10 +34,10 @@ two a b c d = bits-append _ _ (bits-value_bits a b) (bits-value_bits c d)
 more : (a b : ℕ) (l : List ℕ) → AreBits l → AreBits (value_bits a b ++ l)
 more a b l h = bits-append _ _ (bits-value_bits a b) h
 
-opt-bits : (w : ℕ) (m : OptU8) → AreBits (opt_bits w m)
+opt-bits : (w : ℕ) (m : Option ℕ) → AreBits (opt_bits w m)
 unfolding opt_bits
-opt-bits w OptU8.Absent = bits-value_bits 1 0
-opt-bits w (OptU8.Of v) = two 1 1 w v
+opt-bits w None = bits-value_bits 1 0
+opt-bits w (Some v) = two 1 1 w v
 
 address-bits : (a : Address) → AreBits (address_bits a)
 unfolding address_bits
@@ -51,9 +50,9 @@ address-bits (Address.SsiEventLabel a e) = more 3 5 _ (two 24 a 10 e)
 address-bits (Address.SsiUsageMarker a m) = more 3 6 _ (two 24 a 6 m)
 address-bits (Address.SmiEventLabel a e) = more 3 7 _ (two 24 a 10 e)
 
-frame18-bits : (f : OptU8) → AreBits (frame18_bits f)
-frame18-bits OptU8.Absent = no-bit
-frame18-bits (OptU8.Of f) = bits-value_bits 2 f
+frame18-bits : (f : Option ℕ) → AreBits (frame18_bits f)
+frame18-bits None = no-bit
+frame18-bits (Some f) = bits-value_bits 2 f
 
 chan-alloc-bits : (c : ChanAllocElement) → AreBits (chan_alloc_bits c)
 unfolding chan_alloc_bits
@@ -61,12 +60,12 @@ chan-alloc-bits c =
     more 2 c.alloc_type _ (more 4 c.ts_assigned _ (more 2 c.ul_dl_assigned _ (more 1 c.clch_permission _ (more 1 c.cell_change_flag _
     (more 12 c.carrier_num _ (more 1 c.ext_carrier_num_flag _ (more 2 c.mon_pattern _ (frame18-bits c.frame18_mon_pattern))))))))
 
-opt-chan-alloc-bits : (a : OptChanAlloc) → AreBits (opt_chan_alloc_bits a)
+opt-chan-alloc-bits : (a : Option ChanAllocElement) → AreBits (opt_chan_alloc_bits a)
 unfolding opt_chan_alloc_bits
-opt-chan-alloc-bits OptChanAlloc.Absent = bits-value_bits 1 0
-opt-chan-alloc-bits (OptChanAlloc.Of c) = more 1 1 _ (chan-alloc-bits c)
+opt-chan-alloc-bits None = bits-value_bits 1 0
+opt-chan-alloc-bits (Some c) = more 1 1 _ (chan-alloc-bits c)
 
-elements-bits : (n : ℕ) (p g : OptU8) (a : OptChanAlloc) → AreBits (elements_bits n p g a)
+elements-bits : (n : ℕ) (p g : Option ℕ) (a : Option ChanAllocElement) → AreBits (elements_bits n p g a)
 unfolding elements_bits
 elements-bits zero p g a = no-bit
 elements-bits (suc n) p g a = bits-append _ _ (opt-bits 4 p) (bits-append _ _ (opt-bits 8 g) (opt-chan-alloc-bits a))

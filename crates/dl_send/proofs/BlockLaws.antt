@@ -44,7 +44,7 @@ no_room may r sdu s = go (is_started r.kind) refl
   where
     go : (b : Bool) → is_started r.kind ≡ b → Nothing (next may 0 r sdu)
     go true e =
-        subst Nothing (sym (next-later may 0 r sdu e ∙ continue-waits 0 r sdu (r.bits - r.sent) refl (omega arith) (omega arith)))
+        subst Nothing (sym (next-later may 0 r sdu e ∙ continue-waits 0 r sdu (r.bits - r.sent) refl _ refl (omega arith) (omega arith)))
         (record { pdus = refl; room = refl })
     go false e =
         subst Nothing

@@ -77,8 +77,8 @@ module _ (P : Next → Type 0) (room : ℕ) (r : Record) (sdu : List ℕ) where
       rest = r.bits - r.sent
 
       go : (b : Bool) → leb (end_octets rest * 8) room ≡ b → P (continue room r sdu)
-      go true f = turn-as (continue-ends room r sdu rest refl (leb-true _ room f)) (ends _ _ (omega arith))
-      go false f = turn-as (continue-frags room r sdu rest refl _ refl (leb-false _ room f) wide) (frags _ _)
+      go true f = turn-as (continue-ends room r sdu rest refl _ refl (leb-true _ room f)) (ends _ _ (omega arith))
+      go false f = turn-as (continue-frags room r sdu rest refl _ refl _ refl (leb-false _ room f) wide) (frags _ _)
 
 -- ---- what is left
 

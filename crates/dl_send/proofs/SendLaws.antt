@@ -1,4 +1,5 @@
 -- The turns of the sending loop, and the octets of the block. Assumes nothing.
+use Rattle.std.proofs.Common.{Option, Some, None}
 use mathlib.Core.Path.{◌≡◌, refl, sym, ap, ap₂, ◌∙◌}
 use mathlib.Core.Bool.{Bool, true, false, ◌&&◌}
 use mathlib.Core.List.{List, [], ◌∷◌, ◌++◌, append_assoc, append-nil}
@@ -6,13 +7,12 @@ use Prim.Native.Nat.{ℕ, zero, suc, ◌+◌, ◌-◌, ◌*◌, ◌%◌, ◌^◌
 use native.Mathlib.Nat.{zero-add}
 use native.Mathlib.Omega.{arith}
 use lib.Dec.{ltb}
-use lib.ListN.{length, drop, get_or, set, replicate, length-append, drop_of_length-le, length-replicate, replicate-append-replicate}
-use lib.Seq.{take_all, paste}
+use lib.ListN.{length, drop, get_or, replicate, length-append, length-replicate, replicate-append-replicate}
 use borrow.Author.Tests.{lt-ltb, le-ltb, ltb-true, ltb-false}
 use Rattle.lists.proofs.Lists.{drop-replicate}
 use Rattle.mac_pdus.proofs.LengthLaws.{header-size}
 use Rattle.mac_pdus.proofs.ShortHeaders.{null_size}
-use Rattle.sizes.specs.Sizes.{per_timeslot, no_place}
+use Rattle.sizes.specs.Sizes.{per_timeslot}
 use Rattle.bitbuffer.specs.Bits.{bits_of, written, packed}
 use Rattle.bitbuffer.proofs.Chunks.{value_bits-zero}
 use Rattle.bitbuffer.proofs.Laws.{written-append, length-bits_of, written-eq, length-value_bits}
@@ -22,16 +22,16 @@ use Rattle.mac_pdus.specs.Headers.{resource_bits, frag_bits, end_bits, null_head
 use Rattle.mac_reader.specs.PduList.{Pdu, whole, first, frag, final, null, header, body, pdu_bits, block_bits}
 use Rattle.dl_record.specs.declared.Record.{Record}
 use Rattle.dl_record.specs.Record.{empty_record}
-use Rattle.dl_queue.specs.Queue.{Item, item, records_of}
-use Rattle.dl_merge.specs.Places.{sources_of}
+use Rattle.dl_queue.specs.Queue.{Item, item}
 use Rattle.bs_frag.specs.NextPdu.{Next, next, sdu_at, Chunked}
 use Rattle.bs_frag.specs.declared.ChunkOutcome.{ChunkOutcome}
+use Rattle.bs_frag.specs.declared.ChunkOutcome.TheVariants.{Finished, Waiting, Started}
 use Rattle.bs_frag.specs.declared.Chunk.{Chunk}
 use Rattle.dl_send.specs.declared.Progress.{Progress}
 use Rattle.dl_send.specs.Send.{staying, tags_of, wrote, Sent, null_in, send_all, block_of}
-use Rattle.dl_send.specs.Arrays.{listed, place_sdu, sent_of, tag_row, stays_in, stayed_as, stayed_from, first_tag, SentInto, BuiltAs}
+use Rattle.dl_send.specs.Arrays.{listed, place_sdu, sent_of, progress_with, SentInto, BuiltAs}
 use Rattle.dl_send.proofs.StepLaws.{and_then, send-none, send-next}
-use Rattle.dl_send.proofs.ArrayLaws.{listed_next, listed-end, records-step, sources-step, length-step, stays-most, tags-step}
+use Rattle.dl_send.proofs.ArrayLaws.{listed_next, listed-end}
 
 -- ---- bits of PDUs
 
@@ -93,24 +93,32 @@ nothing_written l at room h = rw (null-none room h)
 
 -- ---- the loop
 
+-- a turn leaves one record at most, and one tag at most
+stays-most : {C : Type 0} (o : ChunkOutcome) (x : Item C) → length (staying o x) ≤ 1
+stays-most Finished x = omega arith
+stays-most Waiting x = omega arith
+stays-most (Started n) x = omega arith
+
+tags-most : (o : ChunkOutcome) (t : Option ℕ) → length (tags_of o t) ≤ 1
+tags-most Finished None = omega arith
+tags-most Finished (Some t) = omega arith
+tags-most Waiting t = omega arith
+tags-most (Started n) t = omega arith
+
 module _ (block₀ : List ℕ) (w : ℕ) (store : List ℕ) (first : ℕ) (records : List Record) (from : List ℕ) (n : ℕ) where
   abbrev rest : Bool → ℕ → ℕ → Sent ℕ
   rest may at i = send_all (place_sdu store first) may (w - at) (drop i (listed n records from))
 
   -- after i turns: what is held so far, and what the other records come to, make the whole
-  pub record Running (block : List ℕ) (out : List Record) (out-from : List ℕ) (left : ℕ) (tags : List ℕ) (tag-count at : ℕ) (may : Bool) (i : ℕ) : Type 0 where
+  pub record Running (block : List ℕ) (p : Progress) (at : ℕ) (may : Bool) (i : ℕ) : Type 0 where
     pub held : List (Item ℕ)
     pub noted : List ℕ
     pub place : i ≤ n
     pub room : at ≤ w
     pub size : length block ≡ length block₀
-    pub records-held : out ≡ records_of per_timeslot held
-    pub sources-held : out-from ≡ sources_of per_timeslot held
-    pub left-held : left ≡ length held
-    pub few : left ≤ i
-    pub tags-noted : tags ≡ tag_row per_timeslot noted
-    pub count-noted : tag-count ≡ length noted
-    pub few-tags : tag-count ≤ i
+    pub holds : p ≡ progress_with held noted
+    pub few : length held ≤ i
+    pub few-tags : length noted ≤ i
     pub bits : written (bits_of block) at (block_bits (send_all (place_sdu store first) may (w - at) (drop i (listed n records from))).pdus)
         ≡ written (bits_of block₀) 0 (block_bits (sent_of store first w records from n).pdus)
     pub total : at + length (block_bits (send_all (place_sdu store first) may (w - at) (drop i (listed n records from))).pdus)
@@ -118,10 +126,9 @@ module _ (block₀ : List ℕ) (w : ℕ) (store : List ℕ) (first : ℕ) (recor
     pub stay : held ++ (send_all (place_sdu store first) may (w - at) (drop i (listed n records from))).left ≡ (sent_of store first w records from n).left
     pub tagged : noted ++ (send_all (place_sdu store first) may (w - at) (drop i (listed n records from))).tags ≡ (sent_of store first w records from n).tags
 
-  pub running-start : (out : List Record) (out-from tags : List ℕ) → out ≡ replicate per_timeslot empty_record → out-from ≡ replicate per_timeslot no_place
-      → tags ≡ replicate per_timeslot 0 → Running block₀ out out-from 0 tags 0 0 true 0
-  unfolding sent_of records_of sources_of tag_row
-  running-start out out-from tags eo ef et =
+  pub running-start : (p : Progress) → p ≡ progress_with [] [] → Running block₀ p 0 true 0
+  unfolding sent_of
+  running-start p e =
       let z : w - 0 ≡ w = omega arith in
       let start : rest true 0 0 ≡ sent_of store first w records from n = ap (λ (y : ℕ). send_all (place_sdu store first) true y (listed n records from)) z in
       record {
@@ -130,12 +137,8 @@ module _ (block₀ : List ℕ) (w : ℕ) (store : List ℕ) (first : ℕ) (recor
         place = omega arith;
         room = omega arith;
         size = refl;
-        records-held = eo;
-        sources-held = ef;
-        left-held = refl;
+        holds = e;
         few = omega arith;
-        tags-noted = et;
-        count-noted = refl;
         few-tags = omega arith;
         bits = ap (λ (y : Sent ℕ). written (bits_of block₀) 0 (block_bits y.pdus)) start;
         total = omega (arith, ap (λ (y : Sent ℕ). length (block_bits y.pdus)) start);
@@ -143,49 +146,41 @@ module _ (block₀ : List ℕ) (w : ℕ) (store : List ℕ) (first : ℕ) (recor
         tagged = ap (λ (y : Sent ℕ). y.tags) start;
       }
 
-  abbrev the_record : ℕ → Record
-  the_record i = get_or records i empty_record
+  -- there is room for one more
+  pub running-room : (block : List ℕ) (p : Progress) (at : ℕ) (may : Bool) (i : ℕ) → n ≤ per_timeslot → i < n → Running block p at may i
+      → (p.left < per_timeslot) × (p.tags.tag_count < per_timeslot)
+  running-room block p at may i few less run =
+      (omega (arith, run.few, ap (λ (q : Progress). q.left) run.holds), omega (arith, run.few-tags, ap (λ (q : Progress). q.tags.tag_count) run.holds))
 
-  abbrev the_place : ℕ → ℕ
-  the_place i = get_or from i 0
-
-  pub running-step : (block : List ℕ) (out : List Record) (out-from : List ℕ) (left : ℕ) (tags : List ℕ) (tag-count at : ℕ) (may : Bool) (i : ℕ) (m : List ℕ)
-      (c : Chunk) (r x : Record) (f t k l : ℕ) (on : Bool)
-      → n ≤ per_timeslot → i < n → r ≡ the_record i → Running block out out-from left tags tag-count at may i → length m ≡ length block
-      → Chunked (bits_of block) at w (bits_of m) c (next may (w - at) r (sdu_at store (first + the_place i % per_timeslot) r.bits))
-      → x ≡ stayed_as c.outcome r → f ≡ stayed_from c.outcome (the_place i) → t ≡ first_tag (tags_of c.outcome r.tag)
-      → k ≡ stays_in c.outcome → l ≡ length (tags_of c.outcome r.tag) → l ≤ 1 → on ≡ may && ltb at c.next
-      → Running m (set out left x) (set out-from left f) (left + k) (set tags tag-count t) (tag-count + l) c.next on (i + 1)
+  pub running-step : (block : List ℕ) (p p' : Progress) (at : ℕ) (may : Bool) (i : ℕ) (m : List ℕ) (c : Chunk) (r : Record) (f : ℕ) (on : Bool)
+      → i < n → r ≡ get_or records i empty_record → f ≡ get_or from i 0 → Running block p at may i → length m ≡ length block
+      → Chunked (bits_of block) at w (bits_of m) c (next may (w - at) r (sdu_at store (first + f % per_timeslot) r.bits))
+      → ((xs : List (Item ℕ)) (ts : List ℕ) → p ≡ progress_with xs ts
+      → p' ≡ progress_with (xs ++ staying c.outcome (item r f)) (ts ++ tags_of c.outcome r.tag)) → on ≡ may && ltb at c.next → Running m p' c.next on (i + 1)
   unfolding place_sdu
-  running-step block out out-from left tags tag-count at may i m c r x f t k l on n16 hi is run e ch ex ef et ek el hl eo =
-      let y : Item ℕ = item r (the_place i) in
+  running-step block p p' at may i m c r f on hi is from-is run e ch notes eo =
+      let y : Item ℕ = item r f in
       let s : Next = next may (w - at) y.rec (place_sdu store first y.load y.rec.bits) in
       let u : Sent ℕ = rest on c.next (i + 1) in
       let room : s.room ≡ w - c.next = omega (arith, ch.left) in
       let same : may && wrote s.pdus ≡ on = ap (λ (b : Bool). may && b) (wrote-behind at c.next s.pdus ch.wrote.ends) ∙ sym eo in
       let here : rest may at i ≡ and_then s y u =
       ap (send_all (place_sdu store first) may (w - at))
-      (listed_next n records from i hi ∙ ap (λ (z : Record). item z (the_place i) ∷ drop (i + 1) (listed n records from)) (sym is))
+      (listed_next n records from i hi ∙ ap₂ (λ (z : Record) (q : ℕ). item z q ∷ drop (i + 1) (listed n records from)) (sym is) (sym from-is))
       ∙ send-next (place_sdu store first) may (w - at) y _
       ∙ ap₂ (λ (b : Bool) (z : ℕ). and_then s y (send_all (place_sdu store first) b z (drop (i + 1) (listed n records from)))) same room
       in
       let joined : block_bits (rest may at i).pdus ≡ block_bits s.pdus ++ block_bits u.pdus =
       ap (λ (z : Sent ℕ). block_bits z.pdus) here ∙ block-append s.pdus u.pdus in
-      let less : length run.held < per_timeslot = omega (arith, run.few, run.left-held) in
-      let fewer : length run.noted < per_timeslot = omega (arith, run.few-tags, run.count-noted) in
       record {
         held = run.held ++ staying c.outcome y;
         noted = run.noted ++ tags_of c.outcome y.rec.tag;
         place = omega arith;
         room = omega (arith, ch.left);
         size = e ∙ run.size;
-        records-held = rw (run.records-held, run.left-held, ex) (records-step per_timeslot run.held c.outcome y less);
-        sources-held = rw (run.sources-held, run.left-held, ef) (sources-step per_timeslot run.held c.outcome y less);
-        left-held = ap₂ ◌+◌ run.left-held ek ∙ sym (length-step run.held c.outcome y);
-        few = omega (arith, run.few, stays-most c.outcome);
-        tags-noted = rw (run.tags-noted, run.count-noted, et) (tags-step per_timeslot run.noted c.outcome y.rec.tag fewer);
-        count-noted = ap₂ ◌+◌ run.count-noted el ∙ sym (length-append run.noted (tags_of c.outcome y.rec.tag));
-        few-tags = omega (arith, run.few-tags);
+        holds = notes run.held run.noted run.holds;
+        few = omega (arith, run.few, length-append run.held (staying c.outcome y), stays-most c.outcome y);
+        few-tags = omega (arith, run.few-tags, length-append run.noted (tags_of c.outcome r.tag), tags-most c.outcome r.tag);
         bits =
             ap₂ (λ (z : List ℕ) (a : ℕ). written z a (block_bits u.pdus)) ch.wrote.bits ch.wrote.ends
             ∙ sym (written-append (bits_of block) at (block_bits s.pdus) (block_bits u.pdus))
@@ -201,12 +196,10 @@ module _ (block₀ : List ℕ) (w : ℕ) (store : List ℕ) (first : ℕ) (recor
             ∙ ap (λ (z : Sent ℕ). run.noted ++ z.tags) (sym here) ∙ run.tagged;
       }
 
-  pub running-end : (block : List ℕ) (out : List Record) (out-from : List ℕ) (left : ℕ) (tags : List ℕ) (tag-count at : ℕ) (may : Bool) (i : ℕ)
-      (m : List ℕ) → n ≤ per_timeslot → n ≤ i → Running block out out-from left tags tag-count at may i → w ≤ 8 * length block₀
-      → bits_of m ≡ written (bits_of block) at (block_bits (null_in (w - at)))
-      → SentInto (bits_of block₀) (bits_of m) (record { records = out; from = out-from; left = left; tags = tags; tag_count = tag-count })
-      (sent_of store first w records from n)
-  running-end block out out-from left tags tag-count at may i m n16 hi run hw e =
+  pub running-end : (block : List ℕ) (p : Progress) (at : ℕ) (may : Bool) (i : ℕ) (m : List ℕ) → n ≤ per_timeslot → n ≤ i → Running block p at may i
+      → w ≤ 8 * length block₀ → bits_of m ≡ written (bits_of block) at (block_bits (null_in (w - at)))
+      → SentInto (bits_of block₀) (bits_of m) p (sent_of store first w records from n)
+  running-end block p at may i m n16 hi run hw e =
       let t : Sent ℕ = record { pdus = null_in (w - at); room = w - at; left = []; tags = [] } in
       let here : rest may at i ≡ t =
       ap (send_all (place_sdu store first) may (w - at)) (listed-end n records from i hi) ∙ send-none (place_sdu store first) may (w - at) in
@@ -219,15 +212,9 @@ module _ (block₀ : List ℕ) (w : ℕ) (store : List ℕ) (first : ℕ) (recor
       record {
         bits = e ∙ ap (λ (y : Sent ℕ). written (bits_of block) at (block_bits y.pdus)) (sym here) ∙ run.bits;
         size = rw (length-bits_of block₀) (omega (arith, run.total, run.room, ap (λ (y : Sent ℕ). length (block_bits y.pdus)) here, null-fits (w - at)));
-        arrays = λ j. record {
-          records = (run.records-held ∙ ap (records_of per_timeslot) stayed) j;
-          from = (run.sources-held ∙ ap (sources_of per_timeslot) stayed) j;
-          left = (run.left-held ∙ ap length stayed) j;
-          tags = (run.tags-noted ∙ ap (tag_row per_timeslot) given) j;
-          tag_count = (run.count-noted ∙ ap length given) j;
-        };
-        few = omega (arith, run.few, run.place);
-        few-tags = omega (arith, run.few-tags, run.place);
+        arrays = run.holds ∙ ap₂ progress_with stayed given;
+        few = omega (arith, run.few, run.place, ap (λ (q : Progress). q.left) run.holds);
+        few-tags = omega (arith, run.few-tags, run.place, ap (λ (q : Progress). q.tags.tag_count) run.holds);
       }
 
 -- ---- the block's octets
@@ -252,17 +239,11 @@ block-octets n m f h k i e =
     (e ∙ ap (λ (l : List ℕ). written l 0 f) (zeros-bits n) ∙ written-eq (zeros (8 * n)) 0 f big
     ∙ ap (λ (l : List ℕ). f ++ l) (ap (λ (j : ℕ). drop j (zeros (8 * n))) (zero-add (length f)) ∙ drop-replicate (length f) (8 * n) 0))
 
-cleared : (l : List ℕ) → paste l 0 (zeros (length l)) (length l) ≡ zeros (length l)
-cleared l =
-    ap₂ (λ (a b : List ℕ). a ++ b) (take_all (length l) (zeros (length l)) (rw length-replicate (omega arith)))
-    (drop_of_length-le l {i = 0 + length l} (omega arith)) ∙ append-nil (zeros (length l))
-
 pub built-as : (l₀ l m : List ℕ) (p : Progress) (s : Sent ℕ) → ((i : ℕ) → get_or m i 0 < 2 ^ 8) → length m ≡ length l₀
-    → l ≡ paste l₀ 0 (zeros (length l₀)) (length l₀) → SentInto (bits_of l) (bits_of m) p s
+    → l ≡ zeros (length l₀) → SentInto (bits_of l) (bits_of m) p s
     → BuiltAs (length l₀) m p s
-built-as l₀ l m p s h k e₀ w =
+built-as l₀ l m p s h k e w =
     let n : ℕ = length l₀ in
-    let e : l ≡ zeros n = e₀ ∙ cleared l₀ in
     let f : List ℕ = block_bits s.pdus in
     let size : length f ≤ 8 * n = omega (arith, w.size, length-bits_of l, ap length e, length-replicate {A = ℕ} n 0) in
     record {

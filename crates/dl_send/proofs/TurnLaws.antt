@@ -241,7 +241,7 @@ module _ (w room : ℕ) (r : Record) (sdu : List ℕ) (few : room ≤ w) (width 
       let sent = sendable.sent in
       let some : length s ≡ rest = length_part sdu r.sent rest (omega (arith, long)) in
       let size : length (pdu_bits p) ≡ o * 8 = end-length o s k ∙ omega (arith, some) in
-      turn-as (continue-ends room r sdu rest refl i)
+      turn-as (continue-ends room r sdu rest refl o refl i)
       (record {
         bits = end-bits o s k (bits-take rest _ (bits-drop r.sent sdu are));
         size = omega (arith, one-length p, size, i);
@@ -275,7 +275,7 @@ module _ (w room : ℕ) (r : Record) (sdu : List ℕ) (few : room ≤ w) (width 
       let sent = sendable.sent in
       let some : length s ≡ n = length_part sdu r.sent n (omega (arith, long)) in
       let size : length (pdu_bits p) ≡ room = frag-length s k ∙ omega (arith, some) in
-      turn-as (continue-frags room r sdu rest refl n refl i j)
+      turn-as (continue-frags room r sdu rest refl (end_octets rest) refl n refl i j)
       (record {
         bits = frag-bits s k (bits-take n _ (bits-drop r.sent sdu are));
         size = omega (arith, one-length p, size);
@@ -307,7 +307,7 @@ module _ (w room : ℕ) (r : Record) (sdu : List ℕ) (few : room ≤ w) (width 
     where
       on : room < end_octets (r.bits - r.sent) * 8 → (b : Bool) → ltb room 16 ≡ b → SoundTurn w room r.sent r sdu (continue room r sdu)
       on i true e =
-          turn-as (continue-waits room r sdu (r.bits - r.sent) refl i (ltb-true room 16 e)) (nothing r.sent (Started r.sent) refl sendable.sent)
+          turn-as (continue-waits room r sdu (r.bits - r.sent) refl (end_octets (r.bits - r.sent)) refl i (ltb-true room 16 e)) (nothing r.sent (Started r.sent) refl sendable.sent)
       on i false e = frag-turn i (ltb-false room 16 e)
 
       go : (b : Bool) → leb (end_octets (r.bits - r.sent) * 8) room ≡ b → SoundTurn w room r.sent r sdu (continue room r sdu)

@@ -1,17 +1,14 @@
 -- What the sending loop works on: arrays of records with their places, and what they hold in the end. Assumes nothing.
 use Rattle.std.specs.Prelude.{◌≡◌, true, List, [], ◌∷◌, map, ℕ, zero, suc, ◌+◌, ◌*◌, ◌%◌, ◌^◌, ◌<◌, ◌≤◌, length, get_or, drop}
-use Rattle.sizes.specs.Sizes.{per_timeslot, no_place, cell_octets, timeslot_octets, block_width}
+use Rattle.sizes.specs.Sizes.{per_timeslot, cell_octets, timeslot_octets, block_width}
 use Rattle.bitbuffer.specs.Bits.{written}
 use Rattle.mac_reader.specs.PduList.{block_bits}
-use Rattle.dl_record.specs.declared.Kind.{Kind}
 use Rattle.dl_record.specs.declared.Record.{Record}
 use Rattle.dl_record.specs.Record.{empty_record}
 use Rattle.dl_queue.specs.Queue.{Item, item, records_of}
 use Rattle.dl_merge.specs.Places.{sources_of}
 use Rattle.bs_frag.specs.NextPdu.{sdu_at, Sendable}
-use Rattle.bs_frag.specs.declared.ChunkOutcome.{ChunkOutcome}
-use Rattle.bs_frag.specs.declared.ChunkOutcome.TheVariants.{Finished, Waiting, Started}
-use Rattle.dl_send.specs.Send.{again, Sent, send_all, block_of}
+use Rattle.dl_send.specs.Send.{Sent, send_all, block_of}
 use Rattle.dl_send.specs.declared.Progress.{Progress}
 
 -- the first n of the records with their places
@@ -22,6 +19,10 @@ listed (suc n) rs fs = item (get_or rs 0 empty_record) (get_or fs 0 0) ∷ liste
 -- the records at these places of an array
 abbrev pub records_at : List ℕ → List Record → List Record
 records_at places rs = map (λ (p : ℕ). get_or rs p empty_record) places
+
+-- and what stands at them in an array of places
+abbrev pub places_at : List ℕ → List ℕ → List ℕ
+places_at places fs = map (λ (p : ℕ). get_or fs p 0) places
 
 -- the SDU of a record that comes from a place of the timeslot whose first place is `first`; one that comes from none has no bits, whatever cell is read
 unfoldable pub place_sdu : List ℕ → ℕ → ℕ → ℕ → List ℕ
@@ -39,37 +40,18 @@ tag_row zero ts = []
 tag_row (suc k) [] = 0 ∷ tag_row k []
 tag_row (suc k) (t ∷ ts) = t ∷ tag_row k ts
 
--- what stays, empty records behind it; and the tags
-abbrev pub progress_of : Sent ℕ → Progress
-progress_of s =
+-- what stays, empty records behind it; and tags
+abbrev pub progress_with : List (Item ℕ) → List ℕ → Progress
+progress_with xs ts =
     record {
-      records = records_of per_timeslot s.left;
-      from = sources_of per_timeslot s.left;
-      left = length s.left;
-      tags = tag_row per_timeslot s.tags;
-      tag_count = length s.tags;
+      records = records_of per_timeslot xs;
+      from = sources_of per_timeslot xs;
+      left = length xs;
+      tags = record { tags = tag_row per_timeslot ts; tag_count = length ts };
     }
 
--- each record is written behind those that stay, and counted or not: one that is finished as the empty record
-abbrev pub stays_in : ChunkOutcome → ℕ
-stays_in Finished = 0
-stays_in Waiting = 1
-stays_in (Started n) = 1
-
-abbrev pub stayed_as : ChunkOutcome → Record → Record
-stayed_as Finished r = empty_record
-stayed_as Waiting r = again Kind.Waiting 0 r
-stayed_as (Started n) r = again Kind.Started n r
-
-abbrev pub stayed_from : ChunkOutcome → ℕ → ℕ
-stayed_from Finished p = no_place
-stayed_from Waiting p = p
-stayed_from (Started n) p = p
-
--- the first of a list of tags, 0 for none
-abbrev pub first_tag : List ℕ → ℕ
-first_tag [] = 0
-first_tag (t ∷ ts) = t
+abbrev pub progress_of : Sent ℕ → Progress
+progress_of s = progress_with s.left s.tags
 
 -- ---- the contract
 
@@ -93,7 +75,7 @@ pub record BuiltAs (octets : ℕ) (b : List ℕ) (p : Progress) (s : Sent ℕ) :
   pub block : b ≡ block_of octets (block_bits s.pdus)
   pub arrays : p ≡ progress_of s
   pub few : p.left ≤ per_timeslot
-  pub few-tags : p.tag_count ≤ per_timeslot
+  pub few-tags : p.tags.tag_count ≤ per_timeslot
 
 -- the same with the bits written over those of l, from 0 on
 pub record SentInto (l m : List ℕ) (p : Progress) (s : Sent ℕ) : Type 0 where
@@ -101,4 +83,4 @@ pub record SentInto (l m : List ℕ) (p : Progress) (s : Sent ℕ) : Type 0 wher
   pub size : length (block_bits s.pdus) ≤ length l
   pub arrays : p ≡ progress_of s
   pub few : p.left ≤ per_timeslot
-  pub few-tags : p.tag_count ≤ per_timeslot
+  pub few-tags : p.tags.tag_count ≤ per_timeslot

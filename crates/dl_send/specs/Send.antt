@@ -1,8 +1,7 @@
 -- A list of records sent in a block, one after another, and then the null PDU: document 01, section "Block", and document 02, W-201. A record goes with a
 -- load by which its SDU is known: its cell, the place that it stands at, or its SDU with the name of its grant. Assumes nothing.
-use Rattle.std.specs.Prelude.{Bool, true, false, ◌&&◌, cond, List, [], ◌∷◌, ◌++◌, ℕ, ◌-◌, ◌*◌, ltb, length, take, replicate}
+use Rattle.std.specs.Prelude.{Bool, true, false, ◌&&◌, cond, List, [], ◌∷◌, ◌++◌, ℕ, ◌-◌, ◌*◌, ltb, length, take, replicate, Option, Some, None}
 use Rattle.bitbuffer.specs.Bits.{bits_of, packed}
-use Rattle.optional.specs.declared.OptU16.{OptU16}
 use Rattle.mac_reader.specs.PduList.{Pdu, null}
 use Rattle.dl_record.specs.declared.Kind.{Kind}
 use Rattle.dl_record.specs.declared.Record.{Record}
@@ -21,12 +20,12 @@ staying Finished x = []
 staying Waiting x = item (again Kind.Waiting 0 x.rec) x.load ∷ []
 staying (Started n) x = item (again Kind.Started n x.rec) x.load ∷ []
 
-abbrev pub tag_in : OptU16 → List ℕ
-tag_in OptU16.Absent = []
-tag_in (OptU16.Of t) = t ∷ []
+abbrev pub tag_in : Option ℕ → List ℕ
+tag_in None = []
+tag_in (Some t) = t ∷ []
 
 -- "Tags of finished records come back in order."
-abbrev pub tags_of : ChunkOutcome → OptU16 → List ℕ
+abbrev pub tags_of : ChunkOutcome → Option ℕ → List ℕ
 tags_of Finished t = tag_in t
 tags_of Waiting t = []
 tags_of (Started n) t = []

@@ -13,19 +13,18 @@ use mathlib.Core.List.{List, [], ◌∷◌, ◌++◌, append_assoc, append-nil}
 use Prim.Native.Nat.{ℕ, zero, suc, ◌+◌, ◌-◌, ◌*◌, ◌%◌, ◌≤◌, ◌<◌}
 use native.Mathlib.Numerals.{add-one, sub-one}
 use native.Mathlib.Omega.{arith}
-use borrow.Author.Tests.{ltb-true, ltb-false, le-leb, lt-leb, ne_eqb}
+use borrow.Author.Tests.{ltb-true, ltb-false, le-leb, lt-leb}
 use lib.Dec.{ltb, eqb-suc-zero}
 use lib.ListN.{length, take, drop, get_or, set, replicate, length-append, length-take, length-drop, length-replicate, get_or-replicate}
 use lib.Seq.{take-suc, get_or-drop, get_or-take, get_or-append_seam, get_or-append-add}
 use Rattle.bitbuffer.specs.Bits.{bits_of, part, written, AreBits, Wrote}
-use Rattle.bitbuffer.proofs.Laws.{bits-append, bits-take, bits-drop, part-written}
-use Rattle.bitbuffer.proofs.Octets.{part-split, zeros-are-bits}
-use Rattle.fillbits.specs.Fill.{to_octet, fill_wanted, fill_bits, from_last_set, fill_at_end, reply, fill_reply}
-use Rattle.fillbits.specs.declared.FillRemoval.{FillRemoval}
-use Rattle.fillbits.specs.declared.FillRemoval.TheVariants.{Bits, Refused}
+use Rattle.bitbuffer.proofs.Laws.{bits-take, bits-drop, part-written}
+use Rattle.bitbuffer.proofs.Octets.{part-split}
+use Rattle.fillbits.specs.Fill.{to_octet, fill_wanted, fill_bits, from_last_set, fill_at_end, fill_reply}
 use Rattle.questions.specs.declared.Refusal.{Refusal}
-use Rattle.questions.specs.Questions.{ask}
+use Rattle.questions.specs.Questions.{ask, reply}
 use Rattle.questions.proofs.NumberLaws.{number-positive, number-tells}
+use Rattle.std.specs.Prelude.{Result, Ok, Err}
 
 -- ---- the fill that a PDU wants
 
@@ -238,67 +237,14 @@ before-set l start at end h g f b =
     ∙ ap from_last_set (append_assoc front (1 ∷ []) (replicate (end - at) 0))
     ∙ fill-removed front (suc (end - at)) (omega arith) ∙ sym n)
 
-pub before-clear : (l : List ℕ) (start at end n : ℕ) → start < at → at ≤ end → at ≤ length l → get_or l (at - 1) 0 ≡ 0
-    → n ≡ from_last_set (part l start (at - 1 - start) ++ replicate (end - (at - 1)) 0)
-    → n ≡ from_last_set (part l start (at - start) ++ replicate (end - at) 0)
-before-clear l start at end n h g f b e =
+pub before-clear : (l : List ℕ) (start at end : ℕ) → start < at → at ≤ end → at ≤ length l → get_or l (at - 1) 0 ≡ 0
+    → from_last_set (part l start (at - start) ++ replicate (end - at) 0) ≡ from_last_set (part l start (at - 1 - start) ++ replicate (end - (at - 1)) 0)
+before-clear l start at end h g f b =
     let k : end - (at - 1) ≡ suc (end - at) = omega arith in
     let front = part l start (at - 1 - start) in
-    e ∙ sym (ap (λ (p : List ℕ). from_last_set (p ++ replicate (end - at) 0)) (part-last l start at h f ∙ ap (λ (x : ℕ). front ++ (x ∷ [])) b)
+    ap (λ (p : List ℕ). from_last_set (p ++ replicate (end - at) 0)) (part-last l start at h f ∙ ap (λ (x : ℕ). front ++ (x ∷ [])) b)
     ∙ ap from_last_set (append_assoc front (0 ∷ []) (replicate (end - at) 0))
-    ∙ ap (λ (k : ℕ). from_last_set (front ++ replicate k 0)) (sym k))
-
--- ---- one part nearer the front
-
--- a set bit in the later part of a run decides
-later-set : (a b : List ℕ) (n : ℕ) → n ≡ from_last_set b → (n ≡ 0 → ⊥) → n ≡ from_last_set (a ++ b)
-unfolding from_last_set
-later-set [] b n e h = e
-later-set (x ∷ a) b n e h = rw (sym (later-set a b n e h), ne_eqb n 0 h)
-
--- a later part with no set bit is clear
-later-clear : (l : List ℕ) → AreBits l → from_last_set l ≡ 0 → l ≡ replicate (length l) 0
-later-clear l h e = go (shape l h)
-  where
-    go : Shape l → l ≡ replicate (length l) 0
-    go (clear k f) = f ∙ ap (λ (n : ℕ). replicate n 0) (sym (ap length f ∙ length-replicate k 0))
-    go (filled f k g) = let z : 0 ≡ suc k = sym e ∙ ap from_last_set g ∙ fill-removed f (suc k) (omega arith) in absurd (omega arith)
-
--- the bits up to `at` in two parts
-parts : (l : List ℕ) (start from at end : ℕ) → start ≤ from → from ≤ at
-    → part l start (at - start) ++ replicate (end - at) 0 ≡ part l start (from - start) ++ (part l from (at - from) ++ replicate (end - at) 0)
-parts l start from at end h g =
-    let n : at - start ≡ from - start + (at - from) = omega arith in
-    let q : start + (from - start) ≡ from = omega arith in
-    ap (λ (m : ℕ). part l start m ++ replicate (end - at) 0) n
-    ∙ ap (λ (p : List ℕ). p ++ replicate (end - at) 0)
-    (part-split l start (from - start) (at - from) ∙ ap (λ (i : ℕ). part l start (from - start) ++ part l i (at - from)) q)
-    ∙ append_assoc (part l start (from - start)) (part l from (at - from)) (replicate (end - at) 0)
-
-pub part-set : (l : List ℕ) (start from at end n r : ℕ) → start ≤ from → from ≤ at
-    → n ≡ from_last_set (part l from (at - from) ++ replicate (end - at) 0) → (n ≡ 0 → ⊥)
-    → r ≡ from_last_set (part l start (at - start) ++ replicate (end - at) 0) → n ≡ r
-part-set l start from at end n r h g e p q =
-    later-set (part l start (from - start)) _ n e p ∙ ap from_last_set (sym (parts l start from at end h g)) ∙ sym q
-
-later-length : (l : List ℕ) (from at end : ℕ) → from ≤ at → at ≤ end → at ≤ length l → length (part l from (at - from) ++ replicate (end - at) 0) ≡ end - from
-unfolding part
-later-length l from at end g f k = rw (length-append, length-take, length-drop, length-replicate) (omega arith)
-
-later-bits : (l : List ℕ) (from at end : ℕ) → AreBits l → AreBits (part l from (at - from) ++ replicate (end - at) 0)
-unfolding part
-later-bits l from at end b = bits-append _ _ (bits-take (at - from) (drop from l) (bits-drop from l b)) (zeros-are-bits (end - at))
-
-pub part-clear : (l : List ℕ) (start from at end r : ℕ) → AreBits l → start ≤ from → from ≤ at → at ≤ end → at ≤ length l
-    → 0 ≡ from_last_set (part l from (at - from) ++ replicate (end - at) 0)
-    → r ≡ from_last_set (part l start (at - start) ++ replicate (end - at) 0)
-    → r ≡ from_last_set (part l start (from - start) ++ replicate (end - from) 0)
-part-clear l start from at end r b h g f k e q =
-    let later = part l from (at - from) ++ replicate (end - at) 0 in
-    q
-    ∙ ap from_last_set (parts l start from at end h g
-    ∙ ap (◌++◌ (part l start (from - start)))
-    (later-clear later (later-bits l from at end b) (sym e) ∙ ap (λ (m : ℕ). replicate m 0) (later-length l from at end g f k)))
+    ∙ ap (λ (k : ℕ). from_last_set (front ++ replicate k 0)) (sym k)
 
 -- a whole run has no clear bits behind it
 pub before-all : (l : List ℕ) (start end : ℕ) → from_last_set (part l start (end - start) ++ replicate (end - end) 0) ≡ fill_at_end l start end
@@ -310,17 +256,16 @@ before-all l start end =
 -- ---- the answers of fill removal
 
 -- the reply determines the answer
-pub reply-answer : (a b : FillRemoval) → reply a ≡ reply b → a ≡ b
-unfolding reply
-reply-answer (Bits n) (Bits m) e = ap Bits (ap (λ (l : List ℕ). get_or l 1 0) e)
-reply-answer (Bits n) (Refused b) e = let x = ap (λ (l : List ℕ). get_or l 0 0) e in absurd (omega (arith, number-positive b))
-reply-answer (Refused a) (Bits m) e = let x = ap (λ (l : List ℕ). get_or l 0 0) e in absurd (omega (arith, number-positive a))
-reply-answer (Refused a) (Refused b) e = ap Refused (number-tells a b (ap (λ (l : List ℕ). get_or l 0 0) e))
+pub reply-answer : (a b : Result ℕ Refusal) → reply a ≡ reply b → a ≡ b
+reply-answer (Ok n) (Ok m) e = ap Ok (ap (λ (l : List ℕ). get_or l 1 0) e)
+reply-answer (Ok n) (Err b) e = let x = ap (λ (l : List ℕ). get_or l 0 0) e in absurd (omega (arith, number-positive b))
+reply-answer (Err a) (Ok m) e = let x = ap (λ (l : List ℕ). get_or l 0 0) e in absurd (omega (arith, number-positive a))
+reply-answer (Err a) (Err b) e = ap Err (number-tells a b (ap (λ (l : List ℕ). get_or l 0 0) e))
 
-pub refused-past-end : (s : List ℕ) (start end : ℕ) → 8 * length s < end → reply (Refused Refusal.NoRoom) ≡ fill_reply s start end
-unfolding reply fill_reply ask
+pub refused-past-end : (s : List ℕ) (start end : ℕ) → 8 * length s < end → reply (Err Refusal.NoRoom) ≡ fill_reply s start end
+unfolding fill_reply ask
 refused-past-end s start end h = rw (lt-leb end (8 * length s) h)
 
-pub bits-found : (s : List ℕ) (start end n : ℕ) → end ≤ 8 * length s → n ≡ fill_at_end (bits_of s) start end → reply (Bits n) ≡ fill_reply s start end
-unfolding reply fill_reply ask
+pub bits-found : (s : List ℕ) (start end n : ℕ) → end ≤ 8 * length s → n ≡ fill_at_end (bits_of s) start end → reply (Ok n) ≡ fill_reply s start end
+unfolding fill_reply ask
 bits-found s start end n h e = rw (le-leb end (8 * length s) h, e)

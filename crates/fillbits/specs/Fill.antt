@@ -1,9 +1,7 @@
 -- Fill bits: how many a PDU wants, what they are, and how many stand at the end of a run of bits. Assumes nothing.
 use Rattle.std.specs.Prelude.{cond, List, [], ◌∷◌, ℕ, zero, suc, ◌-◌, ◌*◌, ◌%◌, min, leb, eqb, length, replicate}
 use Rattle.bitbuffer.specs.Bits.{bits_of, part}
-use Rattle.questions.specs.Questions.{Question, question, refusal_number, ask}
-use Rattle.fillbits.specs.declared.FillRemoval.{FillRemoval}
-use Rattle.fillbits.specs.declared.FillRemoval.TheVariants.{Bits, Refused}
+use Rattle.questions.specs.Questions.{Question, question, ask}
 
 -- "to the octet": from bit `n` on
 abbrev pub to_octet : ℕ → ℕ
@@ -26,11 +24,6 @@ from_last_set (b ∷ l) = let n = from_last_set l in cond (eqb n 0) (cond (eqb b
 -- the fill bits at the end of the bits from `start` up to `end`
 unfoldable pub fill_at_end : List ℕ → ℕ → ℕ → ℕ
 fill_at_end l start end = from_last_set (part l start (end - start))
-
--- document 01's number of each answer, and after a 0 its value: "On a no, the number is the whole reply"
-unfoldable pub reply : FillRemoval → List ℕ
-reply (Bits n) = 0 ∷ n ∷ []
-reply (Refused r) = refusal_number r ∷ []
 
 -- "11. Writer, fill removal: bits enough left? No: 11."
 abbrev pub fill_questions : List ℕ → ℕ → List Question

@@ -1,4 +1,5 @@
 -- What the header writer does with words, exit by exit. Assumes nothing.
+use Rattle.std.proofs.Common.{Result, Err}
 use mathlib.Core.Path.{◌≡◌, refl, sym, ap, subst, ◌∙◌}
 use mathlib.Core.Bool.{true, false}
 use mathlib.Core.List.{List, [], ◌∷◌}
@@ -14,7 +15,6 @@ use Rattle.mac_pdus.specs.declared.MacResource.{MacResource}
 use Rattle.mac_pdus.specs.Headers.{resource_bits, header_length}
 use Rattle.mac_pdus.specs.Legal.{on_air, offered}
 use Rattle.mac_pdus.proofs.LegalLaws.{on-air-again}
-use Rattle.mac_writer.specs.declared.WriteReply.{WriteReply}
 use Rattle.mac_writer.specs.Writer.{write_questions, write_reply, bits_after, WrittenAs}
 use Rattle.header_words.specs.HeaderWords.{header_word_count, resource_read, resource_words, write_words_questions, write_words_reply, bits_after_words}
 use Rattle.header_words.specs.HeaderWords.{WordsWrittenAs}
@@ -23,17 +23,17 @@ module _ (s : List ℕ) (at : ℕ) (ws : List ℕ) where
   -- the first no is the whole reply, and the octets are as they were
   refused-words : (k : ℕ) (r : Refusal)
       → let qs = write_words_questions (length s) at ws in
-      FirstYes k qs → (nth k qs).holds ≡ false → refusal_number r ≡ (nth k qs).number → WordsWrittenAs s at ws (WriteReply.Refused r) s
+      FirstYes k qs → (nth k qs).holds ≡ false → refusal_number r ≡ (nth k qs).number → WordsWrittenAs s at ws (Err r) s
   unfolding write_words_reply bits_after_words
   refused-words k r past other e =
       let qs = write_words_questions (length s) at ws in
       record { replies = ap (λ (n : ℕ). n ∷ []) e ∙ first-no _ _ k qs past other; bits = first-no _ _ k qs past other }
 
-  pub other_length : (length ws ≡ header_word_count → ⊥) → WordsWrittenAs s at ws (WriteReply.Refused Refusal.Lengths) s
+  pub other_length : (length ws ≡ header_word_count → ⊥) → WordsWrittenAs s at ws (Err Refusal.Lengths) s
   other_length h = refused-words 0 Refusal.Lengths tt (ne_eqb _ _ h) refl
 
   module _ (size : length ws ≡ header_word_count) where
-    pub no-resource : resource_words ws ≡ false → WordsWrittenAs s at ws (WriteReply.Refused Refusal.Header) s
+    pub no-resource : resource_words ws ≡ false → WordsWrittenAs s at ws (Err Refusal.Header) s
     no-resource h = refused-words 1 Refusal.Header (tt, eq-eqb _ _ size) h refl
 
     module _ (yes : resource_words ws ≡ true) where
@@ -62,7 +62,7 @@ module _ (s : List ℕ) (at : ℕ) (ws : List ℕ) where
           (sym air)
 
       -- the writer's own reply
-      pub resource-written : (h : MacResource) → h ≡ offered (resource_read ws) → (answer : WriteReply) (t : List ℕ) → WrittenAs s at h answer t
+      pub resource-written : (h : MacResource) → h ≡ offered (resource_read ws) → (answer : Result ℕ Refusal) (t : List ℕ) → WrittenAs s at h answer t
           → WordsWrittenAs s at ws answer t
       resource-written h e answer t w =
           let v = subst (λ (x : MacResource). WrittenAs s at x answer t) e w in

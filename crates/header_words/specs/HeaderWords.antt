@@ -1,8 +1,7 @@
 -- The header of a PDU as words of 32 bits, for callers in C: the table of include/bs_sched.h. Assumes nothing.
-use Rattle.std.specs.Prelude.{◌≡◌, Bool, List, [], ◌∷◌, ◌++◌, ℕ, zero, suc, ◌+◌, ◌-◌, ◌*◌, ◌%◌, eqb, length, take, drop, replicate}
-use Rattle.optional.specs.declared.OptU8.{OptU8}
-use Rattle.optional.specs.declared.OptU16.{OptU16}
-use Rattle.questions.specs.Questions.{Question, question, ask}
+use Rattle.std.specs.Prelude.{◌≡◌, Bool, List, [], ◌∷◌, ◌++◌, ℕ, zero, suc, ◌+◌, ◌-◌, ◌*◌, ◌%◌, eqb, length, take, drop, replicate, Result, unwrap_or}
+use Rattle.questions.specs.declared.Refusal.{Refusal}
+use Rattle.questions.specs.Questions.{Question, question, ask, reply}
 use Rattle.mac_pdus.specs.declared.Address.{Address}
 use Rattle.mac_pdus.specs.declared.Address.TheVariants.{Null, Ssi, EventLabel, Ussi, Smi, SsiEventLabel, SsiUsageMarker, SmiEventLabel}
 use Rattle.mac_pdus.specs.declared.ResourceHeader.{ResourceHeader}
@@ -12,32 +11,22 @@ use Rattle.mac_pdus.specs.Legal.{number_of, label_of, usage_marker_of, offered}
 use Rattle.bitbuffer.specs.Bits.{bits_of, written}
 use Rattle.mac_reader.specs.declared.PlacedHeader.{PlacedHeader}
 use Rattle.mac_reader.specs.Reader.{most_pdus}
-use Rattle.mac_writer.specs.declared.WriteReply.{WriteReply}
-use Rattle.mac_writer.specs.Writer.{reply, write_questions}
-use Rattle.sched_words.specs.Words.{word_of8, opt_u8, word_at, words_of_all, same_words, alloc_words, alloc_from}
+use Rattle.mac_writer.specs.Writer.{write_questions}
+use Rattle.sched_words.specs.Words.{opt_word, opt_low, word_at, words_of_all, same_words, alloc_words, alloc_from}
 
 -- ---- a header
 
 abbrev pub header_word_count : ℕ
 header_word_count = 24
 
--- a part of the address: 0 where its type has none
-abbrev pub or_zero8 : OptU8 → ℕ
-or_zero8 OptU8.Absent = 0
-or_zero8 (OptU8.Of v) = v
-
-abbrev pub or_zero16 : OptU16 → ℕ
-or_zero16 OptU16.Absent = 0
-or_zero16 (OptU16.Of v) = v
-
 -- word 0: the bit position; 1: the PDU, 0 MAC-RESOURCE, 1 MAC-FRAG, 2 MAC-END; 2 to 6: fill, position of grant, encryption, random access, length;
--- 7 to 10: address type, number, event label, usage marker; 11 and 12: power control and grant octet; 13 to 22: the channel allocation, as
+-- 7 to 10: address type, number, event label, usage marker, 0 where the type has none; 11 and 12: power control and grant octet; 13 to 22: the channel allocation, as
 -- words 11 to 20 of a record; 23: 0
 unfoldable pub header_words : ℕ → PduHeader → List ℕ
 header_words at (PduHeader.Resource r) =
     at ∷ 0 ∷ r.fill_bits ∷ r.pos_of_grant ∷ r.encryption_mode ∷ r.random_access_flag ∷ r.length_ind
-    ∷ address_type r.address ∷ number_of r.address ∷ or_zero16 (label_of r.address) ∷ or_zero8 (usage_marker_of r.address)
-    ∷ word_of8 r.power_control_element ∷ word_of8 r.slot_granting_element ∷ (alloc_words r.chan_alloc_element ++ 0 ∷ [])
+    ∷ address_type r.address ∷ number_of r.address ∷ unwrap_or (label_of r.address) 0 ∷ unwrap_or (usage_marker_of r.address) 0
+    ∷ opt_word r.power_control_element ∷ opt_word r.slot_granting_element ∷ (alloc_words r.chan_alloc_element ++ 0 ∷ [])
 header_words at (PduHeader.Frag f) = at ∷ 1 ∷ f.fill_bits ∷ replicate 21 0
 header_words at (PduHeader.End e) = at ∷ 2 ∷ e.fill_bits ∷ e.pos_of_grant ∷ 0 ∷ 0 ∷ e.length_ind ∷ replicate 17 0
 
@@ -64,9 +53,9 @@ resource_read ws =
       random_access_flag = word_at ws 5 % 256;
       length_ind = word_at ws 6 % 256;
       address = address_read (word_at ws 7) ws;
-      power_control_element = opt_u8 (word_at ws 11);
-      slot_granting_element = opt_u8 (word_at ws 12);
-      chan_alloc_element = alloc_from (word_at ws 13) (drop 2 ws);
+      power_control_element = opt_low 256 (word_at ws 11);
+      slot_granting_element = opt_low 256 (word_at ws 12);
+      chan_alloc_element = alloc_from (drop 13 ws);
     }
 
 -- by word 1
@@ -113,6 +102,6 @@ unfoldable pub bits_after_words : List ℕ → ℕ → List ℕ → List ℕ
 bits_after_words s at ws = ask (write_words_questions (length s) at ws) (written (bits_of s) at (resource_bits (resource_read ws))) (λ n. bits_of s)
 
 -- the promise: the octets `s` become `t`
-pub record WordsWrittenAs (s : List ℕ) (at : ℕ) (ws : List ℕ) (answer : WriteReply) (t : List ℕ) : Type 0 where
+pub record WordsWrittenAs (s : List ℕ) (at : ℕ) (ws : List ℕ) (answer : Result ℕ Refusal) (t : List ℕ) : Type 0 where
   pub replies : reply answer ≡ write_words_reply (length s) at ws
   pub bits : bits_of t ≡ bits_after_words s at ws

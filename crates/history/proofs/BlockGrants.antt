@@ -1,8 +1,9 @@
 -- A reader lists the headers of a built block (`block_listed`); a named one has the grant of the request of that name (`block-stands`), a grant that is
 -- read is that of the request that it is named after (`block-grants`), and no grant gets lost (`block-kept`). Assumes nothing.
+use Rattle.std.proofs.lemmas.Bool.{and_parts}
+use Rattle.std.proofs.Common.{Option, Some, None}
 use mathlib.Core.Path.{◌≡◌, refl, sym, ap, ◌∙◌}
 use mathlib.Core.Bool.{Bool, true, false, cond}
-use mathlib.Core.Option.{Option, none, some}
 use mathlib.Core.Logic.{◌⊎◌}
 use mathlib.Core.List.{List, [], ◌∷◌, ◌++◌, map, Memᴰ}
 use Prim.Native.Nat.{ℕ, zero, suc, ◌+◌, ◌-◌, ◌<◌}
@@ -11,8 +12,6 @@ use native.Mathlib.Nat.{not-suc-le-zero, le_of_suc-le-suc}
 use lib.ListN.{length, get_or}
 use lib.Seq.{get_or-set_same}
 use Rattle.sizes.specs.Sizes.{block_width, block_octets}
-use Rattle.optional.specs.declared.OptU8.{OptU8}
-use Rattle.optional.proofs.Tests.{and_right}
 use Rattle.tdma_time.specs.declared.TdmaTime.{TdmaTime}
 use Rattle.tdma_time.specs.Time.{Valid, timeslot, usable}
 use Rattle.slot_codes.specs.Codes.{capacity_of, delay_of}
@@ -60,7 +59,7 @@ placed_at at (p ∷ ps) rest zero l = refl
 placed_at at (p ∷ ps) rest (suc i) l = placed_at (at + length (pdu_bits p)) ps rest i (le_of_suc-le-suc l)
 
 -- a name stands inside its list
-some-inside : {A : Type 0} (l : List (Option A)) (i : ℕ) (a : A) → get_or l i none ≡ some a → i < length l
+some-inside : {A : Type 0} (l : List (Option A)) (i : ℕ) (a : A) → get_or l i None ≡ Some a → i < length l
 some-inside [] i a e = absurd (let z : ◌≡◌ {A = ℕ} 0 1 = cc in omega arith)
 some-inside (y ∷ l) zero a e = omega arith
 some-inside (y ∷ l) (suc i) a e = let q = some-inside l i a e in omega arith
@@ -130,12 +129,12 @@ module _ (x : TdmaTime) (v : Valid x) (before : List Call) (b : List ℕ) where
   block-left octets tags e =
       let (can, after, same) = block-built octets tags e in
       ap queue_now (at_more x before (build b) ∙ after)
-      ∙ get_or-set_same m.queues (t - 1) _ [] (queue-inside m.queues (t - 1) (and_right (usable m.uplink.now) _ can))
+      ∙ get_or-set_same m.queues (t - 1) _ [] (queue-inside m.queues (t - 1) (and_parts (usable m.uplink.now) _ can).1)
 
   pub block-kept : (octets tags : List ℕ) → Replied octets tags
-      → (front back : List (Item NamedSdu)) (g : Item NamedSdu) (name : ℕ) → queue_now m ≡ front ++ g ∷ back → pending g ≡ some name
+      → (front back : List (Item NamedSdu)) (g : Item NamedSdu) (name : ℕ) → queue_now m ≡ front ++ g ∷ back → pending g ≡ Some name
       → ((y : Item NamedSdu) → Memᴰ y back → replaces y g ≡ false)
-      → Memᴰ (some name) (names_built m) ⊎ Memᴰ (some name) (map pending (queue_now (model_at x (before ++ build b ∷ []))))
+      → Memᴰ (Some name) (names_built m) ⊎ Memᴰ (Some name) (map pending (queue_now (model_at x (before ++ build b ∷ []))))
   unfolding names_built
   block-kept octets tags e front back g name q n k = rw (block-left octets tags e, q) (sent-or-pending block_width front back g name n k)
 
@@ -166,42 +165,42 @@ module _ (x : TdmaTime) (v : Valid x) (before : List Call) (b : List ℕ) where
     header-listed : (i : ℕ) → i < length pdus → (get_or (read_block block_octets octets).headers i no_header).header ≡ header (get_or pdus i null)
     header-listed i l = ap (λ (y : Reading). (get_or y.headers i no_header).header) (block_listed octets tags e) ∙ placed_at 0 pdus _ i l
 
-    its-grant : (h : ResourceHeader) (octet name : ℕ) → Faithful x before t (number_of h.address) (OptU8.Of octet) (some name)
+    its-grant : (h : ResourceHeader) (octet name : ℕ) → Faithful x before t (number_of h.address) (Some octet) (Some name)
         → ItsGrant x before h octet name
     its-grant h octet name o = (o, origin-derived x before t (number_of h.address) octet name o m.uplink.now)
 
     pub block-grants : (i : ℕ) (h : ResourceHeader) (octet : ℕ) → GrantRead octets i h octet
-        → (name : ℕ) × (get_or (names_built m) i none ≡ some name) × ItsGrant x before h octet name
+        → (name : ℕ) × (get_or (names_built m) i None ≡ Some name) × ItsGrant x before h octet name
     block-grants i h octet g =
         let inside : i < length pdus = rw many-listed at g.listed in
         let same : header (get_or pdus i null) ≡ PduHeader.Resource h = sym (header-listed i inside) ∙ g.header in
-        let tied : Faithful x before t (number_of h.address) h.slot_granting_element (get_or (names_built m) i none) =
-        rw same at (along-at (GrantIn (Faithful x before t)) pdus (names_built m) names-tied i inside null none) in
-        go (get_or (names_built m) i none) refl (rw g.grant at tied)
+        let tied : Faithful x before t (number_of h.address) h.slot_granting_element (get_or (names_built m) i None) =
+        rw same at (along-at (GrantIn (Faithful x before t)) pdus (names_built m) names-tied i inside null None) in
+        go (get_or (names_built m) i None) refl (rw g.grant at tied)
       where
-        go : (n : Option ℕ) → get_or (names_built m) i none ≡ n → Faithful x before t (number_of h.address) (OptU8.Of octet) n
-            → (name : ℕ) × (get_or (names_built m) i none ≡ some name) × ItsGrant x before h octet name
-        go none q k = absurd k
-        go (some name) q k = (name, q, its-grant h octet name k)
+        go : (n : Option ℕ) → get_or (names_built m) i None ≡ n → Faithful x before t (number_of h.address) (Some octet) n
+            → (name : ℕ) × (get_or (names_built m) i None ≡ Some name) × ItsGrant x before h octet name
+        go None q k = absurd k
+        go (Some name) q k = (name, q, its-grant h octet name k)
 
-    pub block-stands : (i name : ℕ) → get_or (names_built m) i none ≡ some name
+    pub block-stands : (i name : ℕ) → get_or (names_built m) i None ≡ Some name
         → (h : ResourceHeader) × (octet : ℕ) × GrantRead octets i h octet × ItsGrant x before h octet name
     block-stands i name q =
         let inside : i < length pdus = rw (along-length (GrantIn (Faithful x before t)) pdus (names_built m) names-tied) (some-inside (names_built m) i name q) in
         go (header (get_or pdus i null)) (header-listed i inside)
-        (rw q at (along-at (GrantIn (Faithful x before t)) pdus (names_built m) names-tied i inside null none))
+        (rw q at (along-at (GrantIn (Faithful x before t)) pdus (names_built m) names-tied i inside null None))
       where
         inside : i < (read_block block_octets octets).count
         inside = rw (many-listed, along-length (GrantIn (Faithful x before t)) pdus (names_built m) names-tied) (some-inside (names_built m) i name q)
 
-        by-grant : (h : ResourceHeader) (grant : OptU8) → h.slot_granting_element ≡ grant
+        by-grant : (h : ResourceHeader) (grant : Option ℕ) → h.slot_granting_element ≡ grant
             → (get_or (read_block block_octets octets).headers i no_header).header ≡ PduHeader.Resource h
-            → Faithful x before t (number_of h.address) grant (some name)
+            → Faithful x before t (number_of h.address) grant (Some name)
             → (h : ResourceHeader) × (octet : ℕ) × GrantRead octets i h octet × ItsGrant x before h octet name
-        by-grant h OptU8.Absent g e k = absurd k
-        by-grant h (OptU8.Of octet) g e k = (h, octet, record { listed = inside; header = e; grant = g }, its-grant h octet name k)
+        by-grant h None g e k = absurd k
+        by-grant h (Some octet) g e k = (h, octet, record { listed = inside; header = e; grant = g }, its-grant h octet name k)
 
-        go : (p : PduHeader) → (get_or (read_block block_octets octets).headers i no_header).header ≡ p → Faithful x before t (number_in p) (grant_in p) (some name)
+        go : (p : PduHeader) → (get_or (read_block block_octets octets).headers i no_header).header ≡ p → Faithful x before t (number_in p) (grant_in p) (Some name)
             → (h : ResourceHeader) × (octet : ℕ) × GrantRead octets i h octet × ItsGrant x before h octet name
         go (PduHeader.Resource h) e k = by-grant h _ refl e k
         go (PduHeader.Frag f) e k = absurd k

@@ -1,10 +1,10 @@
 -- Demand 3 holds of every history (`demand3`). Assumes nothing.
+use Rattle.std.proofs.Common.{Some}
 use mathlib.Core.Path.{◌≡◌, sym, ap, ◌∙◌}
 use mathlib.Core.Logic.{◌↔◌}
 use mathlib.Core.List.{List, ◌∷◌, ◌++◌}
 use Prim.Native.Nat.{ℕ, ◌+◌, ◌≤◌, ◌<◌}
 use native.Mathlib.Omega.{arith}
-use Rattle.optional.specs.declared.OptU32.{OptU32}
 use Rattle.tdma_time.specs.declared.TdmaTime.{TdmaTime}
 use Rattle.tdma_time.specs.Time.{Valid, slot_of, clock}
 use Rattle.tdma_time.proofs.TimeLaws.{time_of-valid, slot_of-below}
@@ -38,7 +38,7 @@ module _ (x : TdmaTime) (v : Valid x) where
         rw a.now (a.matched.agree ((model_at x cs).uplink.now + k) (omega arith) (omega arith))
 
     table-standing : (h : Half) (w : ℕ)
-        → (table_view (memory_at x cs).station.uplink.rows slot h ≡ OptU32.Of w) ↔ Standing x cs (record { time = clock slot; half = h }) w
+        → (table_view (memory_at x cs).station.uplink.rows slot h ≡ Some w) ↔ Standing x cs (record { time = clock slot; half = h }) w
     table-standing h w =
         let same : table_view (memory_at x cs).station.uplink.rows slot h ≡ taken_by (model_at x cs).uplink.taken (clock slot) h =
         ap (λ (e : Entry). holder e h) same-entry ∙ holder-entry (model_at x cs).uplink.taken slot h in

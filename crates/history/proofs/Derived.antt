@@ -1,5 +1,6 @@
 -- A granted request's reserved list is what a mobile station derives from the grant, read in a block, exactly when the two first usable slots show
 -- one time (`derived`). Assumes nothing.
+use Rattle.std.proofs.Common.{Option}
 use mathlib.Core.Path.{◌≡◌, refl, sym, ap₂, ◌∙◌}
 use mathlib.Core.Logic.{◌↔◌}
 use mathlib.Core.List.{[]}
@@ -8,7 +9,6 @@ use native.Mathlib.Omega.{arith}
 use Rattle.sizes.specs.Sizes.{timeslots}
 use Rattle.questions.specs.Questions.{ask}
 use Rattle.questions.proofs.AskLaws.{AllYes, yes-before, ask-elim}
-use Rattle.optional.specs.declared.OptU8.{OptU8}
 use Rattle.tdma_time.specs.Time.{clock, first_usable}
 use Rattle.uplink.specs.Search.{Run}
 use Rattle.uplink.specs.Request.{Verdict, no_run, too_late, grant, capacity, reserved_by, ms_half_slots}
@@ -30,7 +30,7 @@ pub record GrantOf (a : CapacityRequest) (m : Model) (cap delay : ℕ) : Type 0 
   pub delay-is : run.delay ≡ delay
   pub reserved-is : reserved a m ≡ reserved_by (model_view m.uplink.taken) a.code (model_verdict m.uplink (request_of a))
 
-module _ (a : CapacityRequest) (m : Model) (cap delay : ℕ) (marker : OptU8) where
+module _ (a : CapacityRequest) (m : Model) (cap delay : ℕ) (marker : Option ℕ) where
   reserved-passed : AllYes (request_asked a m) → reserved a m ≡ reserved_by (model_view m.uplink.taken) a.code (model_verdict m.uplink (request_of a))
   unfolding reserved ask
   reserved-passed q =

@@ -1,9 +1,9 @@
 -- No two requests at most 65,535 hyperframes apart reserve the same half-slot (`disjoint`). Assumes nothing.
+use Rattle.std.proofs.Common.{Some, None}
 use mathlib.Core.Path.{◌≡◌, sym, ap, ◌∙◌}
 use mathlib.Core.List.{List, ◌∷◌, ◌++◌, Memᴰ}
 use Prim.Native.Nat.{ℕ, ◌+◌, ◌≤◌, ◌<◌}
 use native.Mathlib.Omega.{arith}
-use Rattle.optional.specs.declared.OptU32.{OptU32}
 use Rattle.tdma_time.specs.declared.TdmaTime.{TdmaTime}
 use Rattle.tdma_time.specs.Time.{Valid, cycle, clock}
 use Rattle.tdma_time.proofs.TimeLaws.{slot_of-below}
@@ -42,9 +42,9 @@ clash a a' m v cs l y p q =
     ∙ ap (λ (i : ℕ). clock (i + j)) ((run-now cs m' v').0 ∙ ap (λ (i : ℕ). clock (i + slots_advanced cs)) same) in
     let not_left : slots_advanced cs ≤ k = overlap n k (slots_advanced cs) j there soon soon' l in
     let time : y.time ≡ clock (m'.uplink.now + k) = at ∙ ap clock (sym ck) ∙ ap (λ (i : ℕ). clock (i + k)) (sym same) in
-    let held : taken_by end.uplink.taken (clock (m'.uplink.now + k)) y.half ≡ OptU32.Of a.number =
+    let held : taken_by end.uplink.taken (clock (m'.uplink.now + k)) y.half ≡ Some a.number =
     keeps cs m' v' k not_left (within k soon) y.half a.number (rw time at p.held) in
-    let free : taken_by end.uplink.taken (clock (m'.uplink.now + k)) y.half ≡ OptU32.Absent = rw time at q.free in
+    let free : taken_by end.uplink.taken (clock (m'.uplink.now + k)) y.half ≡ None = rw time at q.free in
     held-not-free (sym held ∙ free)
 
 pub disjoint : (x : TdmaTime) → Valid x → (before between : List Call) (a a' : CapacityRequest) → slots_advanced between ≤ farthest

@@ -1,4 +1,5 @@
 -- The reference model: the entry of a slot, halves and marker, after half-slots are freed, or taken. Assumes nothing.
+use Rattle.std.proofs.Common.{Option, Some, None}
 use mathlib.Core.Path.{◌≡◌, refl, sym, ap, ◌∙◌}
 use mathlib.Core.Logic.{◌≢◌}
 use mathlib.Core.Bool.{Bool, true, false, cond}
@@ -6,8 +7,6 @@ use mathlib.Core.List.{List, [], ◌∷◌}
 use Prim.Native.Nat.{ℕ}
 use lib.Dec.{eqb}
 use borrow.Author.Tests.{eqb-true, eq-eqb, ne_eqb}
-use Rattle.optional.specs.declared.OptU8.{OptU8}
-use Rattle.optional.specs.declared.OptU32.{OptU32}
 use Rattle.tdma_time.specs.Time.{clock}
 use Rattle.uplink.specs.declared.Entry.{Entry}
 use Rattle.uplink.specs.HalfSlot.{Half, first_half, second_half, halves_at}
@@ -31,12 +30,12 @@ marked-on : (x : Taken) (xs : List Taken) (t : ℕ) → x.what.time ≡ t → ma
 unfolding marked_by
 marked-on x xs t e = rw (eq-eqb _ _ e)
 
-freed-unmarked : (xs : List Taken) (t : ℕ) → marked_by (freed xs t) t ≡ OptU8.Absent
+freed-unmarked : (xs : List Taken) (t : ℕ) → marked_by (freed xs t) t ≡ None
 unfolding marked_by freed
 freed-unmarked [] t = refl
 freed-unmarked (x ∷ xs) t = go (eqb x.what.time t) refl (freed-unmarked xs t)
   where
-    go : (b : Bool) → eqb x.what.time t ≡ b → marked_by (freed xs t) t ≡ OptU8.Absent → marked_by (cond b (freed xs t) (x ∷ freed xs t)) t ≡ OptU8.Absent
+    go : (b : Bool) → eqb x.what.time t ≡ b → marked_by (freed xs t) t ≡ None → marked_by (cond b (freed xs t) (x ∷ freed xs t)) t ≡ None
     go true e ih = ih
     go false e ih = rw e ih
 
@@ -50,7 +49,7 @@ freed-marked (x ∷ xs) u t k = go (eqb x.what.time u) refl (freed-marked xs u t
     go true e ih = ih ∙ sym (marked-off x xs t (λ q. k (sym q ∙ eqb-true _ _ e)))
     go false e ih = rw ih
 
-takes-unmarked : (hs : List Half) (c who : ℕ) (marker : OptU8) (xs : List Taken) (t : ℕ) → clock c ≢ t
+takes-unmarked : (hs : List Half) (c who : ℕ) (marker : Option ℕ) (xs : List Taken) (t : ℕ) → clock c ≢ t
     → marked_by (take_halves (halves_at hs c) who marker xs) t ≡ marked_by xs t
 unfolding take_halves halves_at
 takes-unmarked [] c who marker xs t e = refl
@@ -69,7 +68,7 @@ pub entry-stays : (xs : List Taken) (n c : ℕ) → clock c ≢ n → model_entr
 entry-stays xs n c e = entry-same (freed xs n) xs c (λ h. freed-other xs n (clock c) h e) (freed-marked xs n (clock c) e)
 
 -- where halves of another slot are taken
-pub entry-off : (hs : List Half) (c who : ℕ) (marker : OptU8) (xs : List Taken) (x : ℕ) → clock c ≢ clock x
+pub entry-off : (hs : List Half) (c who : ℕ) (marker : Option ℕ) (xs : List Taken) (x : ℕ) → clock c ≢ clock x
     → model_entry (take_halves (halves_at hs c) who marker xs) x ≡ model_entry xs x
 entry-off hs c who marker xs x e = entry-same _ xs x (λ h. takes-off hs c who marker xs (clock x) h e) (takes-unmarked hs c who marker xs (clock x) e)
 
@@ -84,7 +83,7 @@ abbrev pub SomeHalf : List Half → Type 0
 SomeHalf [] = ⊥
 SomeHalf (h ∷ hs) = Unit {0}
 
-module _ (c who : ℕ) (marker : OptU8) where
+module _ (c who : ℕ) (marker : Option ℕ) where
   abbrev taken : Half → Taken
   taken h = record { what = half_slot (clock c) h; who = who; marker = marker }
 
@@ -93,28 +92,28 @@ module _ (c who : ℕ) (marker : OptU8) where
   one_more xs h =
       rw (taken-on (taken h) xs (clock c) first_half refl, taken-on (taken h) xs (clock c) second_half refl, marked-on (taken h) xs (clock c) refl) (go marker h)
     where
-      go : (k : OptU8) (h : Half) → with_half (with_marker (model_entry xs c) k) h who
+      go : (k : Option ℕ) (h : Half) → with_half (with_marker (model_entry xs c) k) h who
           ≡ record {
-            ul1 = cond (same_half h first_half) (OptU32.Of who) (model_view xs c first_half);
-            ul2 = cond (same_half h second_half) (OptU32.Of who) (model_view xs c second_half);
+            ul1 = cond (same_half h first_half) (Some who) (model_view xs c first_half);
+            ul2 = cond (same_half h second_half) (Some who) (model_view xs c second_half);
             usage_marker = or_else k (marked_by xs (clock c));
           }
-      go OptU8.Absent first_half = refl
-      go OptU8.Absent second_half = refl
-      go (OptU8.Of m) first_half = refl
-      go (OptU8.Of m) second_half = refl
+      go None first_half = refl
+      go None second_half = refl
+      go (Some m) first_half = refl
+      go (Some m) second_half = refl
 
   -- it has the marker
   once-marked : (xs : List Taken) (h : Half) → with_marker (model_entry (taken h ∷ xs) c) marker ≡ model_entry (taken h ∷ xs) c
   once-marked xs h = rw (marked-on (taken h) xs (clock c) refl) (go marker)
     where
-      e : OptU8 → Entry
+      e : Option ℕ → Entry
       e k =
           record { ul1 = model_view (taken h ∷ xs) c first_half; ul2 = model_view (taken h ∷ xs) c second_half; usage_marker = or_else k (marked_by xs (clock c)) }
 
-      go : (k : OptU8) → with_marker (e k) k ≡ e k
-      go OptU8.Absent = refl
-      go (OptU8.Of m) = refl
+      go : (k : Option ℕ) → with_marker (e k) k ≡ e k
+      go None = refl
+      go (Some m) = refl
 
   all_more : (hs : List Half) (xs : List Taken) → with_marker (model_entry xs c) marker ≡ model_entry xs c
       → with_halves (model_entry xs c) hs who ≡ model_entry (take_halves (halves_at hs c) who marker xs) c

@@ -1,16 +1,14 @@
 -- "A grant keeps its name through merging into the header written": what ties number, grant and name of each queued record together ties those of each
 -- header written, and of what stays (`built-tied`). Assumes nothing.
+use Rattle.std.proofs.Common.{Option, Some, None}
 use mathlib.Core.Path.{◌≡◌, refl, ap}
 use mathlib.Core.Bool.{Bool, true, false, ◌&&◌, ◌||◌, not, cond}
-use mathlib.Core.Option.{Option, none}
 use mathlib.Core.List.{List, [], ◌∷◌, ◌++◌, map}
 use Prim.Native.Nat.{ℕ, zero, suc, ◌+◌, ◌-◌, ◌*◌, ◌/◌, ◌<◌}
 use native.Mathlib.Nat.{le_of_suc-le-suc, not-suc-le-zero}
 use lib.Dec.{leb, ltb}
 use lib.ListN.{length, get_or}
 use Rattle.lists.proofs.Every.{All}
-use Rattle.optional.specs.declared.OptU8.{OptU8}
-use Rattle.optional.specs.declared.OptU16.{OptU16}
 use Rattle.fillbits.specs.Fill.{fill_wanted}
 use Rattle.mac_pdus.specs.declared.PduHeader.{PduHeader}
 use Rattle.mac_pdus.specs.Legal.{ssi_on_air, address_on_air, on_air, number_of}
@@ -65,12 +63,12 @@ module _ {A B : Type 0} (P : A → B → Type 0) where
 
 -- ---- the header of a record
 
-ssi-number : (n : ℕ) (label : OptU16) (marker : OptU8) → number_of (ssi_on_air n label marker) ≡ n
-ssi-number n OptU16.Absent OptU8.Absent = refl
-ssi-number n OptU16.Absent (OptU8.Of m) = refl
-ssi-number n (OptU16.Of e) marker = refl
+ssi-number : (n : ℕ) (label : Option ℕ) (marker : Option ℕ) → number_of (ssi_on_air n label marker) ≡ n
+ssi-number n None None = refl
+ssi-number n None (Some m) = refl
+ssi-number n (Some e) marker = refl
 
-address-number : (k n : ℕ) (label : OptU16) (marker : OptU8) → number_of (address_on_air (address_kind_of k) n label marker) ≡ n
+address-number : (k n : ℕ) (label : Option ℕ) (marker : Option ℕ) → number_of (address_on_air (Some (address_kind_of k)) n label marker) ≡ n
 unfolding address_on_air
 address-number zero n label marker = ssi-number n label marker
 address-number (suc zero) n label marker = ssi-number n label marker
@@ -90,16 +88,16 @@ number_in (PduHeader.Resource h) = number_of h.address
 number_in (PduHeader.Frag f) = 0
 number_in (PduHeader.End e) = 0
 
-abbrev pub grant_in : PduHeader → OptU8
+abbrev pub grant_in : PduHeader → Option ℕ
 grant_in (PduHeader.Resource h) = h.slot_granting_element
-grant_in (PduHeader.Frag f) = OptU8.Absent
-grant_in (PduHeader.End e) = OptU8.Absent
+grant_in (PduHeader.Frag f) = None
+grant_in (PduHeader.End e) = None
 
 -- number, grant and name of a PDU's header are tied together
-abbrev pub GrantIn : (ℕ → OptU8 → Option ℕ → Type 0) → Pdu → Option ℕ → Type 0
+abbrev pub GrantIn : (ℕ → Option ℕ → Option ℕ → Type 0) → Pdu → Option ℕ → Type 0
 GrantIn R p name = R (number_in (header p)) (grant_in (header p)) name
 
-module _ (R : ℕ → OptU8 → Option ℕ → Type 0) (bare : (n : ℕ) → R n OptU8.Absent none) where
+module _ (R : ℕ → Option ℕ → Option ℕ → Type 0) (bare : (n : ℕ) → R n None None) where
   -- ---- a record's turn
 
   abbrev AllIn : Option ℕ → List Pdu → Type 0
@@ -139,18 +137,18 @@ module _ (R : ℕ → OptU8 → Option ℕ → Type 0) (bare : (n : ℕ) → R n
       go true = continue-in room r sdu name
       go false = begin-in may room r sdu name k
 
-  null-in : (room : ℕ) → AllIn none (null_in room)
+  null-in : (room : ℕ) → AllIn None (null_in room)
   unfolding header
   null-in room = go (ltb room 16)
     where
-      go : (b : Bool) → AllIn none (cond b [] (null ∷ []))
+      go : (b : Bool) → AllIn None (cond b [] (null ∷ []))
       go true = tt
       go false = (bare _, tt)
 
   pdus-tied : (may : Bool) (room : ℕ) (xs : List (Item NamedSdu)) → All (Tied R) xs
       → Along (GrantIn R) (send_all named_sdu may room xs).pdus (sent_names may room xs)
   unfolding send_all turns read_off room_after
-  pdus-tied may room [] h = along-map (GrantIn R) (name_in none) (null_in room) (null-in room)
+  pdus-tied may room [] h = along-map (GrantIn R) (name_in None) (null_in room) (null-in room)
   pdus-tied may room (x ∷ xs) h =
       let s : Next = turn named_sdu may room x in
       let on : Bool = may && wrote s.pdus in
@@ -158,7 +156,7 @@ module _ (R : ℕ → OptU8 → Option ℕ → Type 0) (bare : (n : ℕ) → R n
       (along-map (GrantIn R) (name_in x.load.name) s.pdus (next-in may room x.rec x.load.sdu x.load.name h.0))
       (pdus-tied on s.room xs h.1)
 
-module _ (R : ℕ → OptU8 → Option ℕ → Type 0) where
+module _ (R : ℕ → Option ℕ → Option ℕ → Type 0) where
   merged-tied : (xs : List (Item NamedSdu)) → All (Tied R) xs → All (Tied R) (in_order (merge_named [] xs))
   merged-tied xs h = order-all (Tied R) (merge_named [] xs) (merge-tied R [] xs h)
 
@@ -168,7 +166,7 @@ module _ (R : ℕ → OptU8 → Option ℕ → Type 0) where
   unfolding named_built build_list
   built-left w xs h = left-all (Tied R) (λ k n x q. q) named_sdu true w (in_order (merge_named [] xs)) (merged-tied xs h)
 
-  pub built-tied : ((n : ℕ) → R n OptU8.Absent none) → (w : ℕ) (xs : List (Item NamedSdu)) → All (Tied R) xs
+  pub built-tied : ((n : ℕ) → R n None None) → (w : ℕ) (xs : List (Item NamedSdu)) → All (Tied R) xs
       → Along (GrantIn R) (named_built w xs).pdus (sent_names true w (in_order (merge_named [] xs)))
   unfolding named_built build_list
   built-tied bare w xs h = pdus-tied R bare true w (in_order (merge_named [] xs)) (merged-tied xs h)

@@ -1,9 +1,10 @@
 -- No grant gets lost in a build: merging keeps its name unless a grant queued behind it replaces it, and sending writes the name or leaves the record
 -- waiting (`sent-or-pending`). Assumes nothing.
+use Rattle.std.proofs.lemmas.Bool.{and_parts}
+use Rattle.std.proofs.Common.{Option, Some, None}
 use mathlib.Core.Path.{◌≡◌, refl, sym, ap, subst, ◌∙◌}
 use mathlib.Core.Logic.{◌⊎◌, inl, inr, ⊎_elim}
 use mathlib.Core.Bool.{Bool, true, false, ◌&&◌, ◌||◌, not, cond}
-use mathlib.Core.Option.{Option, none, some}
 use mathlib.Core.List.Memᴰ
 use mathlib.Core.List.{List, [], ◌∷◌, ◌++◌, map, Memᴰ}
 use Prim.Native.Nat.{ℕ, ◌+◌}
@@ -11,7 +12,6 @@ use native.Mathlib.Omega.{arith}
 use lib.Dec.{eqb, leb, ltb}
 use borrow.Author.Tests.{eqb-true, eq-eqb}
 use Rattle.lists.proofs.Every.{All}
-use Rattle.optional.proofs.Tests.{and_left, and_right}
 use Rattle.uplink.proofs.Basics.{not-both}
 use Rattle.dl_record.specs.declared.Kind.{Kind}
 use Rattle.dl_record.specs.declared.Record.{Record}
@@ -85,7 +85,7 @@ record-kind Kind.Record e = refl
 record-kind Kind.Waiting e = not-both false e refl
 record-kind Kind.Started e = not-both false e refl
 
-no_name : {n : ℕ} → none ≡ some n → ⊥
+no_name : {n : ℕ} → None ≡ Some n → ⊥
 no_name e = let z : ◌≡◌ {A = ℕ} 0 1 = cc in omega arith
 
 -- ---- a record's first turn
@@ -112,7 +112,7 @@ first-writes may room r sdu name e =
 record Has (kind : Kind) (number name : ℕ) (y : Item NamedSdu) : Type 0 where
   its-kind : y.rec.kind ≡ kind
   its-number : y.rec.number ≡ number
-  its-name : y.load.name ≡ some name
+  its-name : y.load.name ≡ Some name
 
 module _ (number name : ℕ) where
   -- y, queued behind, does not replace it
@@ -125,12 +125,12 @@ module _ (number name : ℕ) where
   joined-has kind g x e p h = record { its-kind = h.its-kind; its-number = h.its-number; its-name = go g.rec.kind p }
     where
       of-record : is_record kind ≡ true
-      of-record = rw (← h.its-kind) (and_left (is_record x.rec.kind) _ e)
+      of-record = rw (← h.its-kind) (and_parts (is_record x.rec.kind) _ e).0
 
       same : eqb g.rec.number number ≡ true
-      same = eq-eqb _ _ (sym (eqb-true x.rec.number g.rec.number (and_right (is_record x.rec.kind) _ e)) ∙ h.its-number)
+      same = eq-eqb _ _ (sym (eqb-true x.rec.number g.rec.number (and_parts (is_record x.rec.kind) _ e).1) ∙ h.its-number)
 
-      go : (k : Kind) → is_record kind && is_grant k && eqb g.rec.number number ≡ false → name_after k g.load.name x.load.name ≡ some name
+      go : (k : Kind) → is_record kind && is_grant k && eqb g.rec.number number ≡ false → name_after k g.load.name x.load.name ≡ Some name
       go Kind.Grant q = let t : is_record kind && is_grant Kind.Grant && eqb g.rec.number number ≡ true = rw (of-record, same) in not-both _ t q
       go Kind.Ack q = h.its-name
       go Kind.Record q = h.its-name
@@ -168,8 +168,8 @@ module _ (number name : ℕ) where
       go below true e =
           inl
           (record {
-            its-kind = record-kind _ (and_left (is_record x.rec.kind) _ e);
-            its-number = eqb-true _ _ (and_right (is_record x.rec.kind) _ e) ∙ h.its-number;
+            its-kind = record-kind _ (and_parts (is_record x.rec.kind) _ e).0;
+            its-number = eqb-true _ _ (and_parts (is_record x.rec.kind) _ e).1 ∙ h.its-number;
             its-name = rw h.its-kind h.its-name;
           })
       go below false e = inr below
@@ -211,10 +211,10 @@ module _ (number name : ℕ) where
 
   -- written now, or waiting
   abbrev Fate : List (Option ℕ) → List (Item NamedSdu) → Type 0
-  Fate names left = Memᴰ (some name) names ⊎ Any (Has Kind.Waiting number name) left
+  Fate names left = Memᴰ (Some name) names ⊎ Any (Has Kind.Waiting number name) left
 
   one-sent : (s : Next) (x : Item NamedSdu) (names : List (Option ℕ)) (left : List (Item NamedSdu)) → x.rec.number ≡ number
-      → x.load.name ≡ some name → Writes x.load.name s
+      → x.load.name ≡ Some name → Writes x.load.name s
       → Fate (map (name_in x.load.name) s.pdus ++ names) (staying s.outcome x ++ left)
   one-sent s x names left n e (inl m) = inl (Memᴰ.append_left names (Memᴰ.cast (sym e) m))
   one-sent s x names left n e (inr o) = inr (rw o (inl (record { its-kind = refl; its-number = n; its-name = e })))
@@ -244,21 +244,21 @@ module _ (number name : ℕ) where
       send-keeps Kind.Waiting refl true w _
       (any_left (Has Kind.Waiting number name) (only is_underway xs) (only is_record xs) (only-has Kind.Waiting is_underway refl xs h))
 
-  left-pending : (xs : List (Item NamedSdu)) → Any (Has Kind.Waiting number name) xs → Memᴰ (some name) (map pending xs)
+  left-pending : (xs : List (Item NamedSdu)) → Any (Has Kind.Waiting number name) xs → Memᴰ (Some name) (map pending xs)
   left-pending [] h = absurd h
   left-pending (x ∷ xs) (inl h) = Memᴰ.head (sym (ap (λ (k : Kind). pending_as k x.load.name) h.its-kind ∙ h.its-name))
   left-pending (x ∷ xs) (inr h) = Memᴰ.tail (left-pending xs h)
 
-pub sent-or-pending : (w : ℕ) (front back : List (Item NamedSdu)) (g : Item NamedSdu) (name : ℕ) → pending g ≡ some name
+pub sent-or-pending : (w : ℕ) (front back : List (Item NamedSdu)) (g : Item NamedSdu) (name : ℕ) → pending g ≡ Some name
     → ((y : Item NamedSdu) → Memᴰ y back → replaces y g ≡ false)
-    → Memᴰ (some name) (sent_names true w (in_order (merge_named [] (front ++ g ∷ back))))
-    ⊎ Memᴰ (some name) (map pending (named_built w (front ++ g ∷ back)).left)
+    → Memᴰ (Some name) (sent_names true w (in_order (merge_named [] (front ++ g ∷ back))))
+    ⊎ Memᴰ (Some name) (map pending (named_built w (front ++ g ∷ back)).left)
 unfolding named_built build_list
 sent-or-pending w front back g name e k =
     ⊎_elim inl (λ a. inr (left-pending g.rec.number name (named_built w (front ++ g ∷ back)).left a))
     (order-keeps g.rec.number name w (merge_named [] (front ++ g ∷ back)) (go g.rec.kind refl e k))
   where
-    go : (kind : Kind) → g.rec.kind ≡ kind → pending_as kind g.load.name ≡ some name
+    go : (kind : Kind) → g.rec.kind ≡ kind → pending_as kind g.load.name ≡ Some name
         → ((y : Item NamedSdu) → Memᴰ y back → is_grant kind && is_grant y.rec.kind && eqb y.rec.number g.rec.number ≡ false)
         → Any (Has Kind.Record g.rec.number name) (merge_named [] (front ++ g ∷ back))
         ⊎ Any (Has Kind.Waiting g.rec.number name) (merge_named [] (front ++ g ∷ back))

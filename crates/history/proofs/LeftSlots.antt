@@ -1,4 +1,6 @@
 -- The three slots before now keep the entries that they were left with. Assumes nothing.
+use Rattle.std.proofs.Common.{Result, Ok, Err}
+use Rattle.questions.specs.declared.Refusal.{Refusal}
 use mathlib.Core.Path.{◌≡◌, refl, ap, ◌∙◌}
 use mathlib.Core.Logic.{◌≢◌}
 use mathlib.Core.Bool.{Bool, true, false, cond}
@@ -9,7 +11,7 @@ use Rattle.lists.proofs.Every.{all-weaken}
 use Rattle.tdma_time.specs.declared.TdmaTime.{TdmaTime}
 use Rattle.tdma_time.specs.Time.{Valid, slot_of, clock, next_time}
 use Rattle.tdma_time.proofs.TimeLaws.{slot_of-time_of}
-use Rattle.uplink.specs.declared.CapReply.{CapReply}
+use Rattle.uplink.specs.declared.Grant.{Grant}
 use Rattle.uplink.specs.declared.Uplink.{Uplink}
 use Rattle.uplink.specs.UplinkEntry.{FourRowsOfEighteen, empty_entry, entry_at, table_view}
 use Rattle.uplink.specs.Request.{Request, Verdict, no_run, too_late, grant, verdict, table_after, given, answer}
@@ -92,10 +94,9 @@ module _ (m : Memory) (k : SoundMemory m) (c j : ℕ) (behind : Behind c (slot_o
       r : Request
       r = record { timeslot = t; code = code; number = n }
 
-      go : (x : CapReply) → Stays c m (grant_queued m t kind n (answer m.station.uplink r) x).memory
-      go CapReply.NoRun = (refl, refl)
-      go CapReply.TooLate = (refl, refl)
-      go (CapReply.Granted cap delay marker) = (refl, answer-left m.station.uplink k.table r c j low high behind)
+      go : (x : Result Grant Refusal) → Stays c m (grant_queued m t kind n (answer m.station.uplink r) x).memory
+      go (Err r) = (refl, refl)
+      go (Ok g) = (refl, answer-left m.station.uplink k.table r c j low high behind)
 
   ack-left : (t kind n : ℕ) → Stays c m (ack_call m t kind n).memory
   unfolding ack_call

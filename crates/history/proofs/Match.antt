@@ -1,4 +1,5 @@
 -- Table and reference model match: in the 68 slots from now on each entry is alike. What keeps them matched. Assumes nothing.
+use Rattle.std.proofs.Common.{Option}
 use mathlib.Core.Path.{◌≡◌, refl, sym, ap, ◌∙◌}
 use mathlib.Core.Logic.{◌≢◌}
 use mathlib.Core.Bool.{Bool, true, false, cond}
@@ -8,7 +9,6 @@ use native.Mathlib.Omega.{arith}
 use native.Mathlib.Decide.{ℕ_discrete}
 use lib.Dec.{eqb}
 use Rattle.lists.proofs.Every.{All}
-use Rattle.optional.specs.declared.OptU8.{OptU8}
 use Rattle.tdma_time.specs.Time.{cycle, clock}
 use Rattle.uplink.specs.declared.Entry.{Entry}
 use Rattle.uplink.specs.HalfSlot.{Half, first_half, second_half, halves_at, halves_of_slots}
@@ -54,7 +54,7 @@ halves-some cap = go (eqb cap 0) (eqb cap 15)
     go false false = tt
 
 module _ (n : ℕ) (t : Table) (xs : List Taken) (m : Matched n t xs) where
-  reserve-one : (hs : List Half) → SomeHalf hs → (who : ℕ) (k : OptU8) (c : ℕ) → n ≤ c → c < n + slots_agreed
+  reserve-one : (hs : List Half) → SomeHalf hs → (who : ℕ) (k : Option ℕ) (c : ℕ) → n ≤ c → c < n + slots_agreed
       → Matched n (store t c (with_halves (with_marker (entry_at t c) k) hs who)) (take_halves (halves_at hs c) who k xs)
   reserve-one hs some who k c low high = record { shape = store-shape t c _ m.shape; agree = agree'; ahead = ahead' }
     where
@@ -80,7 +80,7 @@ module _ (n : ℕ) (t : Table) (xs : List Taken) (m : Matched n t xs) where
 
 -- ---- a run of slots reserved
 
-pub reserve-matched : (n : ℕ) (hs : List Half) → SomeHalf hs → (who : ℕ) (k : OptU8) (cs : List ℕ) → All (Near n) cs → (t : Table) (xs : List Taken)
+pub reserve-matched : (n : ℕ) (hs : List Half) → SomeHalf hs → (who : ℕ) (k : Option ℕ) (cs : List ℕ) → All (Near n) cs → (t : Table) (xs : List Taken)
     → Matched n t xs
     → Matched n (reserve t hs who k cs) (take_halves (halves_of_slots hs cs) who k xs)
 unfolding reserve halves_of_slots take_halves

@@ -1,8 +1,9 @@
 -- Every grant queued in the reference model is that of the request that it is named after (`named-history`). Assumes nothing.
+use Rattle.std.proofs.lemmas.Bool.{and_parts}
+use Rattle.std.proofs.Common.{Option, Some, None}
 use mathlib.Core.Path.{◌≡◌, refl, sym, ap, subst, ◌∙◌}
 use mathlib.Core.Logic.{◌⊎◌, inl, inr, ⊎_elim}
 use mathlib.Core.Bool.{Bool, true, false, cond}
-use mathlib.Core.Option.{Option, none, some}
 use mathlib.Core.List.{List, [], ◌∷◌, ◌++◌, append_assoc, append-nil}
 use Prim.Native.Nat.{ℕ, zero, suc, ◌-◌, ◌≤◌}
 use native.Mathlib.Omega.{arith}
@@ -10,15 +11,13 @@ use lib.ListN.{length, get_or, set, length-append}
 use lib.Seq.{append_snoc}
 use Rattle.lists.proofs.Every.{All, all-weaken, all_append}
 use Rattle.sizes.specs.Sizes.{block_width}
-use Rattle.optional.specs.declared.OptU8.{OptU8}
-use Rattle.optional.proofs.Tests.{and_right}
 use Rattle.tdma_time.specs.declared.TdmaTime.{TdmaTime}
 use Rattle.tdma_time.specs.Time.{timeslot}
 use Rattle.slot_codes.specs.Codes.{grant_octet}
 use Rattle.uplink.specs.Search.{Run}
 use Rattle.uplink.specs.Request.{Verdict, no_run, too_late, grant}
 use Rattle.uplink.proofs.Basics.{not-both}
-use Rattle.mac_pdus.specs.Legal.{absent_u8, legal_queued, legal_offered}
+use Rattle.mac_pdus.specs.Legal.{absent, legal_queued, legal_offered}
 use Rattle.dl_record.specs.Record.{grant_record, ack_record, resource_of}
 use Rattle.dl_queue.specs.Queue.{Item, item}
 use Rattle.dl_merge.proofs.NameLaws.{Tied}
@@ -36,23 +35,23 @@ use Rattle.history.proofs.Steps.{run_more, unless-after}
 use Rattle.history.proofs.GrantNames.{built-left}
 
 -- a record's grant is that of the request it is named after; without a grant it has no name
-abbrev pub Faithful : TdmaTime → List Call → ℕ → ℕ → OptU8 → Option ℕ → Type 0
-Faithful x xs t number OptU8.Absent none = Unit {0}
-Faithful x xs t number OptU8.Absent (some k) = ⊥
-Faithful x xs t number (OptU8.Of octet) none = ⊥
-Faithful x xs t number (OptU8.Of octet) (some k) = Origin x xs t number octet k
+abbrev pub Faithful : TdmaTime → List Call → ℕ → ℕ → Option ℕ → Option ℕ → Type 0
+Faithful x xs t number None None = Unit {0}
+Faithful x xs t number None (Some k) = ⊥
+Faithful x xs t number (Some octet) None = ⊥
+Faithful x xs t number (Some octet) (Some k) = Origin x xs t number octet k
 
 abbrev pub Good : TdmaTime → List Call → ℕ → Item NamedSdu → Type 0
 Good x xs t = Tied (Faithful x xs t)
 
 -- a record without grant
-bare-good : (x : TdmaTime) (xs : List Call) (t : ℕ) (y : Item NamedSdu) → absent_u8 y.rec.header.slot_granting_element ≡ true
-    → y.load.name ≡ none → Good x xs t y
+bare-good : (x : TdmaTime) (xs : List Call) (t : ℕ) (y : Item NamedSdu) → absent y.rec.header.slot_granting_element ≡ true
+    → y.load.name ≡ None → Good x xs t y
 bare-good x xs t y e n = rw n (go y.rec.header.slot_granting_element e)
   where
-    go : (grant : OptU8) → absent_u8 grant ≡ true → Faithful x xs t y.rec.number grant none
-    go OptU8.Absent e = tt
-    go (OptU8.Of octet) e = not-both false e refl
+    go : (grant : Option ℕ) → absent grant ≡ true → Faithful x xs t y.rec.number grant None
+    go None e = tt
+    go (Some octet) e = not-both false e refl
 
 -- ---- one call more
 
@@ -77,11 +76,11 @@ origin-more x xs c o =
 good_more : (x : TdmaTime) (xs : List Call) (c : Call) (t : ℕ) (y : Item NamedSdu) → Good x xs t y → Good x (xs ++ c ∷ []) t y
 good_more x xs c t y = go y.rec.header.slot_granting_element y.load.name
   where
-    go : (grant : OptU8) (name : Option ℕ) → Faithful x xs t y.rec.number grant name → Faithful x (xs ++ c ∷ []) t y.rec.number grant name
-    go OptU8.Absent none p = tt
-    go OptU8.Absent (some k) p = absurd p
-    go (OptU8.Of octet) none p = absurd p
-    go (OptU8.Of octet) (some k) p = origin-more x xs c p
+    go : (grant : Option ℕ) (name : Option ℕ) → Faithful x xs t y.rec.number grant name → Faithful x (xs ++ c ∷ []) t y.rec.number grant name
+    go None None p = tt
+    go None (Some k) p = absurd p
+    go (Some octet) None p = absurd p
+    go (Some octet) (Some k) p = origin-more x xs c p
 
 -- ---- in each of the queues
 
@@ -141,7 +140,7 @@ module _ (x : TdmaTime) (xs : List Call) (k : (model_at x xs).count ≡ length x
   m = model_at x xs
 
   -- a request's own grant
-  new-good : (a : CapacityRequest) (c d : ℕ) (marker : OptU8) → (model_step (request a) m).reply ≡ granted c d marker
+  new-good : (a : CapacityRequest) (c d : ℕ) (marker : Option ℕ) → (model_step (request a) m).reply ≡ granted c d marker
       → Good x (xs ++ request a ∷ []) a.timeslot (item (grant_record a.kind a.number (grant_octet c d) marker) (named m.count))
   new-good a c d marker e =
       record {
@@ -177,12 +176,12 @@ module _ (x : TdmaTime) (xs : List Call) (k : (model_at x xs).count ≡ length x
       go (grant g) f r =
           appended-each (Good x (xs ++ request a ∷ [])) m.queues a.timeslot _ (timeslot-range a.timeslot q.0).0 (new-good a _ _ _ (f g r)) e
 
-  offer-bare : (o : RecordOffer) → legal_offered (resource_of (record_of o) 0 0) ≡ true → absent_u8 o.header.slot_granting_element ≡ true
+  offer-bare : (o : RecordOffer) → legal_offered (resource_of (record_of o) 0 0) ≡ true → absent o.header.slot_granting_element ≡ true
   unfolding legal_offered
-  offer-bare o h = and_right (legal_queued (resource_of (record_of o) 0 0)) (absent_u8 o.header.slot_granting_element) h
+  offer-bare o h = (and_parts (legal_queued (resource_of (record_of o) 0 0)) (absent o.header.slot_granting_element) h).1
 
   -- a record without grant joins
-  bare-joins : (ys : List Call) (t : ℕ) (y : Item NamedSdu) → 1 ≤ t → absent_u8 y.rec.header.slot_granting_element ≡ true → y.load.name ≡ none
+  bare-joins : (ys : List Call) (t : ℕ) (y : Item NamedSdu) → 1 ≤ t → absent y.rec.header.slot_granting_element ≡ true → y.load.name ≡ None
       → Everywhere x ys m.queues → Everywhere x ys (appended m.queues t y)
   unfolding Everywhere
   bare-joins ys t y low b n e = appended-each (Good x ys) m.queues t y low (bare-good x ys t y b n) e

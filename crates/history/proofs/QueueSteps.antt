@@ -1,4 +1,5 @@
 -- Memory and reference model hold the same (`Same`), and an advance, a request, an ack and a record keep it so and reply alike. Assumes nothing.
+use Rattle.std.proofs.Common.{Result}
 use mathlib.Core.Path.{◌≡◌, refl, sym, ap, subst, ◌∙◌}
 use mathlib.Core.Bool.{Bool, true}
 use mathlib.Core.List.{List, []}
@@ -12,9 +13,8 @@ use Rattle.dl_queue.proofs.EnqueueLaws.{cell-joins, empty-joins}
 use Rattle.sizes.specs.Sizes.{per_timeslot, cell_octets, timeslot_octets}
 use Rattle.bitbuffer.specs.Bits.{bits_of}
 use Rattle.bitbuffer.proofs.Laws.{length-bits_of}
-use Rattle.tdma_time.specs.Time.{timeslot}
 use Rattle.uplink.specs.declared.CapAnswer.{CapAnswer}
-use Rattle.uplink.specs.declared.CapReply.{CapReply}
+use Rattle.uplink.specs.declared.Grant.{Grant}
 use Rattle.uplink.specs.Request.{Verdict, no_run, too_late, grant, reply_to, answer}
 use Rattle.dl_record.specs.declared.Record.{Record}
 use Rattle.dl_record.specs.Record.{ack_record}
@@ -24,6 +24,7 @@ use Rattle.dl_sdu_store.proofs.CellBits.{length-cell_of, bits-cell_of}
 use Rattle.dl_queue.specs.Queue.{item, zero_cell, queues_of, enqueued, with_cell}
 use Rattle.dl_queue.proofs.QueueLaws.{counts-back}
 use Rattle.dl_merge.proofs.MergeLaws.{reload, sdu_in_cell, unnamed}
+use Rattle.questions.specs.declared.Refusal.{Refusal}
 use Rattle.questions.specs.Questions.{Question, ask}
 use Rattle.questions.proofs.AskLaws.{ask-both}
 use Rattle.sched_core.specs.Station.{advanced_station}
@@ -137,7 +138,7 @@ module _ (m : Memory) (b : Model) (k : SoundMemory m) (a : Same m b) where
     abbrev given : CapAnswer
     given = answer m.station.uplink (request_of c)
 
-    abbrev answered_as : CapReply → Outcome
+    abbrev answered_as : Result Grant Refusal → Outcome
     answered_as x = grant_queued m c.timeslot c.kind c.number given x
 
     abbrev no : ℕ → Outcome
@@ -154,7 +155,7 @@ module _ (m : Memory) (b : Model) (k : SoundMemory m) (a : Same m b) where
     searched : legal_timeslot c.timeslot ≡ true → ltb queued per_timeslot ≡ true
         → Agree Same (answered (answered_as given.reply)) (requested c (model_verdict b.uplink (request_of c)) b)
     searched legal fits =
-        subst (λ (r : CapReply). Agree Same (answered (answered_as r)) (requested c (model_verdict b.uplink (request_of c)) b))
+        subst (λ (r : Result Grant Refusal). Agree Same (answered (answered_as r)) (requested c (model_verdict b.uplink (request_of c)) b))
         (sym (answer-reply _ _ up (request_of c) (model_verdict b.uplink (request_of c)) refl)) (answered-agrees legal fits _ refl)
 
     -- its own questions decide, and the model counts what the station counts

@@ -1,4 +1,5 @@
 -- The calls that only read: refused for their time only, and else they answer what the entry of that time holds. Assumes nothing.
+use Rattle.std.proofs.Common.{Option, Some, None}
 use mathlib.Core.Path.{◌≡◌, refl, ap, ◌∙◌}
 use mathlib.Core.Bool.{Bool, true, false, ◌&&◌, cond}
 use Prim.Native.Nat.{ℕ, ◌/◌, ◌%◌}
@@ -6,8 +7,6 @@ use native.Mathlib.Omega.{arith}
 use Rattle.tdma_time.specs.declared.TdmaTime.{TdmaTime}
 use Rattle.tdma_time.specs.Time.{Valid, valid, time_of, slot_of, clock}
 use Rattle.tdma_time.proofs.TimeLaws.{slot_of-time_of, valid-true, cell_parts, clock-cell}
-use Rattle.optional.specs.declared.OptU8.{OptU8}
-use Rattle.optional.specs.declared.OptU32.{OptU32}
 use Rattle.uplink.specs.declared.Entry.{Entry}
 use Rattle.uplink.specs.declared.PhyBlockNum.{PhyBlockNum}
 use Rattle.uplink.specs.HalfSlot.{vacant}
@@ -26,10 +25,10 @@ use Rattle.history.proofs.Steps.{Agree}
 used-done : (e : Entry) → number_only (used_as e) ≡ done
 used-done e = go (vacant e.ul1 && vacant e.ul2) e.usage_marker
   where
-    go : (a : Bool) (m : OptU8) → number_only (cond a (used 0 OptU8.Absent) (used_unless_marked m (cond (vacant e.ul2) 1 2))) ≡ done
+    go : (a : Bool) (m : Option ℕ) → number_only (cond a (used 0 None) (used_unless_marked m (cond (vacant e.ul2) 1 2))) ≡ done
     go true m = refl
-    go false OptU8.Absent = refl
-    go false (OptU8.Of m) = refl
+    go false None = refl
+    go false (Some m) = refl
 
 -- ---- refused for their time only
 
@@ -38,7 +37,7 @@ pub read-agrees : {S : Type 0} (R : Memory → S → Type 0) (q : Query) (m : Me
 unfolding memory_step owner_call usage_call ask unless_refused
 read-agrees R (owner x half) m s h e = rw e (go _ (valid x))
   where
-    go : (o : OptU32) (b : Bool) → Agree R (stepped m (number_only (cond b (owned o) (refused 1)))) (cond b (stepped s done) (stepped s (refused 1)))
+    go : (o : Option ℕ) (b : Bool) → Agree R (stepped m (number_only (cond b (owned o) (refused 1)))) (cond b (stepped s done) (stepped s (refused 1)))
     go o true = record { after = h; reply = refl }
     go o false = record { after = h; reply = refl }
 read-agrees R (usage x) m s h e = rw e (go (valid x))

@@ -1,4 +1,6 @@
 -- What a request reserves was free, stands in the 68 slots from now on, and is then held under its number (`reserved-is`). Assumes nothing.
+use Rattle.std.proofs.lemmas.Bool.{and_parts}
+use Rattle.std.proofs.Common.{Option, Some, None}
 use mathlib.Core.Path.{◌≡◌, refl, ap, ◌∙◌}
 use mathlib.Core.Bool.{Bool, true, false, ◌||◌, not, cond}
 use mathlib.Core.List.{List, [], ◌∷◌, Memᴰ}
@@ -8,8 +10,6 @@ use lib.ListN.{length, get_or}
 use borrow.Author.Tests.{eqb-true}
 use Rattle.lists.proofs.Every.{All, all-at, all_append, all-weaken}
 use Rattle.questions.proofs.AskLaws.{ask-elim, ask-both}
-use Rattle.optional.specs.declared.OptU32.{OptU32}
-use Rattle.optional.proofs.Tests.{and_left, and_right}
 use Rattle.tdma_time.specs.Time.{clock}
 use Rattle.slot_codes.specs.Codes.{slots_wanted, wants_half}
 use Rattle.slot_codes.proofs.CodesLaws.{capacity-of-half}
@@ -36,9 +36,9 @@ halves-all P hs (c ∷ cs) k = all_append P (halves_at hs c) (halves_of_slots hs
     go [] = tt
     go (h ∷ hs) = (k.0 h, go hs)
 
-vacant-absent : (o : OptU32) → vacant o ≡ true → o ≡ OptU32.Absent
-vacant-absent OptU32.Absent h = refl
-vacant-absent (OptU32.Of w) h = not-both false h refl
+vacant-absent : (o : Option ℕ) → vacant o ≡ true → o ≡ None
+vacant-absent None h = refl
+vacant-absent (Some w) h = not-both false h refl
 
 -- y is a half of a slot near n
 abbrev pub NearBy : ℕ → HalfSlot → Type 0
@@ -72,8 +72,8 @@ free-whole : (xs : List Taken) (cs : List ℕ) (hs : List Half) → All (λ c. s
 free-whole xs cs hs f = halves-all (Free xs) hs cs (all-weaken _ _ go cs f)
   where
     go : (c : ℕ) → slot_fits false (model_view xs) c ≡ true → (h : Half) → Free xs (record { time = clock c; half = h })
-    go c e first_half = vacant-absent _ (and_left _ _ e)
-    go c e second_half = vacant-absent _ (and_right (vacant (model_view xs c first_half)) _ e)
+    go c e first_half = vacant-absent _ (and_parts _ _ e).0
+    go c e second_half = vacant-absent _ (and_parts (vacant (model_view xs c first_half)) _ e).1
 
 grant-free : (xs : List Taken) (n : ℕ) (r : Request) (g : Run) → Granted (model_view xs) n r g → All (Free xs) (reserved_by (model_view xs) r.code (grant g))
 unfolding reserved_by capacity
@@ -135,15 +135,15 @@ module _ (a : CapacityRequest) (m : Model) where
   reserved-free = reserved-all (Free m.uplink.taken) (grant-free m.uplink.taken m.uplink.now (request_of a))
 
   -- what is held stays held
-  pub request-stays : (t : ℕ) (h : Half) (w : ℕ) → taken_by m.uplink.taken t h ≡ OptU32.Of w
-      → taken_by (model_step (request a) m).after.uplink.taken t h ≡ OptU32.Of w
+  pub request-stays : (t : ℕ) (h : Half) (w : ℕ) → taken_by m.uplink.taken t h ≡ Some w
+      → taken_by (model_step (request a) m).after.uplink.taken t h ≡ Some w
   request-stays t h w o = rw (request-taken a m) (takes-stays _ a.number _ m.uplink.taken t h w reserved-free o)
 
 -- what it reserves, and how it stands in the model after it
 pub record ReservedInModel (a : CapacityRequest) (m : Model) (y : HalfSlot) : Type 0 where
   pub place : NearBy m.uplink.now y
   pub free : Free m.uplink.taken y
-  pub held : taken_by (model_step (request a) m).after.uplink.taken y.time y.half ≡ OptU32.Of a.number
+  pub held : taken_by (model_step (request a) m).after.uplink.taken y.time y.half ≡ Some a.number
 
 pub reserved-is : (a : CapacityRequest) (m : Model) (y : HalfSlot) → Memᴰ y (reserved a m) → ReservedInModel a m y
 reserved-is a m y k =

@@ -1,11 +1,11 @@
 -- The reference model over a list of calls: its time, and what stays held until its slot is left (`keeps`). Assumes nothing.
+use Rattle.std.proofs.Common.{Some}
 use mathlib.Core.Path.{◌≡◌, refl, ap, ◌∙◌}
 use mathlib.Core.Logic.{◌≢◌}
 use mathlib.Core.Bool.{Bool, true, false, cond}
 use mathlib.Core.List.{List, [], ◌∷◌}
 use Prim.Native.Nat.{ℕ, ◌+◌, ◌-◌, ◌≤◌, ◌<◌}
 use native.Mathlib.Omega.{arith}
-use Rattle.optional.specs.declared.OptU32.{OptU32}
 use Rattle.tdma_time.specs.Time.{cycle, clock}
 use Rattle.uplink.specs.HalfSlot.{Half}
 use Rattle.sched_core.specs.Replies.{no_block}
@@ -58,12 +58,12 @@ module _ (m : Model) (v : m.uplink.now < cycle) where
   step-below c = rw (step-now c) (omega arith)
 
   -- what is held in a slot k after now stays held by a call that advances at most k
-  step_keeps : (c : Call) (k : ℕ) → slots_in c ≤ k → k < cycle → (h : Half) (w : ℕ) → model_view m.uplink.taken (m.uplink.now + k) h ≡ OptU32.Of w
-      → model_view (model_step c m).after.uplink.taken (m.uplink.now + k) h ≡ OptU32.Of w
+  step_keeps : (c : Call) (k : ℕ) → slots_in c ≤ k → k < cycle → (h : Half) (w : ℕ) → model_view m.uplink.taken (m.uplink.now + k) h ≡ Some w
+      → model_view (model_step c m).after.uplink.taken (m.uplink.now + k) h ≡ Some w
   unfolding model_step advanced_uplink_model
   step_keeps c k l g h w e = go (touch m c) l
     where
-      go : {c : Call} → Touch m c → slots_in c ≤ k → model_view (model_step c m).after.uplink.taken (m.uplink.now + k) h ≡ OptU32.Of w
+      go : {c : Call} → Touch m c → slots_in c ≤ k → model_view (model_step c m).after.uplink.taken (m.uplink.now + k) h ≡ Some w
       go advances l =
           let elsewhere : clock (m.uplink.now + k) ≢ m.uplink.now = omega arith in
           freed-other m.uplink.taken m.uplink.now _ h elsewhere ∙ e
@@ -82,14 +82,14 @@ run-now (c ∷ cs) m v =
 
 -- what is held in a slot k after now stays held while the calls advance at most k
 pub keeps : (cs : List Call) (m : Model) → m.uplink.now < cycle → (k : ℕ) → slots_advanced cs ≤ k → k < cycle → (h : Half) (w : ℕ)
-    → model_view m.uplink.taken (m.uplink.now + k) h ≡ OptU32.Of w
-    → model_view (run model_step cs m).uplink.taken (m.uplink.now + k) h ≡ OptU32.Of w
+    → model_view m.uplink.taken (m.uplink.now + k) h ≡ Some w
+    → model_view (run model_step cs m).uplink.taken (m.uplink.now + k) h ≡ Some w
 unfolding run slots_advanced
 keeps [] m v k l g h w e = e
 keeps (c ∷ cs) m v k l g h w e =
     let next : Model = (model_step c m).after in
     let shift : clock (next.uplink.now + (k - slots_in c)) ≡ clock (m.uplink.now + k) = rw (step-now m v c) (omega arith) in
-    let held : taken_by next.uplink.taken (clock (m.uplink.now + k)) h ≡ OptU32.Of w = step_keeps m v c k (omega arith) g h w e in
+    let held : taken_by next.uplink.taken (clock (m.uplink.now + k)) h ≡ Some w = step_keeps m v c k (omega arith) g h w e in
     rw shift at (keeps cs next (step-below m v c) (k - slots_in c) (omega arith) (omega arith) h w (rw shift held))
 
 pub within : (k : ℕ) → k < slots_agreed → k < cycle

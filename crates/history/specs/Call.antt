@@ -1,7 +1,6 @@
 -- The calls of a history with their arguments, and what a call comes to. Assumes nothing.
-use Rattle.std.specs.Prelude.{List, [], ◌∷◌, ℕ}
+use Rattle.std.specs.Prelude.{List, [], ◌∷◌, ℕ, Option}
 use Rattle.questions.specs.Questions.{Question, ask}
-use Rattle.optional.specs.declared.OptU16.{OptU16}
 use Rattle.tdma_time.specs.declared.TdmaTime.{TdmaTime}
 use Rattle.uplink.specs.declared.PhyBlockNum.{PhyBlockNum}
 use Rattle.uplink.specs.Request.{Request}
@@ -32,7 +31,7 @@ pub record RecordOffer : Type 0 where
   pub timeslot : ℕ
   pub kind : ℕ
   pub number : ℕ
-  pub tag : OptU16
+  pub tag : Option ℕ
   pub header : QueuedHeader
   pub bits : ℕ
   pub octets : List ℕ

@@ -2,12 +2,9 @@
 --
 -- cs is any list of calls on a new station at time x. A call of the history is a way to cut the list, `before ++ c ∷ since`; the reference
 -- model as the call met it is `model_at x before`.
-use Rattle.std.specs.Prelude.{◌≡◌, ◌↔◌, ◌⊎◌, true, false, ℕ, ◌+◌, ◌*◌, ◌≤◌, ◌<◌, length, get_or}
-use Rattle.std.proofs.Math.Option.{none, some}
+use Rattle.std.specs.Prelude.{◌≡◌, ◌↔◌, ◌⊎◌, true, false, ℕ, ◌+◌, ◌*◌, ◌≤◌, ◌<◌, length, get_or, Option, Some, None}
 use mathlib.Core.List.{List, [], ◌∷◌, ◌++◌, map, Memᴰ}
 use Rattle.sizes.specs.Sizes.{timeslots, per_timeslot, frames_searched, block_octets}
-use Rattle.optional.specs.declared.OptU8.{OptU8}
-use Rattle.optional.specs.declared.OptU32.{OptU32}
 use Rattle.tdma_time.specs.declared.TdmaTime.{TdmaTime}
 use Rattle.tdma_time.specs.Time.{Valid, cycle, slot_of, time_of, clock, first_usable, timeslot}
 use Rattle.slot_codes.specs.Codes.{grant_octet, capacity_of, delay_of}
@@ -58,7 +55,7 @@ slots_agreed = timeslots * frames_searched
 pub record GrantRead (octets : List ℕ) (i : ℕ) (h : ResourceHeader) (octet : ℕ) : Type 0 where
   pub listed : i < (read_block block_octets octets).count
   pub header : (get_or (read_block block_octets octets).headers i no_header).header ≡ PduHeader.Resource h
-  pub grant : h.slot_granting_element ≡ OptU8.Of octet
+  pub grant : h.slot_granting_element ≡ Some octet
 
 -- The granted request of a history that a grant is named after: the name is the request's place, the octet is that of its grant, and timeslot and
 -- address number are the request's.
@@ -72,7 +69,7 @@ pub record Origin (x : TdmaTime) (cs : List Call) (t number octet name : ℕ) : 
   pub its-number : asker.number ≡ number
   pub capacity : ℕ
   pub delay : ℕ
-  pub marker : OptU8
+  pub marker : Option ℕ
   pub reply : (model_step (request asker) (model_at x before)).reply ≡ granted capacity delay marker
   pub its-octet : grant_octet capacity delay ≡ octet
 
@@ -124,23 +121,23 @@ pub record Demand3 (x : TdmaTime) (cs : List Call) : Type 0 where
   -- request of this name
   pub stands : (before since : List Call) (b : List ℕ) → cs ≡ before ++ build b ∷ since → (octets tags : List ℕ)
       → (memory_step (build b) (memory_at x before)).reply ≡ block octets tags
-      → (i name : ℕ) → get_or (names_built (model_at x before)) i none ≡ some name
+      → (i name : ℕ) → get_or (names_built (model_at x before)) i None ≡ Some name
       → (h : ResourceHeader) × (octet : ℕ) × GrantRead octets i h octet × ItsGrant x before h octet name
   -- and the other way: each grant that is read in a built block is named after a granted request, and is that request's grant; what was reserved for
   -- the request is what a mobile station derives from the grant, read at the block's slot, exactly when the two first usable slots are one
   pub derived : (before since : List Call) (b : List ℕ) → cs ≡ before ++ build b ∷ since → (octets tags : List ℕ)
       → (memory_step (build b) (memory_at x before)).reply ≡ block octets tags
       → (i : ℕ) (h : ResourceHeader) (octet : ℕ) → GrantRead octets i h octet
-      → (name : ℕ) × (get_or (names_built (model_at x before)) i none ≡ some name) × ItsGrant x before h octet name
+      → (name : ℕ) × (get_or (names_built (model_at x before)) i None ≡ Some name) × ItsGrant x before h octet name
   -- no grant gets lost: one that is queued and in no header yet is written by the build, in the header of its name, or it stays queued, unless a grant
   -- behind it replaces it
   pub kept : (before since : List Call) (b : List ℕ) → cs ≡ before ++ build b ∷ since → (octets tags : List ℕ)
       → (memory_step (build b) (memory_at x before)).reply ≡ block octets tags
       → (front back : List (Item NamedSdu)) (g : Item NamedSdu) (name : ℕ)
-      → queue_now (model_at x before) ≡ front ++ g ∷ back → pending g ≡ some name
+      → queue_now (model_at x before) ≡ front ++ g ∷ back → pending g ≡ Some name
       → ((y : Item NamedSdu) → Memᴰ y back → replaces y g ≡ false)
-      → Memᴰ (some name) (names_built (model_at x before))
-      ⊎ Memᴰ (some name) (map pending (queue_now (model_at x (before ++ build b ∷ []))))
+      → Memᴰ (Some name) (names_built (model_at x before))
+      ⊎ Memᴰ (Some name) (map pending (queue_now (model_at x (before ++ build b ∷ []))))
   -- two requests at most 65,535 hyperframes apart reserve no half-slot both
   pub disjoint : (before between since : List Call) (a a' : CapacityRequest) → cs ≡ before ++ request a ∷ between ++ request a' ∷ since
       → slots_advanced between ≤ farthest
@@ -152,7 +149,7 @@ pub record Demand3 (x : TdmaTime) (cs : List Call) : Type 0 where
   pub in-range : (model_at x cs).uplink.now < cycle
   -- in the 68 slots from now on the table has taken exactly the half-slots reserved and not passed, each under its request's number
   pub table : (k : ℕ) → k < slots_agreed → (h : Half) (w : ℕ)
-      → (table_view (memory_at x cs).station.uplink.rows (slot_of (memory_at x cs).station.uplink.time + k) h ≡ OptU32.Of w)
+      → (table_view (memory_at x cs).station.uplink.rows (slot_of (memory_at x cs).station.uplink.time + k) h ≡ Some w)
       ↔ Standing x cs (record { time = clock (slot_of (memory_at x cs).station.uplink.time + k); half = h }) w
   -- asked for a time in these 68 slots, owner call and usage call answer as the model has the slot's halves taken, with the marker that their request
   -- drew or none

@@ -1,6 +1,5 @@
 -- The reference model (document 01's book), whole: its uplink, and the queues with named grants. Assumes nothing.
-use Rattle.std.specs.Prelude.{Bool, true, ◌&&◌, cond, List, [], map, ℕ, suc, eqb, take}
-use Rattle.std.proofs.Math.Option.{Option, none, some}
+use Rattle.std.specs.Prelude.{Bool, true, ◌&&◌, cond, List, [], map, ℕ, suc, eqb, take, Option, Some, None}
 use Rattle.sizes.specs.Sizes.{block_width, block_octets}
 use Rattle.questions.specs.Questions.{Question, ask}
 use Rattle.bitbuffer.specs.Bits.{bits_of}
@@ -33,13 +32,13 @@ named_sdu c n = c.sdu
 
 -- what goes with a request's grant, with a record without SDU, and with one that has an SDU of n bits in these octets
 abbrev pub named : ℕ → NamedSdu
-named k = record { sdu = []; name = some k }
+named k = record { sdu = []; name = Some k }
 
 abbrev pub bare : NamedSdu
-bare = record { sdu = []; name = none }
+bare = record { sdu = []; name = None }
 
 abbrev pub of_sdu : ℕ → List ℕ → NamedSdu
-of_sdu n octets = record { sdu = take n (bits_of octets); name = none }
+of_sdu n octets = record { sdu = take n (bits_of octets); name = None }
 
 -- the uplink, the queues, and how many calls there were
 pub record Model : Type 0 where
@@ -127,13 +126,13 @@ pdus_built m = (named_built block_width (queue_now m)).pdus
 abbrev pub name_in : Option ℕ → Pdu → Option ℕ
 name_in name (whole r b) = name
 name_in name (first r b) = name
-name_in name (frag f b) = none
-name_in name (final e b) = none
-name_in name null = none
+name_in name (frag f b) = None
+name_in name (final e b) = None
+name_in name null = None
 
 -- "a grant keeps its name through merging into the header written": for each PDU of the turns the name of the grant in its header, or none
 abbrev pub names_in : ℕ → List (Turn NamedSdu) → List (Option ℕ)
-names_in room ts = read_off (λ t. map (name_in t.taken.load.name) t.next.pdus) (λ left. map (name_in none) (null_in left)) room ts
+names_in room ts = read_off (λ t. map (name_in t.taken.load.name) t.next.pdus) (λ left. map (name_in None) (null_in left)) room ts
 
 unfoldable pub names_built : Model → List (Option ℕ)
 names_built m = names_in block_width (turns named_sdu true block_width (in_order (merge_named [] (queue_now m))))
@@ -143,10 +142,10 @@ names_built m = names_in block_width (turns named_sdu true block_width (in_order
 -- the name of a grant that is queued, alone or in a record that waits, and in no header yet
 abbrev pub pending_as : Kind → Option ℕ → Option ℕ
 pending_as Kind.Grant name = name
-pending_as Kind.Ack name = none
-pending_as Kind.Record name = none
+pending_as Kind.Ack name = None
+pending_as Kind.Record name = None
 pending_as Kind.Waiting name = name
-pending_as Kind.Started name = none
+pending_as Kind.Started name = None
 
 abbrev pub pending : Item NamedSdu → Option ℕ
 pending y = pending_as y.rec.kind y.load.name

@@ -1,13 +1,12 @@
 -- Document 01, "Cases": all cases marked *, as rows of one table. Assumes nothing.
-use Rattle.std.specs.Prelude.{◌≡◌, true, List, [], ◌∷◌, ◌++◌, map, ℕ, ◌-◌, length, replicate}
+use Rattle.std.specs.Prelude.{◌≡◌, true, List, [], ◌∷◌, ◌++◌, map, ℕ, ◌-◌, length, replicate, None, Result, Ok, Err}
 use Prim.Native.String.{String}
 use Rattle.sizes.specs.Sizes.{timeslots, block_width}
-use Rattle.optional.specs.declared.OptU8.{OptU8}
-use Rattle.optional.specs.declared.OptU16.{OptU16}
+use Rattle.questions.specs.declared.Refusal.{Refusal}
 use Rattle.tdma_time.specs.declared.TdmaTime.{TdmaTime}
 use Rattle.tdma_time.specs.Time.{slot_of, frame, frames_on, next_time}
 use Rattle.uplink.specs.declared.CapAnswer.{CapAnswer}
-use Rattle.uplink.specs.declared.CapReply.{CapReply}
+use Rattle.uplink.specs.declared.Grant.{Grant}
 use Rattle.uplink.specs.declared.Uplink.{Uplink}
 use Rattle.uplink.specs.HalfSlot.{Half, first_half, second_half}
 use Rattle.uplink.specs.UplinkEntry.{Table, empty_table, table_view, reserve, marker_or_zero}
@@ -41,16 +40,15 @@ asking code = record { timeslot = 1; code = code; number = 1 }
 
 -- the table with halves of some slots taken by number 9
 abbrev pub taken_by9 : List Half → List ℕ → Table
-taken_by9 hs slots = reserve empty_table hs 9 OptU8.Absent slots
+taken_by9 hs slots = reserve empty_table hs 9 None slots
 
 abbrev pub both : List Half
 both = first_half ∷ second_half ∷ []
 
 -- "number (0 done); after a 0 only, [..] capacity, delay, marker or 0"
-abbrev pub shown : CapReply → List ℕ
-shown (CapReply.Granted cap delay m) = 0 ∷ cap ∷ delay ∷ marker_or_zero m ∷ []
-shown CapReply.NoRun = cap_number CapReply.NoRun ∷ []
-shown CapReply.TooLate = cap_number CapReply.TooLate ∷ []
+abbrev pub shown : Result Grant Refusal → List ℕ
+shown (Ok g) = 0 ∷ g.capacity ∷ g.delay ∷ marker_or_zero g.usage_marker ∷ []
+shown (Err r) = cap_number (Err r) ∷ []
 
 -- the frames of the slots granted
 abbrev pub frames_granted : Verdict → List ℕ
@@ -68,10 +66,9 @@ request_shown tb k f code =
     shown (answer (uplink_in f tb k) (asking code)).reply ++ frames_granted (verdict (table_view tb) (slot_of (in_frame f)) (asking code))
 
 -- the markers of two requests for two slots, one after the other, in frame 1 of an empty table
-abbrev pub marker_in : CapReply → ℕ
-marker_in (CapReply.Granted cap delay m) = marker_or_zero m
-marker_in CapReply.NoRun = 0
-marker_in CapReply.TooLate = 0
+abbrev pub marker_in : Result Grant Refusal → ℕ
+marker_in (Ok g) = marker_or_zero g.usage_marker
+marker_in (Err r) = 0
 
 unfoldable pub two_markers : ℕ → List ℕ
 two_markers k =
@@ -91,8 +88,8 @@ ssi_only bits =
       kind = Kind.Record;
       address_kind = 0;
       number = 1;
-      tag = OptU16.Absent;
-      header = grant_header 0 OptU8.Absent OptU8.Absent;
+      tag = None;
+      header = grant_header 0 None None;
       bits = bits;
       sent = 0;
     }

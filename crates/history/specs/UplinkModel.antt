@@ -1,8 +1,6 @@
 -- The reference model (document 01's book), its uplink: time, markers and what is taken, with no table. Assumes nothing.
-use Rattle.std.specs.Prelude.{Bool, true, false, ◌&&◌, cond, List, [], ◌∷◌, ℕ, ◌+◌, eqb, replicate}
+use Rattle.std.specs.Prelude.{Bool, true, false, ◌&&◌, cond, List, [], ◌∷◌, ℕ, ◌+◌, eqb, replicate, Option, Some, None}
 use Rattle.sizes.specs.Sizes.{timeslots}
-use Rattle.optional.specs.declared.OptU8.{OptU8}
-use Rattle.optional.specs.declared.OptU32.{OptU32}
 use Rattle.tdma_time.specs.declared.TdmaTime.{TdmaTime}
 use Rattle.tdma_time.specs.Time.{slot_of, clock}
 use Rattle.uplink.specs.declared.Entry.{Entry}
@@ -15,7 +13,7 @@ use Rattle.dl_merge.specs.Merge.{or_else}
 pub record Taken : Type 0 where
   pub what : HalfSlot
   pub who : ℕ
-  pub marker : OptU8
+  pub marker : Option ℕ
 
 -- now's slot, the timeslots' marker counters, and the half-slots taken
 pub record UplinkModel : Type 0 where
@@ -36,19 +34,19 @@ same_half second_half first_half = false
 same_half second_half second_half = true
 
 -- under which number a half of the slot of a time is taken
-unfoldable pub taken_by : List Taken → ℕ → Half → OptU32
-taken_by [] t h = OptU32.Absent
+unfoldable pub taken_by : List Taken → ℕ → Half → Option ℕ
+taken_by [] t h = None
 taken_by (x ∷ xs) t h =
-    let rest : OptU32 = taken_by xs t h in
-    cond (eqb x.what.time t && same_half x.what.half h) (OptU32.Of x.who) rest
+    let rest : Option ℕ = taken_by xs t h in
+    cond (eqb x.what.time t && same_half x.what.half h) (Some x.who) rest
 
 abbrev pub model_view : List Taken → View
 model_view xs c h = taken_by xs (clock c) h
 
 -- the marker with which a half of the slot of a time is taken, or none
-unfoldable pub marked_by : List Taken → ℕ → OptU8
-marked_by [] t = OptU8.Absent
-marked_by (x ∷ xs) t = let rest : OptU8 = marked_by xs t in cond (eqb x.what.time t) (or_else x.marker rest) rest
+unfoldable pub marked_by : List Taken → ℕ → Option ℕ
+marked_by [] t = None
+marked_by (x ∷ xs) t = let rest : Option ℕ = marked_by xs t in cond (eqb x.what.time t) (or_else x.marker rest) rest
 
 -- the entry of slot c in which what is taken stands
 abbrev pub model_entry : List Taken → ℕ → Entry
@@ -60,7 +58,7 @@ freed [] t = []
 freed (x ∷ xs) t = let rest : List Taken = freed xs t in cond (eqb x.what.time t) rest (x ∷ rest)
 
 -- "stand as taken under its address number"
-unfoldable pub take_halves : List HalfSlot → ℕ → OptU8 → List Taken → List Taken
+unfoldable pub take_halves : List HalfSlot → ℕ → Option ℕ → List Taken → List Taken
 take_halves [] who marker xs = xs
 take_halves (y ∷ ys) who marker xs = take_halves ys who marker (record { what = y; who = who; marker = marker } ∷ xs)
 

@@ -12,12 +12,14 @@ use Rattle.history.specs.Call.{Call, advance, request, enqueue_record, build, ru
 use Rattle.history.specs.Memory.{memory_step, memory_at}
 use Rattle.history.proofs.Steps.{run_more}
 use Rattle.history.proofs.Demand3.{demand3}
-use Rattle.interpreter.specs.declared.Command.{Command}
+use Rattle.std.proofs.Common.{Option, None, Some}
+use Rattle.interpreter.specs.declared.command.Command.{Command}
+use Rattle.interpreter.specs.declared.session.Session.{Session}
 use Rattle.interpreter.specs.Text.{line}
-use Rattle.interpreter.specs.Slotrun.{Session, first_time, start, command_of, time_given}
+use Rattle.interpreter.specs.Slotrun.{memory_of, first_time, start, first_command, time_given}
 use Rattle.interpreter.specs.Slotrun.{new_step, advance_step, request_step, queue_step, build_step}
-use Rattle.interpreter.specs.Slotrun.{Step, step, is_whole, first_step, behind_first, Ran, ran, commands}
-use Rattle.history_slotrun.specs.Events.{Event, begins, calls, event_of, first_event, stage_after, events, History, history_after}
+use Rattle.interpreter.specs.Slotrun.{Step, step, is_whole, step_found, first_step, behind_first, Ran, ran, commands}
+use Rattle.history_slotrun.specs.Events.{Event, begins, calls, event_of, event_found, first_event, stage_after, events, History, history_after}
 use Rattle.history_slotrun.specs.Events.{first_history, history_of, letter_of, fields_of, line_of, text_of}
 use Rattle.history_slotrun.specs.SlotrunHistory.{SlotrunHistory}
 
@@ -26,7 +28,7 @@ use Rattle.history_slotrun.specs.SlotrunHistory.{SlotrunHistory}
 -- the session has the memory of the history
 pub record Stands (s : Session) (h : History) : Type 0 where
   pub valid : Valid h.begun
-  pub memory : s.memory ≡ memory_at h.begun h.calls
+  pub memory : memory_of s ≡ memory_at h.begun h.calls
 
 -- a command's step: what it leaves and prints is what the history says
 pub record StepStands (x : Step) (h : History) (before : List ℕ) (e : Event) : Type 0 where
@@ -36,8 +38,8 @@ pub record StepStands (x : Step) (h : History) (before : List ℕ) (e : Event) :
 
 module _ (s : Session) (h : History) (k : Stands s h) where
   -- a call goes behind the others, and prints what the history answers
-  call-stands : (c : Call) (x : Step) → x.session.memory ≡ (memory_step c s.memory).after → x.session.stage ≡ s.stage
-      → x.line ≡ line (letter_of c) (fields_of c (memory_step c s.memory).reply) → StepStands x h s.stage (calls c)
+  call-stands : (c : Call) (x : Step) → memory_of x.session ≡ (memory_step c (memory_of s)).after → x.session.stage ≡ s.stage
+      → x.line ≡ line (letter_of c) (fields_of c (memory_step c (memory_of s)).reply) → StepStands x h s.stage (calls c)
   call-stands c x after stage printed =
       record {
         stands =
@@ -68,11 +70,13 @@ module _ (s : Session) (h : History) (k : Stands s h) where
   step-stands Command.Stage ops = record { stands = record { valid = k.valid; memory = k.memory }; stage = refl; line = refl }
   step-stands Command.Queue ops = call-stands (enqueue_record _) _ refl refl refl
   step-stands Command.Build ops = call-stands (build _) _ refl refl refl
-  step-stands Command.Unknown ops = record { stands = record { valid = k.valid; memory = k.memory }; stage = refl; line = refl }
+
+  found-stands : (f : Option (Command × List ℕ)) → StepStands (step_found s f) h s.stage (event_found s.stage f)
+  found-stands None = record { stands = k; stage = refl; line = refl }
+  found-stands (Some x) = step-stands x.0 x.1
 
   first-stands : (input : List ℕ) → StepStands (first_step s input) h s.stage (first_event s.stage input)
-  first-stands [] = record { stands = k; stage = refl; line = refl }
-  first-stands (c ∷ ops) = step-stands (command_of c) ops
+  first-stands input = found-stands (first_command input)
 
 -- ---- a run
 

@@ -1,16 +1,15 @@
 -- Document 01, "Cases": the commands that `slotrun` reads, as new stations and calls of histories. Assumes nothing.
-use Rattle.std.specs.Prelude.{cond, List, [], ◌∷◌, ◌++◌, ℕ, zero, suc, replicate}
+use Rattle.std.specs.Prelude.{cond, List, [], ◌∷◌, ◌++◌, ℕ, zero, suc, replicate, Option, None, Some}
 use Rattle.sizes.specs.Sizes.{block_octets}
-use Rattle.optional.specs.declared.OptU16.{OptU16}
 use Rattle.tdma_time.specs.declared.TdmaTime.{TdmaTime}
 use Rattle.tdma_time.specs.Time.{valid}
 use Rattle.dl_record.specs.Record.{empty_header}
 use Rattle.sched_core.specs.Replies.{Numbered, reply_number}
 use Rattle.history.specs.Call.{Call, advance, request, enqueue_ack, enqueue_record, build, read}
 use Rattle.history.specs.Memory.{memory_step, memory_at}
-use Rattle.interpreter.specs.declared.Command.{Command}
+use Rattle.interpreter.specs.declared.command.Command.{Command}
 use Rattle.interpreter.specs.Text.{number, line}
-use Rattle.interpreter.specs.Slotrun.{first_time, command_of, octet, two_octets, four_octets, time_given}
+use Rattle.interpreter.specs.Slotrun.{first_time, first_command, octet, two_octets, four_octets, time_given}
 use Rattle.interpreter.specs.Slotrun.{grant_fields, staged, stage_line, block_fields, is_whole, behind_first}
 
 -- ---- what is read
@@ -34,17 +33,19 @@ event_of stage Command.Queue ops =
       timeslot = octet ops 0;
       kind = octet ops 1;
       number = four_octets ops 2;
-      tag = OptU16.Of (two_octets ops 6);
+      tag = Some (two_octets ops 6);
       header = empty_header;
       bits = two_octets ops 8;
       octets = stage;
     }))
 event_of stage Command.Build ops = calls (build (replicate block_octets 0))
-event_of stage Command.Unknown ops = unknown
+
+abbrev pub event_found : List ℕ → Option (Command × List ℕ) → Event
+event_found stage None = unknown
+event_found stage (Some x) = event_of stage x.0 x.1
 
 abbrev pub first_event : List ℕ → List ℕ → Event
-first_event stage [] = unknown
-first_event stage (c ∷ ops) = event_of stage (command_of c) ops
+first_event stage input = event_found stage (first_command input)
 
 -- only a 53 alters the stage
 abbrev pub stage_after : List ℕ → Event → List ℕ

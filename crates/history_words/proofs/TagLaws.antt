@@ -9,7 +9,9 @@ use lib.Seq.{paste}
 use Rattle.lists.proofs.Every.{All, all_take, all_drop, all_append}
 use Rattle.sizes.specs.Sizes.{per_timeslot, cell_octets, block_width}
 use Rattle.uplink.specs.declared.CapAnswer.{CapAnswer}
-use Rattle.uplink.specs.declared.CapReply.{CapReply}
+use Rattle.std.proofs.Common.{Result, Ok, Err}
+use Rattle.uplink.specs.declared.Grant.{Grant}
+use Rattle.questions.specs.declared.Refusal.{Refusal}
 use Rattle.dl_record.specs.declared.Record.{Record}
 use Rattle.dl_record.specs.Record.{empty_record}
 use Rattle.dl_queue.specs.Queue.{Item, zero_cell, queue_of, records_of}
@@ -24,8 +26,9 @@ use Rattle.sched_core.specs.Questions.{Memory}
 use Rattle.sched_core.specs.Replies.{Numbered}
 use Rattle.sched_core.specs.Calls.{Outcome, BuildOutcome, current, builds_now, built_now, block_built, not_built, build_call, grant_queued, request_answered}
 use Rattle.sched_core.specs.Calls.{request_call, ack_call, tma_call, advance_memory}
-use Rattle.sched_words.specs.Words.{record_word_count, word_at, opt_u16, offered_from}
-use Rattle.sched_words.proofs.QueueRoundTrip.{Fits16, Tagged}
+use Rattle.sched_words.specs.Words.{record_word_count, word_at, opt_low, offered_from}
+use Rattle.sched_words.proofs.QueueRoundTrip.{Tagged}
+use Rattle.mac_pdus.specs.Within.{OptWithin}
 use Rattle.history.specs.Call as call
 use Rattle.history.specs.Call.{Call, run}
 use Rattle.history.specs.Memory.{memory_step}
@@ -83,11 +86,10 @@ module _ (m : Memory) (h : All Tagged m.records) where
           (records-tagged per_timeslot (built_now m).left built-tagged)
       go false = h
 
-  granted-tagged : (t kind n : ℕ) (a : CapAnswer) (r : CapReply) → All Tagged (grant_queued m t kind n a r).memory.records
+  granted-tagged : (t kind n : ℕ) (a : CapAnswer) (r : Result Grant Refusal) → All Tagged (grant_queued m t kind n a r).memory.records
   unfolding grant_queued
-  granted-tagged t kind n a CapReply.NoRun = h
-  granted-tagged t kind n a CapReply.TooLate = h
-  granted-tagged t kind n a (CapReply.Granted capacity delay marker) = all_set Tagged m.records _ _ tt h
+  granted-tagged t kind n a (Ok grant) = all_set Tagged m.records _ _ tt h
+  granted-tagged t kind n a (Err refusal) = h
 
   request-tagged : (t code kind n : ℕ) → All Tagged (request_call m t code kind n).memory.records
   unfolding request_call request_answered
@@ -104,7 +106,7 @@ abbrev pub TaggedCall : Call → Type 0
 TaggedCall call.advance = Unit
 TaggedCall (call.request a) = Unit
 TaggedCall (call.enqueue_ack o) = Unit
-TaggedCall (call.enqueue_record o) = Fits16 o.tag
+TaggedCall (call.enqueue_record o) = OptWithin 16 o.tag
 TaggedCall (call.build b) = Unit
 TaggedCall (call.read q) = Unit
 
@@ -131,11 +133,11 @@ empty-tagged (suc n) = (tt, empty-tagged n)
 
 -- ---- offers that are read from words
 
-word-tag : (w : ℕ) → Fits16 (opt_u16 w)
+word-tag : (w : ℕ) → OptWithin 16 (opt_low 65536 w)
 word-tag zero = tt
 word-tag (suc v) = omega arith
 
-offered-tagged : (rs : List ℕ) → Fits16 (offered_from rs).tag
+offered-tagged : (rs : List ℕ) → OptWithin 16 (offered_from rs).tag
 unfolding offered_from
 offered-tagged rs = word-tag (word_at rs 3)
 

@@ -1,22 +1,23 @@
 -- A stream that is cut anywhere comes to the same as the whole. Assumes nothing.
 use mathlib.Core.Path.{◌≡◌, refl, sym, ap, ◌∙◌}
-use mathlib.Core.Bool.{Bool, true, false}
-use mathlib.Core.List.{List, [], ◌∷◌, ◌++◌, append_assoc}
+use mathlib.Core.Bool.{Bool, false, cond}
+use mathlib.Core.List.{List, ◌++◌, append_assoc}
 use Prim.Native.Nat.{ℕ, zero, suc, ◌+◌, ◌≤◌, ◌<◌}
 use native.Mathlib.Omega.{arith}
-use lib.Dec.{leb}
 use lib.ListN.{length, drop, length-append, get_or-append}
 use lib.Seq.{drop-append-le}
-use borrow.Author.Tests.{leb-true, le-leb}
-use Rattle.optional.proofs.Tests.{and_left, and_right, and_intro}
+use borrow.Author.Tests.{le-leb}
+use Rattle.std.proofs.Common.{Option, Some, None, Result}
 use Rattle.bitbuffer.proofs.Chunks.{part_left}
 use Rattle.sched_core.specs.Questions.{Memory}
-use Rattle.interpreter.specs.declared.Command.{Command}
-use Rattle.interpreter.specs.Slotrun.{Session, Step, step, new_step, request_step, queue_step, staged, stage_line, time_given, octet, two_octets}
-use Rattle.interpreter.specs.Slotrun.{four_octets, stage_kept, command_of, is_known, operand_count, is_whole, first_step, behind_first, Ran, ran}
-use Rattle.interpreter.specs.Slotrun.{printed_before}
+use Rattle.interpreter.specs.declared.command.Command.{Command}
+use Rattle.interpreter.specs.declared.command.UnknownCommand.{UnknownCommand}
+use Rattle.interpreter.specs.declared.session.Session.{Session}
+use Rattle.interpreter.specs.Slotrun.{memory_of, Step, step, new_step, request_step, queue_step, staged, stage_line, time_given, octet, two_octets}
+use Rattle.interpreter.specs.Slotrun.{four_octets, stage_kept, operand_count, with_operands, first_command, is_found, is_whole, step_found, first_step}
+use Rattle.interpreter.specs.Slotrun.{behind_found, behind_first, Ran, ran, printed_before}
 use Rattle.interpreter.specs.Turns.{whole_commands, turn}
-use Rattle.interpreter.proofs.RunLaws.{stopped, nothing-whole, shorter, one-command}
+use Rattle.interpreter.proofs.RunLaws.{stopped, nothing-whole, shorter, found, one-command}
 
 -- ---- a step reads the operands of its command only
 
@@ -63,42 +64,38 @@ stage-line-cut ops b h = rw (octet-cut ops b 0 (omega arith))
 
 step_cut : (s : Session) (c : Command) (ops b : List ℕ) → operand_count c ≤ length ops → step s c (ops ++ b) ≡ step s c ops
 unfolding step
-step_cut s Command.New ops b h = ap (stage_kept s) (new-cut s.memory ops b h)
+step_cut s Command.New ops b h = ap (stage_kept s) (new-cut (memory_of s) ops b h)
 step_cut s Command.Advance ops b h = refl
-step_cut s Command.Request ops b h = ap (stage_kept s) (request-cut s.memory ops b h)
+step_cut s Command.Request ops b h = ap (stage_kept s) (request-cut (memory_of s) ops b h)
 step_cut s Command.Stage ops b h = rw (staged-cut s.stage ops b h, stage-line-cut ops b h)
-step_cut s Command.Queue ops b h = ap (stage_kept s) (queue-cut s.memory s.stage ops b h)
+step_cut s Command.Queue ops b h = ap (stage_kept s) (queue-cut (memory_of s) s.stage ops b h)
 step_cut s Command.Build ops b h = refl
-step_cut s Command.Unknown ops b h = refl
 
 -- ---- octets behind a whole command
 
-fits : (c : ℕ) (ops : List ℕ) → is_whole (c ∷ ops) ≡ true → operand_count (command_of c) ≤ length ops
-fits c ops h = leb-true _ _ (and_right (is_known (command_of c)) _ h)
-
-whole-cut : (c : ℕ) (ops b : List ℕ) → is_whole (c ∷ ops) ≡ true → is_whole (c ∷ ops ++ b) ≡ true
-whole-cut c ops b h =
-    let m = operand_count (command_of c) in
-    and_intro (is_known (command_of c)) (leb m (length (ops ++ b))) (and_left (is_known (command_of c)) (leb m (length ops)) h)
-    (le-leb m (length (ops ++ b)) (omega (arith, fits c ops h, length-append ops b)))
+first-cut : (a b : List ℕ) (x : Command × List ℕ) → first_command a ≡ Some x → first_command (a ++ b) ≡ Some (x.0, x.1 ++ b)
+first-cut a b x h =
+    let f = found a x h in
+    let m = operand_count x.0 in
+    ap (λ (l : List ℕ). first_command (l ++ b)) f.whole ∙ ap (λ (r : Result Command UnknownCommand). with_operands r (x.1 ++ b)) f.command
+    ∙ ap (λ (t : Bool). cond t (Some (x.0, x.1 ++ b)) None) (le-leb m (length (x.1 ++ b)) (omega (arith, f.fits, length-append x.1 b)))
 
 -- ---- command by command
 
--- the session after the first command, and the octets behind it
-abbrev behind : (Session → List ℕ → Type 0) → Session → ℕ → List ℕ → Type 0
-behind P s c ops = P (step s (command_of c) ops).session (drop (operand_count (command_of c)) ops)
+-- the session after a command, and the octets behind it
+abbrev behind : (Session → List ℕ → Type 0) → Session → Command × List ℕ → Type 0
+behind P s x = P (step s x.0 x.1).session (drop (operand_count x.0) x.1)
 
 -- what holds where no whole command begins, and before a whole command where it holds behind it, holds of all octets
 module _ (P : Session → List ℕ → Type 0) (at_rest : (s : Session) (a : List ℕ) → is_whole a ≡ false → P s a)
-    (before : (s : Session) (c : ℕ) (ops : List ℕ) → is_whole (c ∷ ops) ≡ true → behind P s c ops → P s (c ∷ ops)) where
-  tested : (t : Bool) (s : Session) (a : List ℕ) → is_whole a ≡ t → P (first_step s a).session (behind_first a) → P s a
-  tested true s [] w p = at_rest s [] refl
-  tested true s (c ∷ ops) w p = before s c ops w p
-  tested false s a w p = at_rest s a w
+    (before : (s : Session) (a : List ℕ) (x : Command × List ℕ) → first_command a ≡ Some x → behind P s x → P s a) where
+  tested : (f : Option (Command × List ℕ)) (s : Session) (a : List ℕ) → first_command a ≡ f → P (step_found s f).session (behind_found f) → P s a
+  tested None s a e p = at_rest s a (ap is_found e)
+  tested (Some x) s a e p = before s a x e p
 
   up_to : (n : ℕ) (s : Session) (a : List ℕ) → length a ≤ n → P s a
   up_to zero s a h = at_rest s a (nothing-whole a h)
-  up_to (suc n) s a h = tested (is_whole a) s a refl (up_to n (first_step s a).session (behind_first a) (shorter a n h))
+  up_to (suc n) s a h = tested (first_command a) s a refl (up_to n (first_step s a).session (behind_first a) (shorter a n h))
 
   by-commands : (s : Session) (a : List ℕ) → P s a
   by-commands s a = up_to (length a) s a (omega arith)
@@ -112,7 +109,7 @@ LeftCut s a = is_whole (whole_commands s a).left ≡ false
 pub left_cut : (s : Session) (a : List ℕ) → LeftCut s a
 left_cut =
     by-commands LeftCut (λ s a w. ap (λ (r : Ran). is_whole r.left) (stopped (length a) s a w) ∙ w)
-    (λ s c ops w h. ap (λ (r : Ran). is_whole r.left) (one-command s c ops w) ∙ h)
+    (λ s a x e h. ap (λ (r : Ran). is_whole r.left) (one-command s a x e) ∙ h)
 
 -- a, and then b behind what is left of a, come to the same as the whole: the session, what is printed and what is left
 abbrev Cut : List ℕ → Session → List ℕ → Type 0
@@ -121,18 +118,19 @@ Cut b s a = whole_commands s (a ++ b) ≡ turn (whole_commands s a) b
 cut-rest : (b : List ℕ) (s : Session) (a : List ℕ) → is_whole a ≡ false → Cut b s a
 cut-rest b s a w = ap (λ (r : Ran). turn r b) (sym (stopped (length a) s a w))
 
-cut-before : (b : List ℕ) (s : Session) (c : ℕ) (ops : List ℕ) → is_whole (c ∷ ops) ≡ true → behind (Cut b) s c ops → Cut b s (c ∷ ops)
-cut-before b s c ops w h =
-    let m = operand_count (command_of c) in
-    let x = step s (command_of c) ops in
-    let r = whole_commands x.session (drop m ops) in
-    one-command s c (ops ++ b) (whole-cut c ops b w)
-    ∙ ap (λ (y : Step). printed_before y.line (whole_commands y.session (drop m (ops ++ b)))) (step_cut s (command_of c) ops b (fits c ops w))
-    ∙ ap (λ (l : List ℕ). printed_before x.line (whole_commands x.session l)) (drop-append-le m ops b (fits c ops w))
-    ∙ ap (printed_before x.line) h
+cut-before : (b : List ℕ) (s : Session) (a : List ℕ) (x : Command × List ℕ) → first_command a ≡ Some x → behind (Cut b) s x → Cut b s a
+cut-before b s a x e h =
+    let m = operand_count x.0 in
+    let fits = (found a x e).fits in
+    let y = step s x.0 x.1 in
+    let r = whole_commands y.session (drop m x.1) in
+    one-command s (a ++ b) (x.0, x.1 ++ b) (first-cut a b x e)
+    ∙ ap (λ (z : Step). printed_before z.line (whole_commands z.session (drop m (x.1 ++ b)))) (step_cut s x.0 x.1 b fits)
+    ∙ ap (λ (l : List ℕ). printed_before y.line (whole_commands y.session l)) (drop-append-le m x.1 b fits)
+    ∙ ap (printed_before y.line) h
     ∙ ap (λ (t : List ℕ). ran (turn r b).session t (turn r b).left)
-    (sym (append_assoc x.line r.printed (whole_commands r.session (r.left ++ b)).printed))
-    ∙ ap (λ (q : Ran). turn q b) (sym (one-command s c ops w))
+    (sym (append_assoc y.line r.printed (whole_commands r.session (r.left ++ b)).printed))
+    ∙ ap (λ (q : Ran). turn q b) (sym (one-command s a x e))
 
 pub cut-anywhere : (s : Session) (a b : List ℕ) → whole_commands s (a ++ b) ≡ turn (whole_commands s a) b
 cut-anywhere s a b = by-commands (Cut b) (cut-rest b) (cut-before b) s a

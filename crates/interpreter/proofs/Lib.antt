@@ -1,5 +1,4 @@
 pub mod TextLaws
-pub mod TagLaws
 pub mod StepLaws
 pub mod RunLaws
 pub mod CutLaws

@@ -1,15 +1,17 @@
 -- What `slotrun` prints depends on the octets of its input only, not on how the reads cut them. Assumes nothing.
 use mathlib.Core.Path.{◌≡◌, refl, sym, ap, ◌∙◌}
-use mathlib.Core.Bool.{Bool, true, false, not, ◌&&◌, cond, false≢true}
+use mathlib.Core.Bool.{Bool, true, false, cond, false≢true}
 use mathlib.Core.List.{List, [], ◌∷◌, ◌++◌, append_assoc, append-nil}
-use Prim.Native.Nat.{ℕ, ◌≤◌, ◌<◌}
+use Prim.Native.Nat.{ℕ, suc, ◌≤◌, ◌<◌}
 use native.Mathlib.Omega.{arith}
 use lib.Dec.{leb}
 use lib.ListN.{length}
 use borrow.Author.Tests.{leb-false}
-use Rattle.interpreter.specs.declared.Command.{Command}
-use Rattle.interpreter.specs.Slotrun.{operand_count, command_of, is_known, is_whole, Ran, ran, printed_before, ending, start, slotrun}
-use Rattle.interpreter.specs.Turns.{input_of, whole_commands, turn, turns, begun, is_unknown, at_end, reading_from, slotrun_in_parts}
+use Rattle.std.proofs.Common.{Some, None, Result, Ok, Err}
+use Rattle.interpreter.specs.declared.command.Command.{Command}
+use Rattle.interpreter.specs.declared.command.UnknownCommand.{UnknownCommand}
+use Rattle.interpreter.specs.Slotrun.{operand_count, command_of, with_operands, is_found, is_whole, Ran, ran, printed_before, ending, start, slotrun}
+use Rattle.interpreter.specs.Turns.{input_of, whole_commands, turn, turns, begun, is_none, is_unknown, at_end, reading_from, slotrun_in_parts}
 use Rattle.interpreter.proofs.RunLaws.{stopped}
 use Rattle.interpreter.proofs.CutLaws.{left_cut, cut-anywhere}
 
@@ -53,13 +55,13 @@ turns_next r (first ∷ parts) next = turns_next (turn r first) parts next
 
 -- ---- an unknown command
 
-not-and : (k t : Bool) → not k ≡ true → k && t ≡ false
-not-and true t h = absurd (false≢true h)
-not-and false t h = refl
-
 unknown-cut : (a b : List ℕ) → is_unknown a ≡ true → is_whole (a ++ b) ≡ false
 unknown-cut [] b u = absurd (false≢true u)
-unknown-cut (c ∷ ops) b u = not-and (is_known (command_of c)) _ u
+unknown-cut (c ∷ ops) b u = go (command_of c) u
+  where
+    go : (r : Result Command UnknownCommand) → is_none r ≡ true → is_found (with_operands r (ops ++ b)) ≡ false
+    go (Ok command) h = absurd (false≢true h)
+    go (Err e) h = refl
 
 unknown-stays : (a b : List ℕ) → is_unknown a ≡ true → is_unknown (a ++ b) ≡ true
 unknown-stays [] b u = absurd (false≢true u)
@@ -87,19 +89,22 @@ most-operands Command.Request = omega arith
 most-operands Command.Stage = omega arith
 most-operands Command.Queue = omega arith
 most-operands Command.Build = omega arith
-most-operands Command.Unknown = omega arith
-
-missing : (k t : Bool) → k && t ≡ false → not k ≡ false → t ≡ false
-missing true t w u = w
-missing false t w u = absurd (false≢true (sym u))
 
 -- what is left before it is at most 33 octets
 pub cut_short : (l : List ℕ) → is_whole l ≡ false → is_unknown l ≡ false → length l ≤ 33
 cut_short [] w u = omega arith
-cut_short (c ∷ ops) w u =
-    let m = operand_count (command_of c) in
-    let few : length ops < m = leb-false m (length ops) (missing (is_known (command_of c)) (leb m (length ops)) w u) in
-    omega (arith, few, most-operands (command_of c))
+cut_short (c ∷ ops) w u = go (command_of c) w u
+  where
+    missing : (command : Command) (t : Bool) → is_found (cond t (Some (command, ops)) None) ≡ false → t ≡ false
+    missing command true h = absurd (false≢true (sym h))
+    missing command false h = refl
+
+    go : (r : Result Command UnknownCommand) → is_found (with_operands r ops) ≡ false → is_none r ≡ false → suc (length ops) ≤ 33
+    go (Ok command) h k =
+        let m = operand_count command in
+        let few : length ops < m = leb-false m (length ops) (missing command (leb m (length ops)) h) in
+        omega (arith, few, most-operands command)
+    go (Err e) h k = absurd (false≢true (sym k))
 
 -- ---- the program
 

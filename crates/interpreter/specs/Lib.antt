@@ -1,4 +1,4 @@
 pub mod Text
 pub mod Slotrun
 pub mod Turns
-pub mod Steps
+pub mod Runs

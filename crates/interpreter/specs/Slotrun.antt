@@ -1,27 +1,28 @@
 -- Document 01, "Cases": the program `slotrun`, from the octets that it reads to the octets that it prints. Assumes nothing.
-use Rattle.std.specs.Prelude.{Bool, true, false, ◌&&◌, cond, List, [], ◌∷◌, ◌++◌, ℕ, zero, suc, ◌+◌, ◌*◌, eqb, leb, length, get_or, drop, replicate}
+use Rattle.std.specs.Prelude.{Bool, true, false, cond, List, [], ◌∷◌, ◌++◌, ℕ, zero, suc, ◌+◌, ◌*◌, eqb, leb, length, get_or, drop, replicate}
+use Rattle.std.specs.Prelude.{Option, None, Some, Result, Ok, Err}
 use Rattle.sizes.specs.Sizes.{block_octets}
-use Rattle.optional.specs.declared.OptU16.{OptU16}
 use Rattle.tdma_time.specs.declared.TdmaTime.{TdmaTime}
 use Rattle.uplink.specs.UplinkEntry.{marker_or_zero}
 use Rattle.bitbuffer.specs.Bits.{written, part}
 use Rattle.dl_record.specs.Record.{empty_header}
-use Rattle.sched_core.specs.Questions.{Memory}
+use Rattle.sched_core.specs.Questions.{Memory, memory}
 use Rattle.sched_core.specs.Replies.{Numbered, reply_number}
 use Rattle.sched_core.specs.Calls.{new_call, new_memory, advance_memory, request_call, tma_call, build_call}
 use Rattle.sched_core.specs.Invariant.{is_done}
-use Rattle.interpreter.specs.declared.Command.{Command}
+use Rattle.interpreter.specs.declared.command.Command.{Command}
+use Rattle.interpreter.specs.declared.command.UnknownCommand.{UnknownCommand}
+use Rattle.interpreter.specs.declared.session.Session.{Session}
 use Rattle.interpreter.specs.Text.{number, numbers, hex, line}
 
 -- ---- what the commands work on
 
 -- state, queue and store, and the staged SDU
-pub record Session : Type 0 where
-  pub memory : Memory
-  pub stage : List ℕ
+abbrev pub memory_of : Session → Memory
+memory_of s = memory s.station s.queue s.store
 
 abbrev pub session : Memory → List ℕ → Session
-session m stage = record { memory = m; stage = stage }
+session m stage = record { station = m.station; queue = m.records; store = m.store; stage = stage }
 
 -- "Until a first 54 is accepted the station is new at h 0, m 1, f 1, t 1"
 abbrev pub first_time : TdmaTime
@@ -37,20 +38,12 @@ start = session (new_memory first_time) (replicate stage_octets 0)
 -- ---- commands
 
 -- "commands of one octet": 54 (T), 41 (A), 52 (R), 53 (S), 51 (Q), 42 (B) hexadecimal
-unfoldable pub command_of : ℕ → Command
+unfoldable pub command_of : ℕ → Result Command UnknownCommand
 command_of c =
-    cond (eqb c 84) Command.New
-    (cond (eqb c 65) Command.Advance
-    (cond (eqb c 82) Command.Request (cond (eqb c 83) Command.Stage (cond (eqb c 81) Command.Queue (cond (eqb c 66) Command.Build Command.Unknown)))))
-
-abbrev pub is_known : Command → Bool
-is_known Command.New = true
-is_known Command.Advance = true
-is_known Command.Request = true
-is_known Command.Stage = true
-is_known Command.Queue = true
-is_known Command.Build = true
-is_known Command.Unknown = false
+    cond (eqb c 84) (Ok Command.New)
+    (cond (eqb c 65) (Ok Command.Advance)
+    (cond (eqb c 82) (Ok Command.Request)
+    (cond (eqb c 83) (Ok Command.Stage) (cond (eqb c 81) (Ok Command.Queue) (cond (eqb c 66) (Ok Command.Build) (Err (record { 0 = c })))))))
 
 -- "with fixed operands": "54 new (h 2, m, f, t), 41 advance, 52 request (timeslot, code, address kind, number 4), 53 stage (index 0–7,
 -- 32 octets), 51 queue a record (timeslot, address kind, number 4, tag 2, bits 2, ..), 42 build": how many octets
@@ -61,7 +54,16 @@ operand_count Command.Request = 7
 operand_count Command.Stage = 33
 operand_count Command.Queue = 10
 operand_count Command.Build = 0
-operand_count Command.Unknown = 0
+
+-- the command of an octet, where its operands are in the octets behind it
+abbrev pub with_operands : Result Command UnknownCommand → List ℕ → Option (Command × List ℕ)
+with_operands (Ok command) ops = cond (leb (operand_count command) (length ops)) (Some (command, ops)) None
+with_operands (Err e) ops = None
+
+-- the command at the front of the octets, if it is whole, and the octets behind its own
+abbrev pub first_command : List ℕ → Option (Command × List ℕ)
+first_command [] = None
+first_command (c ∷ ops) = with_operands (command_of c) ops
 
 -- "high octet first": the number of one, two or four octets at place i of the operands
 abbrev pub octet : List ℕ → ℕ → ℕ
@@ -122,7 +124,7 @@ stage_line ops = line 83 (number (cond (leb (octet ops 0) 7) 0 7))
 -- "51 queue a record (timeslot, address kind, number 4, tag 2, bits 2, taken from stage; no other header part)"
 unfoldable pub queue_step : Memory → List ℕ → List ℕ → Printed
 queue_step m stage ops =
-    let o = tma_call m (octet ops 0) (octet ops 1) (four_octets ops 2) (OptU16.Of (two_octets ops 6)) empty_header (two_octets ops 8) stage in
+    let o = tma_call m (octet ops 0) (octet ops 1) (four_octets ops 2) (Some (two_octets ops 6)) empty_header (two_octets ops 8) stage in
     prints (line 81 (number (reply_number o.reply))) o.memory
 
 -- "for B the block or -, then tags in decimal"
@@ -148,30 +150,42 @@ pub record Step : Type 0 where
 abbrev pub stage_kept : Session → Printed → Step
 stage_kept s o = record { session = session o.memory s.stage; line = o.line }
 
+-- as the code answers it
+abbrev pub stepped : Session → List ℕ → Step
+stepped s text = record { session = s; line = text }
+
 unfoldable pub step : Session → Command → List ℕ → Step
-step s Command.New ops = stage_kept s (new_step s.memory ops)
-step s Command.Advance ops = stage_kept s (advance_step s.memory)
-step s Command.Request ops = stage_kept s (request_step s.memory ops)
-step s Command.Stage ops = record { session = session s.memory (staged s.stage ops); line = stage_line ops }
-step s Command.Queue ops = stage_kept s (queue_step s.memory s.stage ops)
-step s Command.Build ops = stage_kept s (build_step s.memory)
-step s Command.Unknown ops = record { session = s; line = [] }
+step s Command.New ops = stage_kept s (new_step (memory_of s) ops)
+step s Command.Advance ops = stage_kept s (advance_step (memory_of s))
+step s Command.Request ops = stage_kept s (request_step (memory_of s) ops)
+step s Command.Stage ops = record { session = session (memory_of s) (staged s.stage ops); line = stage_line ops }
+step s Command.Queue ops = stage_kept s (queue_step (memory_of s) s.stage ops)
+step s Command.Build ops = stage_kept s (build_step (memory_of s))
 
 -- ---- a run
 
+abbrev pub is_found : Option (Command × List ℕ) → Bool
+is_found None = false
+is_found (Some x) = true
+
 -- do the octets begin with a whole command?
 abbrev pub is_whole : List ℕ → Bool
-is_whole [] = false
-is_whole (c ∷ ops) = is_known (command_of c) && leb (operand_count (command_of c)) (length ops)
+is_whole input = is_found (first_command input)
 
 -- the step of the first command, and the octets behind it
+abbrev pub step_found : Session → Option (Command × List ℕ) → Step
+step_found s None = record { session = s; line = [] }
+step_found s (Some x) = step s x.0 x.1
+
 abbrev pub first_step : Session → List ℕ → Step
-first_step s [] = record { session = s; line = [] }
-first_step s (c ∷ ops) = step s (command_of c) ops
+first_step s input = step_found s (first_command input)
+
+abbrev pub behind_found : Option (Command × List ℕ) → List ℕ
+behind_found None = []
+behind_found (Some x) = drop (operand_count x.0) x.1
 
 abbrev pub behind_first : List ℕ → List ℕ
-behind_first [] = []
-behind_first (c ∷ ops) = drop (operand_count (command_of c)) ops
+behind_first input = behind_found (first_command input)
 
 -- what a run has come to: the session, what it printed, and the octets from the first command on that is unknown or cut
 pub record Ran : Type 0 where

@@ -1,7 +1,10 @@
 -- Document 01, "Cases": the program `slotrun` as it reads: the input comes in parts, one with each read, and a part can end within a command.
 -- Assumes nothing.
-use Rattle.std.specs.Prelude.{Bool, false, not, cond, List, [], ◌∷◌, ◌++◌, ℕ, length}
-use Rattle.interpreter.specs.Slotrun.{Session, command_of, is_known, start, Ran, ran, printed_before, commands, ending}
+use Rattle.std.specs.Prelude.{Bool, true, false, cond, List, [], ◌∷◌, ◌++◌, ℕ, length, Result, Ok, Err}
+use Rattle.interpreter.specs.declared.command.Command.{Command}
+use Rattle.interpreter.specs.declared.command.UnknownCommand.{UnknownCommand}
+use Rattle.interpreter.specs.declared.session.Session.{Session}
+use Rattle.interpreter.specs.Slotrun.{command_of, start, Ran, ran, printed_before, commands, ending}
 
 -- the parts, one behind the other: the input
 unfoldable pub input_of : List (List ℕ) → List ℕ
@@ -25,10 +28,15 @@ turns r (next ∷ parts) = turns (turn r next) parts
 abbrev pub begun : Ran
 begun = ran start [] []
 
+-- is it no command?
+abbrev pub is_none : Result Command UnknownCommand → Bool
+is_none (Ok command) = false
+is_none (Err e) = true
+
 -- do the octets begin with a command that is unknown?
 abbrev pub is_unknown : List ℕ → Bool
 is_unknown [] = false
-is_unknown (c ∷ ops) = not (is_known (command_of c))
+is_unknown (c ∷ ops) = is_none (command_of c)
 
 -- "An unknown or cut command prints E and ends.": all that is printed where the program ends
 abbrev pub at_end : Ran → List ℕ

@@ -4,11 +4,8 @@ use mathlib.Core.List.Memᴰ
 use mathlib.Core.List.{List, [], ◌∷◌, ◌++◌, Memᴰ}
 use Prim.Native.Nat.{ℕ, zero, suc}
 use lib.ListN.{take, drop}
-
--- each element of a list has the property
-abbrev pub All {ℓ} : {A : Type ℓ} → (A → Type 0) → List A → Type 0
-All P [] = Unit {0}
-All P (x ∷ xs) = P x × All P xs
+-- each element of a list has the property, said down the list; std's `All` says it by index
+pub use Rattle.std.specs.List.{AllByRecursion as All}
 
 module _ {A : Type 0} (P : A → Type 0) where
   pub all_take : (n : ℕ) (xs : List A) → All P xs → All P (take n xs)

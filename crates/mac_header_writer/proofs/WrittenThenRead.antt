@@ -1,4 +1,5 @@
 -- WRITTEN, THEN READ: a header that the lone writer put at the front of a block is the first that the block reader lists. Assumes nothing.
+use Rattle.std.proofs.Common.{Ok}
 use mathlib.Core.Path.{◌≡◌, sym, ap, ◌∙◌}
 use mathlib.Core.Logic.{inl, inr}
 use mathlib.Core.List.{List, [], ◌∷◌}
@@ -18,7 +19,6 @@ use Rattle.mac_reader.specs.declared.PlacedHeader.{PlacedHeader}
 use Rattle.mac_reader.specs.Reader.{headers, block_pdus}
 use Rattle.mac_reader.specs.Stands.{BitsStand, HeaderStands, EndsInZeros}
 use Rattle.mac_reader.proofs.SingleHeader.{first-listed, only-listed}
-use Rattle.mac_writer.specs.declared.WriteReply.{WriteReply}
 use Rattle.mac_writer.specs.Writer.{WrittenAs}
 use Rattle.mac_writer.proofs.WriterLaws.{was-taken}
 
@@ -44,7 +44,7 @@ block-kept s t f size e =
     let kept : 8 * length t ≡ 8 * length s = sym (length-bits_of t) ∙ ap length e ∙ length-written (bits_of s) 0 f ∙ length-bits_of s in
     omega arith
 
-pub written-then-read : (s t : List ℕ) (h : MacResource) (next : ℕ) → length s ≡ block_octets → WrittenAs s 0 h (WriteReply.Next next) t
+pub written-then-read : (s t : List ℕ) (h : MacResource) (next : ℕ) → length s ≡ block_octets → WrittenAs s 0 h (Ok next) t
     → WrittenThenRead s t h
 unfolding header_bits on_air
 written-then-read s t h next size w =

@@ -5,36 +5,33 @@ ghost use Rattle.std.specs.Prelude.{◌≡◌, ◌≤◌};
 ghost use Rattle.mac_writer.specs.Writer.{room_for, WrittenAs};
 
 use mac_pdus::MacResource;
-use mac_writer::WriteReply;
 use questions::Refusal;
 
+// An address has 24 bits.
+const NUMBERS: u32 = 1 << 24;
+
 // Whether `n` bits from bit `at` on stand in that many octets.
+#[tactic(auto, unfolding(mac_writer::specs::Writer::room_for))]
 fn room_for(octets: usize, at: usize, n: usize) -> bool
-    requires { n ≤ 92 }
     ensures { result ≡ room_for octets at n }
 {
-    if at > 18446744073709551615 - n {
-        return false;
-    }
-    at / 8 + (at % 8 + n + 7) / 8 <= octets
+    at.checked_add(n)
+        .is_some_and(|end| end.div_ceil(8) <= octets)
 }
 
 // Writes the header from bit `at` on and answers the position after it, or refuses and alters nothing.
-pub fn write_header(buf: &mut [u8], at: usize, h: MacResource) -> WriteReply
+pub fn write_header(buf: &mut [u8], at: usize, h: MacResource) -> Result<usize, Refusal>
     ensures { WrittenAs buf.old at h result buf.new }
 {
-    let too_large = h.number >= 16777216;
-    if too_large {
-        return WriteReply::Refused(Refusal::Address);
+    if h.number >= NUMBERS {
+        return Err(Refusal::Address);
     }
     if !mac_legal::legal_to_write(h) {
-        return WriteReply::Refused(Refusal::Header);
+        return Err(Refusal::Header);
     }
     let r = mac_on_air::on_air(h);
-    let n = mac_pdus::compute_header_len(r);
-    if !room_for(buf.len(), at, n) {
-        return WriteReply::Refused(Refusal::NoRoom);
+    if !room_for(buf.len(), at, r.compute_header_len()) {
+        return Err(Refusal::NoRoom);
     }
-    let next = mac_resource_writer::put_resource(buf, at, r);
-    WriteReply::Next(next)
+    Ok(mac_resource_writer::put_resource(buf, at, r))
 }

@@ -2,79 +2,32 @@
 #![tactic(auto)]
 
 ghost use Rattle.std.specs.Prelude.{◌≡◌};
-ghost use Rattle.mac_pdus.specs.Legal.{absent_u8, absent_u16, absent_chan_alloc, opt_below, label_fits, has_address, legal_frame18, legal_chan_alloc, legal_opt_chan_alloc};
-ghost use Rattle.mac_pdus.specs.Legal.{within_widths, all_absent, legal_parts, legal_fields, parts_to_write, legal_to_write, queued_kind, legal_queued, legal_offered};
+ghost use Rattle.mac_pdus.specs.Legal.{opt_below, label_fits, legal_frame18, legal_chan_alloc, legal_opt_chan_alloc, within_widths, all_absent, legal_parts};
+ghost use Rattle.mac_pdus.specs.Legal.{legal_fields, parts_to_write, legal_to_write, queued_kind, legal_queued, legal_offered};
 
-use mac_pdus::{AddressKind, ChanAllocElement, MacResource, OptChanAlloc};
-use optional::{OptU8, OptU16};
-
-pub fn absent_u8(o: OptU8) -> bool
-    ensures { result ≡ absent_u8 o }
-{
-    match o {
-        OptU8::Absent => true,
-        OptU8::Of(_) => false,
-    }
-}
-
-pub fn absent_u16(o: OptU16) -> bool
-    ensures { result ≡ absent_u16 o }
-{
-    match o {
-        OptU16::Absent => true,
-        OptU16::Of(_) => false,
-    }
-}
-
-pub fn absent_chan_alloc(o: OptChanAlloc) -> bool
-    ensures { result ≡ absent_chan_alloc o }
-{
-    match o {
-        OptChanAlloc::Absent => true,
-        OptChanAlloc::Of(_) => false,
-    }
-}
+use mac_pdus::{AddressKind, ChanAllocElement, MacResource};
 
 // Whether an optional number is absent or below the limit.
-pub fn opt_below(limit: u16, o: OptU8) -> bool
-    ensures { result ≡ opt_below limit o }
+pub fn opt_below(limit: u16, number: Option<u8>) -> bool
+    ensures { result ≡ opt_below limit number }
 {
-    match o {
-        OptU8::Absent => true,
-        OptU8::Of(v) => (v as u16) < limit,
-    }
+    number.is_none_or(|v| (v as u16) < limit)
 }
 
 // Whether an event label is absent or of ten bits.
-fn label_fits(o: OptU16) -> bool
-    ensures { result ≡ label_fits o }
+fn label_fits(label: Option<u16>) -> bool
+    ensures { result ≡ label_fits label }
 {
-    match o {
-        OptU16::Absent => true,
-        OptU16::Of(e) => e < 1024,
-    }
-}
-
-fn has_address(k: AddressKind) -> bool
-    ensures { result ≡ has_address k }
-{
-    match k {
-        AddressKind::Absent => false,
-        AddressKind::Ssi => true,
-        AddressKind::Gssi => true,
-        AddressKind::Issi => true,
-        AddressKind::Ussi => true,
-        AddressKind::Smi => true,
-    }
+    label.is_none_or(|e| e < 1024)
 }
 
 // Whether the frame-18 pattern is present exactly if the pattern is 0.
-fn legal_frame18(pattern: u8, f: OptU8) -> bool
-    ensures { result ≡ legal_frame18 pattern f }
+fn legal_frame18(pattern: u8, frame18: Option<u8>) -> bool
+    ensures { result ≡ legal_frame18 pattern frame18 }
 {
-    match f {
-        OptU8::Absent => 0 < pattern,
-        OptU8::Of(x) => (pattern == 0) & (x < 4),
+    match frame18 {
+        None => 0 < pattern,
+        Some(f) => pattern == 0 && f < 4,
     }
 }
 
@@ -82,27 +35,23 @@ fn legal_frame18(pattern: u8, f: OptU8) -> bool
 fn legal_chan_alloc(c: ChanAllocElement) -> bool
     ensures { result ≡ legal_chan_alloc c }
 {
-    let f = c.frame18_mon_pattern;
-    (c.alloc_type < 4)
-        & (c.ts_assigned < 16)
-        & (c.ul_dl_assigned < 4)
-        & (0 < c.ul_dl_assigned)
-        & (c.clch_permission < 2)
-        & (c.cell_change_flag < 2)
-        & (c.carrier_num < 4096)
-        & (c.ext_carrier_num_flag == 0)
-        & (c.mon_pattern < 4)
-        & legal_frame18(c.mon_pattern, f)
+    c.alloc_type < 4
+        && c.ts_assigned < 16
+        && c.ul_dl_assigned < 4
+        && 0 < c.ul_dl_assigned
+        && c.clch_permission < 2
+        && c.cell_change_flag < 2
+        && c.carrier_num < 4096
+        && c.ext_carrier_num_flag == 0
+        && c.mon_pattern < 4
+        && legal_frame18(c.mon_pattern, c.frame18_mon_pattern)
 }
 
 // Whether a channel allocation is absent or legal.
-pub fn legal_opt_chan_alloc(o: OptChanAlloc) -> bool
-    ensures { result ≡ legal_opt_chan_alloc o }
+pub fn legal_opt_chan_alloc(alloc: Option<ChanAllocElement>) -> bool
+    ensures { result ≡ legal_opt_chan_alloc alloc }
 {
-    match o {
-        OptChanAlloc::Absent => true,
-        OptChanAlloc::Of(c) => legal_chan_alloc(c),
-    }
+    alloc.is_none_or(legal_chan_alloc)
 }
 
 // Whether every field but those of the channel allocation has its width.
@@ -110,20 +59,16 @@ pub fn legal_opt_chan_alloc(o: OptChanAlloc) -> bool
 fn within_widths(h: MacResource) -> bool
     ensures { result ≡ within_widths h }
 {
-    let label = h.event_label;
-    let marker = h.usage_marker;
-    let power = h.power_control_element;
-    let grant = h.slot_granting_element;
-    (h.fill_bits < 2)
-        & (h.pos_of_grant < 2)
-        & (h.encryption_mode < 4)
-        & (h.random_access_flag < 2)
-        & (h.length_ind < 64)
-        & (h.number < 16777216)
-        & label_fits(label)
-        & opt_below(64, marker)
-        & opt_below(16, power)
-        & opt_below(256, grant)
+    h.fill_bits < 2
+        && h.pos_of_grant < 2
+        && h.encryption_mode < 4
+        && h.random_access_flag < 2
+        && h.length_ind < 64
+        && h.number < 16777216
+        && label_fits(h.event_label)
+        && opt_below(64, h.usage_marker)
+        && opt_below(16, h.power_control_element)
+        && opt_below(256, h.slot_granting_element)
 }
 
 // Whether all but the address, the label, the marker and the length are 0 or absent.
@@ -131,16 +76,13 @@ fn within_widths(h: MacResource) -> bool
 fn all_absent(h: MacResource) -> bool
     ensures { result ≡ all_absent h }
 {
-    let power = h.power_control_element;
-    let grant = h.slot_granting_element;
-    let alloc = h.chan_alloc_element;
-    (h.fill_bits == 0)
-        & (h.pos_of_grant == 0)
-        & (h.encryption_mode == 0)
-        & (h.random_access_flag == 0)
-        & absent_u8(power)
-        & absent_u8(grant)
-        & absent_chan_alloc(alloc)
+    h.fill_bits == 0
+        && h.pos_of_grant == 0
+        && h.encryption_mode == 0
+        && h.random_access_flag == 0
+        && h.power_control_element.is_none()
+        && h.slot_granting_element.is_none()
+        && h.chan_alloc_element.is_none()
 }
 
 // Whether address, label, marker, encryption and elements go together.
@@ -148,17 +90,14 @@ fn all_absent(h: MacResource) -> bool
 fn legal_parts(h: MacResource) -> bool
     ensures { result ≡ legal_parts h }
 {
-    let kind = h.address_kind;
-    let label = h.event_label;
-    let marker = h.usage_marker;
-    let addressed = has_address(kind);
-    let unlabelled = absent_u16(label);
-    let unmarked = absent_u8(marker);
+    let addressed = h.address_kind.is_some();
+    let unlabelled = h.event_label.is_none();
+    let unmarked = h.usage_marker.is_none();
     let bare = all_absent(h);
-    (!addressed | (h.encryption_mode == 0))
-        & (unmarked | (addressed & unlabelled))
-        & (addressed | !unlabelled | bare)
-        & (addressed | (h.number == 0))
+    (!addressed || h.encryption_mode == 0)
+        && (unmarked || (addressed && unlabelled))
+        && (addressed || !unlabelled || bare)
+        && (addressed || h.number == 0)
 }
 
 // Question 6, but for what differs between its callers.
@@ -166,21 +105,17 @@ fn legal_parts(h: MacResource) -> bool
 fn legal_fields(h: MacResource) -> bool
     ensures { result ≡ legal_fields h }
 {
-    let alloc = h.chan_alloc_element;
-    within_widths(h) & legal_opt_chan_alloc(alloc) & legal_parts(h)
+    within_widths(h) && legal_opt_chan_alloc(h.chan_alloc_element) && legal_parts(h)
 }
 
 // Whether label and marker go with the kind of address in the header writer.
-fn parts_to_write(kind: AddressKind, label: OptU16, marker: OptU8) -> bool
-    ensures { result ≡ parts_to_write kind label marker }
+fn parts_to_write(h: MacResource) -> bool
+    ensures { result ≡ parts_to_write h.address_kind h.event_label h.usage_marker }
 {
-    match kind {
-        AddressKind::Absent => true,
-        AddressKind::Ssi => true,
-        AddressKind::Gssi => true,
-        AddressKind::Issi => true,
-        AddressKind::Ussi => absent_u16(label) & absent_u8(marker),
-        AddressKind::Smi => absent_u8(marker),
+    match h.address_kind {
+        Some(AddressKind::Ussi) => h.event_label.is_none() && h.usage_marker.is_none(),
+        Some(AddressKind::Smi) => h.usage_marker.is_none(),
+        _ => true,
     }
 }
 
@@ -189,24 +124,17 @@ fn parts_to_write(kind: AddressKind, label: OptU16, marker: OptU8) -> bool
 pub fn legal_to_write(h: MacResource) -> bool
     ensures { result ≡ legal_to_write h }
 {
-    let kind = h.address_kind;
-    let label = h.event_label;
-    let marker = h.usage_marker;
-    legal_fields(h) & (0 < h.length_ind) & parts_to_write(kind, label, marker)
+    legal_fields(h) && 0 < h.length_ind && parts_to_write(h)
 }
 
 // Whether a queued record can have this kind of address.
-fn queued_kind(k: AddressKind) -> bool
-    ensures { result ≡ queued_kind k }
+fn queued_kind(kind: Option<AddressKind>) -> bool
+    ensures { result ≡ queued_kind kind }
 {
-    match k {
-        AddressKind::Absent => false,
-        AddressKind::Ssi => true,
-        AddressKind::Gssi => true,
-        AddressKind::Issi => true,
-        AddressKind::Ussi => false,
-        AddressKind::Smi => false,
-    }
+    matches!(
+        kind,
+        Some(AddressKind::Ssi | AddressKind::Gssi | AddressKind::Issi)
+    )
 }
 
 // Question 6 for a queued record.
@@ -214,9 +142,7 @@ fn queued_kind(k: AddressKind) -> bool
 fn legal_queued(h: MacResource) -> bool
     ensures { result ≡ legal_queued h }
 {
-    let kind = h.address_kind;
-    let label = h.event_label;
-    legal_fields(h) & queued_kind(kind) & absent_u16(label)
+    legal_fields(h) && queued_kind(h.address_kind) && h.event_label.is_none()
 }
 
 // Question 6 for a record offered to the queue.
@@ -224,6 +150,5 @@ fn legal_queued(h: MacResource) -> bool
 pub fn legal_offered(h: MacResource) -> bool
     ensures { result ≡ legal_offered h }
 {
-    let grant = h.slot_granting_element;
-    legal_queued(h) & absent_u8(grant)
+    legal_queued(h) && h.slot_granting_element.is_none()
 }

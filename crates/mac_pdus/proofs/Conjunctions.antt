@@ -1,14 +1,15 @@
 -- Conjunctions of tests, taken apart. The tests are given: a conjunction computes, so they are not found. Assumes nothing.
 use mathlib.Core.Path.{◌≡◌}
-use mathlib.Core.Bool.{Bool, true, false, ◌&&◌, and-eq-true_iff}
+use mathlib.Core.Bool.{Bool, true, false, ◌&&◌}
 use Prim.Native.Nat.{ℕ}
 use native.Mathlib.Omega.{arith}
+use Rattle.std.proofs.lemmas.Bool.{and_parts}
 
 pub false-not-true : {X : Type 0} → false ≡ true → X
 false-not-true e = absurd (let z : ◌≡◌ {A = ℕ} 0 1 = cc in omega arith)
 
 pub and2 : (a1 a2 : Bool) → a1 && a2 ≡ true → (a1 ≡ true) × (a2 ≡ true)
-and2 a1 a2 h = (and-eq-true_iff a1 a2).0 h
+and2 a1 a2 h = and_parts a1 a2 h
 
 pub and3 : (a1 a2 a3 : Bool) → a1 && a2 && a3 ≡ true
     → (a1 ≡ true) × (a2 ≡ true) × (a3 ≡ true)

@@ -1,4 +1,5 @@
 -- What is read stands there: a header that is read has, where it was read, the bits that are written for it. Assumes nothing.
+use Rattle.std.proofs.Common.{Option, Some, None}
 use mathlib.Core.Path.{◌≡◌, refl, sym, ap, ap₂, ◌∙◌, subst}
 use mathlib.Core.List.{List, [], ◌++◌, append_assoc}
 use Prim.Native.Nat.{ℕ, zero, suc, ◌+◌, ◌^◌, ◌≤◌, ◌<◌}
@@ -7,14 +8,14 @@ use lib.ListN.{length, take, drop, length-append, length-drop, take-append-drop}
 use lib.Seq.{drop-drop, take-append_seam}
 use Rattle.bitbuffer.specs.Bits.{value_bits, bits_value, part, field, AreBits}
 use Rattle.bitbuffer.proofs.Laws.{value_bits-value, length_part, part-lt, bits-take, bits-drop, field-here}
-use Rattle.optional.specs.declared.OptU8.{OptU8}
 use Rattle.mac_pdus.specs.declared.Address.{Address}
 use Rattle.mac_pdus.specs.declared.Address.TheVariants.{Null, Ssi, EventLabel, Ussi, Smi, SsiEventLabel, SsiUsageMarker, SmiEventLabel}
 use Rattle.mac_pdus.specs.declared.ChanAllocElement.{ChanAllocElement}
-use Rattle.mac_pdus.specs.declared.OptChanAlloc.{OptChanAlloc}
 use Rattle.mac_pdus.specs.declared.ResourceHeader.{ResourceHeader}
-use Rattle.mac_pdus.specs.Headers.{if_zero, address_type, elements_bits, elements_at, frame18_at, frame18_bits, opt_bits, opt_at, address_bits, address_of}
-use Rattle.mac_pdus.specs.Headers.{address_at, chan_alloc_bits, chan_alloc_at, opt_chan_alloc_bits, opt_chan_alloc_at, fixed_bits, resource_bits, resource_at}
+use Rattle.mac_pdus.specs.Headers.{if_zero, address_type, elements_bits, elements_at, frame18_at, frame18_bits}
+use Rattle.mac_pdus.specs.Headers.{optional_bits, optional_at, opt_bits, opt_at, address_bits, address_of}
+use Rattle.mac_pdus.specs.Headers.{address_at, chan_alloc_bits, chan_alloc_at, opt_chan_alloc_bits}
+use Rattle.mac_pdus.specs.Headers.{opt_chan_alloc_at, fixed_bits, resource_bits, resource_at}
 
 -- the bits `f` stand in `l` from `at` up to `after`
 pub record Between (l : List ℕ) (at : ℕ) (f : List ℕ) (after : ℕ) : Type 0 where
@@ -69,23 +70,26 @@ field_found w l at k P b h go = go (bits_value (part l at w)) (part-lt l at w b)
 
 -- ---- the elements
 
-opt-found {ℓ} : {X : Type ℓ} (w : ℕ) → Found {X = X} (λ l at k. opt_at w l at k) (opt_bits w) (1 + w)
-unfolding opt_bits opt_at
-opt-found {X} w l at k P b h go = field_found 1 l at _ P b (omega arith) flagged
+optional-found {ℓ} : {A : Type 0} {X : Type ℓ} (element_at : List ℕ → ℕ → (A → ℕ → X) → X) (bits : A → List ℕ) (most : ℕ) → Found element_at bits most
+    → Found (λ l at k. optional_at element_at l at k) (optional_bits bits) (1 + most)
+optional-found element_at bits most found l at k P b h go = field_found 1 l at _ P b (omega arith) flagged
   where
     flagged : (flag : ℕ) → flag < 2 ^ 1 → Between l at (value_bits 1 flag) (at + 1)
-        → P (if_zero flag (k OptU8.Absent (at + 1)) (field l (at + 1) w λ v at. k (OptU8.Of v) at))
-    flagged zero s e = go OptU8.Absent (at + 1) (omega arith) e
-    flagged (suc zero) s e =
-        field_found w l (at + 1) _ P b (omega arith) λ v s₁ e₁.
-        go (OptU8.Of v) (at + 1 + w) (omega arith) (joined e e₁)
+        → P (if_zero flag (k None (at + 1)) (element_at l (at + 1) λ v at. k (Some v) at))
+    flagged zero s e = go None (at + 1) (omega arith) e
+    flagged (suc zero) s e = found l (at + 1) _ P b (omega arith) λ v after n e₁. go (Some v) after (omega arith) (joined e e₁)
     flagged (suc (suc n)) s e = absurd (omega arith)
 
-frame18-found {ℓ} : {X : Type ℓ} (p : ℕ) → Found {X = X} (λ l at k. frame18_at p l at k) frame18_bits 2
-frame18-found zero l at k P b h go = field_found 2 l at _ P b h λ v s e. go (OptU8.Of v) (at + 2) (omega arith) e
-frame18-found (suc p) l at k P b h go = go OptU8.Absent at (omega arith) (nothing l at)
+opt-found {ℓ} : {X : Type ℓ} (w : ℕ) → Found {X = X} (λ l at k. opt_at w l at k) (opt_bits w) (1 + w)
+unfolding opt_bits opt_at
+opt-found w = optional-found (λ l at k. field l at w k) (value_bits w) w
+    λ l at k P b h go. field_found w l at k P b h λ v s e. go v (at + w) (omega arith) e
 
-abbrev element : ℕ → ℕ → ℕ → ℕ → ℕ → ℕ → ℕ → ℕ → OptU8 → ChanAllocElement
+frame18-found {ℓ} : {X : Type ℓ} (p : ℕ) → Found {X = X} (λ l at k. frame18_at p l at k) frame18_bits 2
+frame18-found zero l at k P b h go = field_found 2 l at _ P b h λ v s e. go (Some v) (at + 2) (omega arith) e
+frame18-found (suc p) l at k P b h go = go None at (omega arith) (nothing l at)
+
+abbrev element : ℕ → ℕ → ℕ → ℕ → ℕ → ℕ → ℕ → ℕ → Option ℕ → ChanAllocElement
 element v₁ v₂ v₃ v₄ v₅ v₆ v₇ v₈ f =
     record {
       alloc_type = v₁;
@@ -116,21 +120,14 @@ chan-alloc-found l at k P b h go =
 
 opt-chan-alloc-found {ℓ} : {X : Type ℓ} → Found {X = X} (λ l at k. opt_chan_alloc_at l at k) opt_chan_alloc_bits 28
 unfolding opt_chan_alloc_bits opt_chan_alloc_at
-opt-chan-alloc-found l at k P b h go = field_found 1 l at _ P b (omega arith) flagged
-  where
-    flagged : (flag : ℕ) → flag < 2 ^ 1 → Between l at (value_bits 1 flag) (at + 1)
-        → P (if_zero flag (k OptChanAlloc.Absent (at + 1)) (chan_alloc_at l (at + 1) λ c at. k (OptChanAlloc.Of c) at))
-    flagged zero s e = go OptChanAlloc.Absent (at + 1) (omega arith) e
-    flagged (suc zero) s e =
-        chan-alloc-found l (at + 1) _ P b (omega arith) λ c after n e₁.
-        go (OptChanAlloc.Of c) after (omega arith) (joined e e₁)
-    flagged (suc (suc n)) s e = absurd (omega arith)
+opt-chan-alloc-found = optional-found (λ l at k. chan_alloc_at l at k) chan_alloc_bits 27 chan-alloc-found
 
-elements-found {ℓ} : {X : Type ℓ} (n : ℕ) (l : List ℕ) (at : ℕ) (k : OptU8 → OptU8 → OptChanAlloc → ℕ → X) (P : X → Type 0) → AreBits l → at + 42 ≤ length l
-    → ((p g : OptU8) (a : OptChanAlloc) (after : ℕ) → after ≤ at + 42 → Between l at (elements_bits n p g a) after → P (k p g a after))
+elements-found {ℓ} : {X : Type ℓ} (n : ℕ) (l : List ℕ) (at : ℕ) (k : Option ℕ → Option ℕ → Option ChanAllocElement → ℕ → X) (P : X → Type 0)
+    → AreBits l → at + 42 ≤ length l
+    → ((p g : Option ℕ) (a : Option ChanAllocElement) (after : ℕ) → after ≤ at + 42 → Between l at (elements_bits n p g a) after → P (k p g a after))
     → P (elements_at n l at k)
 unfolding elements_bits elements_at
-elements-found zero l at k P b h go = go OptU8.Absent OptU8.Absent OptChanAlloc.Absent at (omega arith) (nothing l at)
+elements-found zero l at k P b h go = go None None None at (omega arith) (nothing l at)
 elements-found (suc n) l at k P b h go =
     opt-found 4 l at _ P b (omega arith) λ p a₁ n₁ e₁.
     opt-found 8 l a₁ _ P b (omega arith) λ g a₂ n₂ e₂.

@@ -1,21 +1,19 @@
 -- A legal header has its fields within their widths; what is offered comes back from the air, and what is on the air is offered again. Assumes nothing.
+use Rattle.std.proofs.Common.{Option, Some, None}
 use mathlib.Core.Path.{◌≡◌, refl, sym, ap, ◌∙◌, subst}
 use mathlib.Core.Bool.{Bool, true, not, ◌&&◌, ◌||◌}
 use Prim.Native.Nat.{ℕ, ◌^◌, ◌<◌}
 use native.Mathlib.Omega.{arith}
 use lib.Dec.{ltb, eqb}
 use borrow.Author.Tests.{ltb-true, eqb-true}
-use Rattle.optional.specs.declared.OptU8.{OptU8}
-use Rattle.optional.specs.declared.OptU16.{OptU16}
 use Rattle.mac_pdus.specs.declared.Address.{Address}
 use Rattle.mac_pdus.specs.declared.AddressKind.{AddressKind}
 use Rattle.mac_pdus.specs.declared.ChanAllocElement.{ChanAllocElement}
-use Rattle.mac_pdus.specs.declared.OptChanAlloc.{OptChanAlloc}
 use Rattle.mac_pdus.specs.declared.ResourceHeader.{ResourceHeader}
 use Rattle.mac_pdus.specs.declared.MacResource.{MacResource}
 use Rattle.mac_pdus.specs.Headers.{address_type}
 use Rattle.mac_pdus.specs.Within.{OptWithin, AddressWithin, Frame18Within, ChanAllocWithin, OptChanAllocWithin, NullWithin, ResourceWithin}
-use Rattle.mac_pdus.specs.Legal.{fits, absent_u8, absent_u16, absent_chan_alloc, opt_fits, label_fits, has_address, legal_frame18, legal_chan_alloc}
+use Rattle.mac_pdus.specs.Legal.{fits, absent, opt_fits, label_fits, has_address, legal_frame18, legal_chan_alloc}
 use Rattle.mac_pdus.specs.Legal.{legal_opt_chan_alloc, within_widths, all_absent, legal_parts, legal_fields, parts_to_write, legal_to_write}
 use Rattle.mac_pdus.specs.Legal.{address_on_air, on_air, kind_of, number_of, label_of, usage_marker_of, offered, read_kind, as_read, writer_takes}
 use Rattle.mac_pdus.proofs.Conjunctions.{false-not-true, and2, and3, and4, and7, and10}
@@ -46,8 +44,8 @@ to_write h e =
 
 pub record Parts (h : MacResource) : Type 0 where
   pub encryption : not (has_address h.address_kind) || eqb h.encryption_mode 0 ≡ true
-  pub marker : absent_u8 h.usage_marker || has_address h.address_kind && absent_u16 h.event_label ≡ true
-  pub null : has_address h.address_kind || not (absent_u16 h.event_label) || all_absent h ≡ true
+  pub marker : absent h.usage_marker || has_address h.address_kind && absent h.event_label ≡ true
+  pub null : has_address h.address_kind || not (absent h.event_label) || all_absent h ≡ true
   pub number : has_address h.address_kind || eqb h.number 0 ≡ true
 
 pub parts : (h : MacResource) → legal_parts h ≡ true → Parts h
@@ -55,20 +53,20 @@ unfolding legal_parts
 parts h e =
     let p = and4
     (not (has_address h.address_kind) || eqb h.encryption_mode 0)
-    (absent_u8 h.usage_marker || has_address h.address_kind && absent_u16 h.event_label)
-    (has_address h.address_kind || not (absent_u16 h.event_label) || all_absent h)
+    (absent h.usage_marker || has_address h.address_kind && absent h.event_label)
+    (has_address h.address_kind || not (absent h.event_label) || all_absent h)
     (has_address h.address_kind || eqb h.number 0) e in
     record { encryption = p.0; marker = p.1; null = p.2; number = p.3 }
 
 -- ---- widths
 
-opt-within : (w : ℕ) (o : OptU8) → opt_fits w o ≡ true → OptWithin w o
-opt-within w OptU8.Absent h = tt
-opt-within w (OptU8.Of v) h = ltb-true v (2 ^ w) h
+opt-within : (w : ℕ) (o : Option ℕ) → opt_fits w o ≡ true → OptWithin w o
+opt-within w None h = tt
+opt-within w (Some v) h = ltb-true v (2 ^ w) h
 
-frame18-within : (p : ℕ) (f : OptU8) → legal_frame18 p f ≡ true → Frame18Within p f
-frame18-within p OptU8.Absent h = ltb-true 0 p h
-frame18-within p (OptU8.Of f) h = let q = and2 (eqb p 0) (fits 2 f) h in (eqb-true p 0 q.0, ltb-true f 4 q.1)
+frame18-within : (p : ℕ) (f : Option ℕ) → legal_frame18 p f ≡ true → Frame18Within p f
+frame18-within p None h = ltb-true 0 p h
+frame18-within p (Some f) h = let q = and2 (eqb p 0) (fits 2 f) h in (eqb-true p 0 q.0, ltb-true f 4 q.1)
 
 chan-alloc-within : (c : ChanAllocElement) → legal_chan_alloc c ≡ true → ChanAllocWithin c
 unfolding legal_chan_alloc
@@ -90,66 +88,63 @@ chan-alloc-within c h =
       frame18_mon_pattern = frame18-within c.mon_pattern c.frame18_mon_pattern p.9;
     }
 
-opt-chan-alloc-within : (a : OptChanAlloc) → legal_opt_chan_alloc a ≡ true → OptChanAllocWithin a
-opt-chan-alloc-within OptChanAlloc.Absent h = tt
-opt-chan-alloc-within (OptChanAlloc.Of c) h = chan-alloc-within c h
+opt-chan-alloc-within : (a : Option ChanAllocElement) → legal_opt_chan_alloc a ≡ true → OptChanAllocWithin a
+opt-chan-alloc-within None h = tt
+opt-chan-alloc-within (Some c) h = chan-alloc-within c h
 
-label-within : (e : ℕ) → label_fits (OptU16.Of e) ≡ true → e < 2 ^ 10
+label-within : (e : ℕ) → label_fits (Some e) ≡ true → e < 2 ^ 10
 label-within e h = ltb-true e 1024 h
 
-address-within : (k : AddressKind) (n : ℕ) (l : OptU16) (m : OptU8) → n < 2 ^ 24 → label_fits l ≡ true → opt_fits 6 m ≡ true
+address-within : (k : Option AddressKind) (n : ℕ) (l : Option ℕ) (m : Option ℕ) → n < 2 ^ 24 → label_fits l ≡ true → opt_fits 6 m ≡ true
     → AddressWithin (address_on_air k n l m)
 unfolding address_on_air
-address-within AddressKind.Absent n OptU16.Absent m hn hl hm = tt
-address-within AddressKind.Absent n (OptU16.Of e) m hn hl hm = label-within e hl
-address-within AddressKind.Ssi n OptU16.Absent OptU8.Absent hn hl hm = hn
-address-within AddressKind.Ssi n OptU16.Absent (OptU8.Of m) hn hl hm = (hn, ltb-true m 64 hm)
-address-within AddressKind.Ssi n (OptU16.Of e) m hn hl hm = (hn, label-within e hl)
-address-within AddressKind.Gssi n OptU16.Absent OptU8.Absent hn hl hm = hn
-address-within AddressKind.Gssi n OptU16.Absent (OptU8.Of m) hn hl hm = (hn, ltb-true m 64 hm)
-address-within AddressKind.Gssi n (OptU16.Of e) m hn hl hm = (hn, label-within e hl)
-address-within AddressKind.Issi n OptU16.Absent OptU8.Absent hn hl hm = hn
-address-within AddressKind.Issi n OptU16.Absent (OptU8.Of m) hn hl hm = (hn, ltb-true m 64 hm)
-address-within AddressKind.Issi n (OptU16.Of e) m hn hl hm = (hn, label-within e hl)
-address-within AddressKind.Ussi n l m hn hl hm = hn
-address-within AddressKind.Smi n OptU16.Absent m hn hl hm = hn
-address-within AddressKind.Smi n (OptU16.Of e) m hn hl hm = (hn, label-within e hl)
+address-within None n None m hn hl hm = tt
+address-within None n (Some e) m hn hl hm = label-within e hl
+address-within (Some AddressKind.Ssi) n None None hn hl hm = hn
+address-within (Some AddressKind.Ssi) n None (Some m) hn hl hm = (hn, ltb-true m 64 hm)
+address-within (Some AddressKind.Ssi) n (Some e) m hn hl hm = (hn, label-within e hl)
+address-within (Some AddressKind.Gssi) n None None hn hl hm = hn
+address-within (Some AddressKind.Gssi) n None (Some m) hn hl hm = (hn, ltb-true m 64 hm)
+address-within (Some AddressKind.Gssi) n (Some e) m hn hl hm = (hn, label-within e hl)
+address-within (Some AddressKind.Issi) n None None hn hl hm = hn
+address-within (Some AddressKind.Issi) n None (Some m) hn hl hm = (hn, ltb-true m 64 hm)
+address-within (Some AddressKind.Issi) n (Some e) m hn hl hm = (hn, label-within e hl)
+address-within (Some AddressKind.Ussi) n l m hn hl hm = hn
+address-within (Some AddressKind.Smi) n None m hn hl hm = hn
+address-within (Some AddressKind.Smi) n (Some e) m hn hl hm = (hn, label-within e hl)
 
 -- ---- the null
 
-pub is-absent : (o : OptU8) → absent_u8 o ≡ true → o ≡ OptU8.Absent
-is-absent OptU8.Absent h = refl
-is-absent (OptU8.Of v) h = false-not-true h
-
-pub no-chan-alloc : (a : OptChanAlloc) → absent_chan_alloc a ≡ true → a ≡ OptChanAlloc.Absent
-no-chan-alloc OptChanAlloc.Absent h = refl
-no-chan-alloc (OptChanAlloc.Of c) h = false-not-true h
+pub is-absent : {A : Type 0} (o : Option A) → absent o ≡ true → o ≡ None
+is-absent None h = refl
+is-absent (Some v) h = false-not-true h
 
 no-elements : (h : MacResource) → all_absent h ≡ true
-    → (h.power_control_element ≡ OptU8.Absent) × (h.slot_granting_element ≡ OptU8.Absent) × (h.chan_alloc_element ≡ OptChanAlloc.Absent)
+    → (h.power_control_element ≡ None) × (h.slot_granting_element ≡ None) × (h.chan_alloc_element ≡ None)
 unfolding all_absent
 no-elements h e =
     let p = and7 (eqb h.fill_bits 0) (eqb h.pos_of_grant 0) (eqb h.encryption_mode 0) (eqb h.random_access_flag 0)
-    (absent_u8 h.power_control_element) (absent_u8 h.slot_granting_element) (absent_chan_alloc h.chan_alloc_element) e in
-    (is-absent h.power_control_element p.4, is-absent h.slot_granting_element p.5, no-chan-alloc h.chan_alloc_element p.6)
+    (absent h.power_control_element) (absent h.slot_granting_element) (absent h.chan_alloc_element) e in
+    (is-absent h.power_control_element p.4, is-absent h.slot_granting_element p.5, is-absent h.chan_alloc_element p.6)
 
-null-within : (k : AddressKind) (n : ℕ) (l : OptU16) (m p g : OptU8) (a : OptChanAlloc) (b : Bool) → has_address k || not (absent_u16 l) || b ≡ true
-    → (b ≡ true → (p ≡ OptU8.Absent) × (g ≡ OptU8.Absent) × (a ≡ OptChanAlloc.Absent)) → NullWithin (address_type (address_on_air k n l m)) p g a
+null-within : (k : Option AddressKind) (n : ℕ) (l : Option ℕ) (m p g : Option ℕ) (a : Option ChanAllocElement) (b : Bool)
+    → has_address k || not (absent l) || b ≡ true
+    → (b ≡ true → (p ≡ None) × (g ≡ None) × (a ≡ None)) → NullWithin (address_type (address_on_air k n l m)) p g a
 unfolding address_on_air address_type
-null-within AddressKind.Absent n OptU16.Absent m p g a b h f = f h
-null-within AddressKind.Absent n (OptU16.Of e) m p g a b h f = tt
-null-within AddressKind.Ssi n OptU16.Absent OptU8.Absent p g a b h f = tt
-null-within AddressKind.Ssi n OptU16.Absent (OptU8.Of m) p g a b h f = tt
-null-within AddressKind.Ssi n (OptU16.Of e) m p g a b h f = tt
-null-within AddressKind.Gssi n OptU16.Absent OptU8.Absent p g a b h f = tt
-null-within AddressKind.Gssi n OptU16.Absent (OptU8.Of m) p g a b h f = tt
-null-within AddressKind.Gssi n (OptU16.Of e) m p g a b h f = tt
-null-within AddressKind.Issi n OptU16.Absent OptU8.Absent p g a b h f = tt
-null-within AddressKind.Issi n OptU16.Absent (OptU8.Of m) p g a b h f = tt
-null-within AddressKind.Issi n (OptU16.Of e) m p g a b h f = tt
-null-within AddressKind.Ussi n l m p g a b h f = tt
-null-within AddressKind.Smi n OptU16.Absent m p g a b h f = tt
-null-within AddressKind.Smi n (OptU16.Of e) m p g a b h f = tt
+null-within None n None m p g a b h f = f h
+null-within None n (Some e) m p g a b h f = tt
+null-within (Some AddressKind.Ssi) n None None p g a b h f = tt
+null-within (Some AddressKind.Ssi) n None (Some m) p g a b h f = tt
+null-within (Some AddressKind.Ssi) n (Some e) m p g a b h f = tt
+null-within (Some AddressKind.Gssi) n None None p g a b h f = tt
+null-within (Some AddressKind.Gssi) n None (Some m) p g a b h f = tt
+null-within (Some AddressKind.Gssi) n (Some e) m p g a b h f = tt
+null-within (Some AddressKind.Issi) n None None p g a b h f = tt
+null-within (Some AddressKind.Issi) n None (Some m) p g a b h f = tt
+null-within (Some AddressKind.Issi) n (Some e) m p g a b h f = tt
+null-within (Some AddressKind.Ussi) n l m p g a b h f = tt
+null-within (Some AddressKind.Smi) n None m p g a b h f = tt
+null-within (Some AddressKind.Smi) n (Some e) m p g a b h f = tt
 
 -- a legal header is written in fields that have their widths
 pub legal-within : (h : MacResource) → legal_fields h ≡ true → ResourceWithin (on_air h)
@@ -209,36 +204,36 @@ taken-within r h = subst ResourceWithin (on-air-again r) (legal-within (offered 
 
 -- ---- what the header writer takes comes back: GSSI and ISSI as SSI, all else as it was
 
-pub record SameAddress (k : AddressKind) (n : ℕ) (l : OptU16) (m : OptU8) : Type 0 where
+pub record SameAddress (k : Option AddressKind) (n : ℕ) (l : Option ℕ) (m : Option ℕ) : Type 0 where
   pub kind : kind_of (address_on_air k n l m) ≡ read_kind k
   pub number : number_of (address_on_air k n l m) ≡ n
   pub label : label_of (address_on_air k n l m) ≡ l
   pub marker : usage_marker_of (address_on_air k n l m) ≡ m
 
-same_address : (k : AddressKind) (n : ℕ) (l : OptU16) (m : OptU8) → has_address k || eqb n 0 ≡ true → absent_u8 m || has_address k && absent_u16 l ≡ true
+same_address : (k : Option AddressKind) (n : ℕ) (l : Option ℕ) (m : Option ℕ) → has_address k || eqb n 0 ≡ true → absent m || has_address k && absent l ≡ true
     → parts_to_write k l m ≡ true → SameAddress k n l m
 unfolding address_on_air
-same_address AddressKind.Absent n l (OptU8.Of v) hn hm hp = false-not-true hm
-same_address AddressKind.Absent n OptU16.Absent OptU8.Absent hn hm hp = record { kind = refl; number = sym (eqb-true n 0 hn); label = refl; marker = refl }
-same_address AddressKind.Absent n (OptU16.Of e) OptU8.Absent hn hm hp = record { kind = refl; number = sym (eqb-true n 0 hn); label = refl; marker = refl }
-same_address AddressKind.Ssi n OptU16.Absent OptU8.Absent hn hm hp = record { kind = refl; number = refl; label = refl; marker = refl }
-same_address AddressKind.Ssi n OptU16.Absent (OptU8.Of v) hn hm hp = record { kind = refl; number = refl; label = refl; marker = refl }
-same_address AddressKind.Ssi n (OptU16.Of e) OptU8.Absent hn hm hp = record { kind = refl; number = refl; label = refl; marker = refl }
-same_address AddressKind.Ssi n (OptU16.Of e) (OptU8.Of v) hn hm hp = false-not-true hm
-same_address AddressKind.Gssi n OptU16.Absent OptU8.Absent hn hm hp = record { kind = refl; number = refl; label = refl; marker = refl }
-same_address AddressKind.Gssi n OptU16.Absent (OptU8.Of v) hn hm hp = record { kind = refl; number = refl; label = refl; marker = refl }
-same_address AddressKind.Gssi n (OptU16.Of e) OptU8.Absent hn hm hp = record { kind = refl; number = refl; label = refl; marker = refl }
-same_address AddressKind.Gssi n (OptU16.Of e) (OptU8.Of v) hn hm hp = false-not-true hm
-same_address AddressKind.Issi n OptU16.Absent OptU8.Absent hn hm hp = record { kind = refl; number = refl; label = refl; marker = refl }
-same_address AddressKind.Issi n OptU16.Absent (OptU8.Of v) hn hm hp = record { kind = refl; number = refl; label = refl; marker = refl }
-same_address AddressKind.Issi n (OptU16.Of e) OptU8.Absent hn hm hp = record { kind = refl; number = refl; label = refl; marker = refl }
-same_address AddressKind.Issi n (OptU16.Of e) (OptU8.Of v) hn hm hp = false-not-true hm
-same_address AddressKind.Ussi n OptU16.Absent OptU8.Absent hn hm hp = record { kind = refl; number = refl; label = refl; marker = refl }
-same_address AddressKind.Ussi n OptU16.Absent (OptU8.Of v) hn hm hp = false-not-true hp
-same_address AddressKind.Ussi n (OptU16.Of e) m hn hm hp = false-not-true hp
-same_address AddressKind.Smi n OptU16.Absent OptU8.Absent hn hm hp = record { kind = refl; number = refl; label = refl; marker = refl }
-same_address AddressKind.Smi n (OptU16.Of e) OptU8.Absent hn hm hp = record { kind = refl; number = refl; label = refl; marker = refl }
-same_address AddressKind.Smi n l (OptU8.Of v) hn hm hp = false-not-true hp
+same_address None n l (Some v) hn hm hp = false-not-true hm
+same_address None n None None hn hm hp = record { kind = refl; number = sym (eqb-true n 0 hn); label = refl; marker = refl }
+same_address None n (Some e) None hn hm hp = record { kind = refl; number = sym (eqb-true n 0 hn); label = refl; marker = refl }
+same_address (Some AddressKind.Ssi) n None None hn hm hp = record { kind = refl; number = refl; label = refl; marker = refl }
+same_address (Some AddressKind.Ssi) n None (Some v) hn hm hp = record { kind = refl; number = refl; label = refl; marker = refl }
+same_address (Some AddressKind.Ssi) n (Some e) None hn hm hp = record { kind = refl; number = refl; label = refl; marker = refl }
+same_address (Some AddressKind.Ssi) n (Some e) (Some v) hn hm hp = false-not-true hm
+same_address (Some AddressKind.Gssi) n None None hn hm hp = record { kind = refl; number = refl; label = refl; marker = refl }
+same_address (Some AddressKind.Gssi) n None (Some v) hn hm hp = record { kind = refl; number = refl; label = refl; marker = refl }
+same_address (Some AddressKind.Gssi) n (Some e) None hn hm hp = record { kind = refl; number = refl; label = refl; marker = refl }
+same_address (Some AddressKind.Gssi) n (Some e) (Some v) hn hm hp = false-not-true hm
+same_address (Some AddressKind.Issi) n None None hn hm hp = record { kind = refl; number = refl; label = refl; marker = refl }
+same_address (Some AddressKind.Issi) n None (Some v) hn hm hp = record { kind = refl; number = refl; label = refl; marker = refl }
+same_address (Some AddressKind.Issi) n (Some e) None hn hm hp = record { kind = refl; number = refl; label = refl; marker = refl }
+same_address (Some AddressKind.Issi) n (Some e) (Some v) hn hm hp = false-not-true hm
+same_address (Some AddressKind.Ussi) n None None hn hm hp = record { kind = refl; number = refl; label = refl; marker = refl }
+same_address (Some AddressKind.Ussi) n None (Some v) hn hm hp = false-not-true hp
+same_address (Some AddressKind.Ussi) n (Some e) m hn hm hp = false-not-true hp
+same_address (Some AddressKind.Smi) n None None hn hm hp = record { kind = refl; number = refl; label = refl; marker = refl }
+same_address (Some AddressKind.Smi) n (Some e) None hn hm hp = record { kind = refl; number = refl; label = refl; marker = refl }
+same_address (Some AddressKind.Smi) n l (Some v) hn hm hp = false-not-true hp
 
 pub offered-again : (h : MacResource) → legal_to_write h ≡ true → offered (on_air h) ≡ as_read h
 unfolding on_air offered as_read
@@ -248,21 +243,21 @@ offered-again h e =
     let s = same_address h.address_kind h.number h.event_label h.usage_marker q.number q.marker p.parts in
     rw (s.kind, s.number, s.label, s.marker)
 
-read-address : (k : AddressKind) → has_address (read_kind k) ≡ has_address k
-read-address AddressKind.Absent = refl
-read-address AddressKind.Ssi = refl
-read-address AddressKind.Gssi = refl
-read-address AddressKind.Issi = refl
-read-address AddressKind.Ussi = refl
-read-address AddressKind.Smi = refl
+read-address : (k : Option AddressKind) → has_address (read_kind k) ≡ has_address k
+read-address None = refl
+read-address (Some AddressKind.Ssi) = refl
+read-address (Some AddressKind.Gssi) = refl
+read-address (Some AddressKind.Issi) = refl
+read-address (Some AddressKind.Ussi) = refl
+read-address (Some AddressKind.Smi) = refl
 
-read-parts : (k : AddressKind) (l : OptU16) (m : OptU8) → parts_to_write (read_kind k) l m ≡ parts_to_write k l m
-read-parts AddressKind.Absent l m = refl
-read-parts AddressKind.Ssi l m = refl
-read-parts AddressKind.Gssi l m = refl
-read-parts AddressKind.Issi l m = refl
-read-parts AddressKind.Ussi l m = refl
-read-parts AddressKind.Smi l m = refl
+read-parts : (k : Option AddressKind) (l : Option ℕ) (m : Option ℕ) → parts_to_write (read_kind k) l m ≡ parts_to_write k l m
+read-parts None l m = refl
+read-parts (Some AddressKind.Ssi) l m = refl
+read-parts (Some AddressKind.Gssi) l m = refl
+read-parts (Some AddressKind.Issi) l m = refl
+read-parts (Some AddressKind.Ussi) l m = refl
+read-parts (Some AddressKind.Smi) l m = refl
 
 as-read-legal : (h : MacResource) → legal_to_write (as_read h) ≡ legal_to_write h
 unfolding legal_to_write legal_fields within_widths legal_parts all_absent as_read

@@ -1,40 +1,25 @@
 -- How many bits the header's parts take. Assumes nothing.
+use Rattle.std.proofs.Common.{Option, Some, None}
 use mathlib.Core.Path.{◌≡◌, refl, sym}
-use mathlib.Core.List.{[], ◌++◌}
+use mathlib.Core.List.{List, [], ◌++◌}
 use Prim.Native.Nat.{ℕ, zero, suc, ◌+◌, ◌≤◌}
 use native.Mathlib.Omega.{arith}
 use lib.ListN.{length, length-append}
+use Rattle.bitbuffer.specs.Bits.{value_bits}
 use Rattle.bitbuffer.proofs.Laws.{length-value_bits}
-use Rattle.optional.specs.declared.OptU8.{OptU8}
 use Rattle.mac_pdus.specs.declared.ChanAllocElement.{ChanAllocElement}
-use Rattle.mac_pdus.specs.declared.OptChanAlloc.{OptChanAlloc}
 use Rattle.mac_pdus.specs.declared.ResourceHeader.{ResourceHeader}
 use Rattle.mac_pdus.specs.declared.Address.{Address}
 use Rattle.mac_pdus.specs.declared.Address.TheVariants.{Null, Ssi, EventLabel, Ussi, Smi, SsiEventLabel, SsiUsageMarker, SmiEventLabel}
-use Rattle.mac_pdus.specs.Headers.{if_zero, address_type, opt_bits, address_bits, frame18_bits, chan_alloc_bits, opt_chan_alloc_bits, elements_bits, fixed_bits}
-use Rattle.mac_pdus.specs.Headers.{resource_bits, opt_length, address_length, chan_alloc_length, opt_chan_alloc_length, header_length}
+use Rattle.mac_pdus.specs.Headers.{if_zero, address_type, optional_bits, opt_bits, address_bits}
+use Rattle.mac_pdus.specs.Headers.{frame18_bits, chan_alloc_bits, opt_chan_alloc_bits, elements_bits, fixed_bits}
+use Rattle.mac_pdus.specs.Headers.{resource_bits, optional_length, opt_length, address_length, chan_alloc_length, opt_chan_alloc_length, header_length}
 
 pub if-not-zero {ℓ} : {X : Type ℓ} (n : ℕ) (x y : X) → (n ≡ 0 → ⊥) → if_zero n x y ≡ y
 if-not-zero zero x y h = absurd (h refl)
 if-not-zero (suc n) x y h = refl
 
-pub absent-length : (w : ℕ) {m : OptU8} → m ≡ OptU8.Absent → length (opt_bits w m) ≡ 1
-unfolding opt_bits
-absent-length w e = rw (e, length-value_bits)
-
-pub of_length : (w : ℕ) {m : OptU8} {v : ℕ} → m ≡ OptU8.Of v → length (opt_bits w m) ≡ 1 + w
-unfolding opt_bits
-of_length w e = rw e (simp (length-append, length-value_bits))
-
-pub no-alloc-length : {a : OptChanAlloc} → a ≡ OptChanAlloc.Absent → length (opt_chan_alloc_bits a) ≡ 1
-unfolding opt_chan_alloc_bits
-no-alloc-length e = rw (e, length-value_bits)
-
-pub alloc_length : {a : OptChanAlloc} {c : ChanAllocElement} → a ≡ OptChanAlloc.Of c → length (opt_chan_alloc_bits a) ≡ 1 + length (chan_alloc_bits c)
-unfolding opt_chan_alloc_bits
-alloc_length e = rw e (simp (length-append, length-value_bits))
-
-pub elements-length : (p g : OptU8) (a : OptChanAlloc)
+pub elements-length : (p g : Option ℕ) (a : Option ChanAllocElement)
     → length (opt_bits 4 p ++ (opt_bits 8 g ++ opt_chan_alloc_bits a)) ≡ length (opt_bits 4 p) + (length (opt_bits 8 g) + length (opt_chan_alloc_bits a))
 elements-length p g a = simp length-append
 
@@ -46,20 +31,25 @@ pub resource-length : (r : ResourceHeader)
 unfolding resource_bits
 resource-length r = simp length-append
 
-pub elements-none : (n : ℕ) (p g : OptU8) (a : OptChanAlloc) → n ≡ 0 → elements_bits n p g a ≡ []
+pub elements-none : (n : ℕ) (p g : Option ℕ) (a : Option ChanAllocElement) → n ≡ 0 → elements_bits n p g a ≡ []
 unfolding elements_bits
 elements-none n p g a h = rw h
 
-pub elements-other : (n : ℕ) (p g : OptU8) (a : OptChanAlloc) → (n ≡ 0 → ⊥) → elements_bits n p g a ≡ opt_bits 4 p ++ (opt_bits 8 g ++ opt_chan_alloc_bits a)
+pub elements-other : (n : ℕ) (p g : Option ℕ) (a : Option ChanAllocElement) → (n ≡ 0 → ⊥)
+    → elements_bits n p g a ≡ opt_bits 4 p ++ (opt_bits 8 g ++ opt_chan_alloc_bits a)
 unfolding elements_bits
 elements-other n p g a h = if-not-zero n [] (opt_bits 4 p ++ (opt_bits 8 g ++ opt_chan_alloc_bits a)) h
 
 -- ---- the length is the number of bits
 
-opt-size : (w : ℕ) (m : OptU8) → opt_length w m ≡ length (opt_bits w m)
+optional-size : {A : Type 0} (size : A → ℕ) (bits : A → List ℕ) (m : Option A) → ((v : A) → size v ≡ length (bits v))
+    → optional_length size m ≡ length (optional_bits bits m)
+optional-size size bits None h = sym (length-value_bits 1 0)
+optional-size size bits (Some v) h = sym (simp (length-append, length-value_bits, h))
+
+pub opt-size : (w : ℕ) (m : Option ℕ) → opt_length w m ≡ length (opt_bits w m)
 unfolding opt_bits
-opt-size w OptU8.Absent = sym (length-value_bits 1 0)
-opt-size w (OptU8.Of v) = sym (simp (length-append, length-value_bits))
+opt-size w m = optional-size (λ v. w) (value_bits w) m λ v. sym (length-value_bits w v)
 
 address-size : (a : Address) → address_length a ≡ length (address_bits a)
 unfolding address_bits
@@ -72,20 +62,24 @@ address-size (SsiEventLabel a e) = sym (simp (length-append, length-value_bits))
 address-size (SsiUsageMarker a m) = sym (simp (length-append, length-value_bits))
 address-size (SmiEventLabel a e) = sym (simp (length-append, length-value_bits))
 
-frame18-size : (f : OptU8) → chan_alloc_length f ≡ 25 + length (frame18_bits f)
-frame18-size OptU8.Absent = refl
-frame18-size (OptU8.Of f) = rw length-value_bits
+frame18-size : (f : Option ℕ) → chan_alloc_length f ≡ 25 + length (frame18_bits f)
+frame18-size None = refl
+frame18-size (Some f) = rw length-value_bits
 
-opt-chan-alloc-size : (a : OptChanAlloc) → opt_chan_alloc_length a ≡ length (opt_chan_alloc_bits a)
-unfolding opt_chan_alloc_bits chan_alloc_bits
-opt-chan-alloc-size OptChanAlloc.Absent = sym (length-value_bits 1 0)
-opt-chan-alloc-size (OptChanAlloc.Of c) = simp (length-append, length-value_bits) (omega (arith, frame18-size c.frame18_mon_pattern))
+pub chan-alloc-size : (c : ChanAllocElement) → chan_alloc_length c.frame18_mon_pattern ≡ length (chan_alloc_bits c)
+unfolding chan_alloc_bits
+chan-alloc-size c = simp (length-append, length-value_bits) (omega (arith, frame18-size c.frame18_mon_pattern))
+
+pub opt-chan-alloc-size : (a : Option ChanAllocElement) → opt_chan_alloc_length a ≡ length (opt_chan_alloc_bits a)
+unfolding opt_chan_alloc_bits
+opt-chan-alloc-size a = optional-size (λ c. chan_alloc_length c.frame18_mon_pattern) chan_alloc_bits a chan-alloc-size
 
 fixed-size : (f p e r n : ℕ) → length (fixed_bits f p e r n) ≡ 13
 unfolding fixed_bits
 fixed-size f p e r n = simp (length-append, length-value_bits)
 
-elements-size : (n : ℕ) (p g : OptU8) (a : OptChanAlloc) → if_zero n 0 (opt_length 4 p + opt_length 8 g + opt_chan_alloc_length a) ≡ length (elements_bits n p g a)
+elements-size : (n : ℕ) (p g : Option ℕ) (a : Option ChanAllocElement)
+    → if_zero n 0 (opt_length 4 p + opt_length 8 g + opt_chan_alloc_length a) ≡ length (elements_bits n p g a)
 unfolding elements_bits
 elements-size zero p g a = refl
 elements-size (suc n) p g a = simp length-append (omega (arith, opt-size 4 p, opt-size 8 g, opt-chan-alloc-size a))
@@ -118,17 +112,20 @@ header-some r a b c d z ea eb ec ed =
 
 -- ---- bounds
 
-opt-bounds : (w : ℕ) (m : OptU8) → (1 ≤ opt_length w m) × (opt_length w m ≤ 1 + w)
-opt-bounds w OptU8.Absent = (omega arith, omega arith)
-opt-bounds w (OptU8.Of v) = (omega arith, omega arith)
+optional-bounds : {A : Type 0} (size : A → ℕ) (most : ℕ) (m : Option A) → ((v : A) → size v ≤ most)
+    → (1 ≤ optional_length size m) × (optional_length size m ≤ 1 + most)
+optional-bounds size most None h = (omega arith, omega arith)
+optional-bounds size most (Some v) h = (omega arith, omega (arith, h v))
 
-frame18-bounds : (f : OptU8) → (25 ≤ chan_alloc_length f) × (chan_alloc_length f ≤ 27)
-frame18-bounds OptU8.Absent = (omega arith, omega arith)
-frame18-bounds (OptU8.Of f) = (omega arith, omega arith)
+opt-bounds : (w : ℕ) (m : Option ℕ) → (1 ≤ opt_length w m) × (opt_length w m ≤ 1 + w)
+opt-bounds w m = optional-bounds (λ v. w) w m λ v. omega arith
 
-opt-chan-alloc-bounds : (a : OptChanAlloc) → (1 ≤ opt_chan_alloc_length a) × (opt_chan_alloc_length a ≤ 28)
-opt-chan-alloc-bounds OptChanAlloc.Absent = (omega arith, omega arith)
-opt-chan-alloc-bounds (OptChanAlloc.Of c) = let h = frame18-bounds c.frame18_mon_pattern in (omega arith, omega arith)
+frame18-bounds : (f : Option ℕ) → (25 ≤ chan_alloc_length f) × (chan_alloc_length f ≤ 27)
+frame18-bounds None = (omega arith, omega arith)
+frame18-bounds (Some f) = (omega arith, omega arith)
+
+opt-chan-alloc-bounds : (a : Option ChanAllocElement) → (1 ≤ opt_chan_alloc_length a) × (opt_chan_alloc_length a ≤ 28)
+opt-chan-alloc-bounds a = optional-bounds (λ c. chan_alloc_length c.frame18_mon_pattern) 27 a λ c. (frame18-bounds c.frame18_mon_pattern).1
 
 address-most : (a : Address) → address_length a ≤ 37
 address-most Null = omega arith

@@ -1,29 +1,33 @@
 -- The header that was written is the header that is read. Assumes nothing.
+use Rattle.std.proofs.Common.{Option, Some, None}
 use mathlib.Core.Path.{◌≡◌, refl, sym, ap, ◌∙◌}
 use mathlib.Core.List.{List, ◌++◌, append_assoc}
 use Prim.Native.Nat.{ℕ, zero, suc, ◌+◌, ◌≤◌}
 use native.Mathlib.Omega.{arith}
 use lib.ListN.{length, drop}
-use Rattle.bitbuffer.specs.Bits.{written}
+use Rattle.bitbuffer.specs.Bits.{value_bits, field, written}
 use Rattle.bitbuffer.proofs.Laws.{Back, field_back, drop-written}
-use Rattle.optional.specs.declared.OptU8.{OptU8}
 use Rattle.mac_pdus.specs.declared.Address.{Address}
 use Rattle.mac_pdus.specs.declared.Address.TheVariants.{Null, Ssi, EventLabel, Ussi, Smi, SsiEventLabel, SsiUsageMarker, SmiEventLabel}
 use Rattle.mac_pdus.specs.declared.ChanAllocElement.{ChanAllocElement}
-use Rattle.mac_pdus.specs.declared.OptChanAlloc.{OptChanAlloc}
 use Rattle.mac_pdus.specs.declared.ResourceHeader.{ResourceHeader}
-use Rattle.mac_pdus.specs.Headers.{address_type, elements_bits, elements_at, frame18_at, frame18_bits, opt_bits, opt_at, address_bits, address_at, chan_alloc_bits}
+use Rattle.mac_pdus.specs.Headers.{address_type, elements_bits, elements_at, frame18_at, frame18_bits, optional_bits}
+use Rattle.mac_pdus.specs.Headers.{optional_at, opt_bits, opt_at, address_bits, address_at, chan_alloc_bits}
 use Rattle.mac_pdus.specs.Headers.{chan_alloc_at, opt_chan_alloc_bits, opt_chan_alloc_at, fixed_bits, resource_bits, resource_at, header_length}
 use Rattle.mac_pdus.proofs.ReadLaws.{resource_parts, resource-parts}
 use Rattle.mac_pdus.proofs.NextLaws.{resource-next}
 use Rattle.mac_pdus.specs.Within.{Frame18Within, NullWithin, OptWithin, AddressWithin, ChanAllocWithin, OptChanAllocWithin, ResourceWithin}
 
-pub opt-back {ℓ} : {X : Type ℓ} (w : ℕ) (m : OptU8) → OptWithin w m → Back {X = X} (λ l at k. opt_at w l at k) (opt_bits w m) m
-unfolding opt_bits opt_at
-opt-back w OptU8.Absent h l at rest k P e go = field_back 1 0 (omega arith) l at _ _ P e go
-opt-back w (OptU8.Of v) h l at rest k P e go =
+optional-back {ℓ} : {A : Type 0} {X : Type ℓ} (element_at : List ℕ → ℕ → (A → ℕ → X) → X) (bits : A → List ℕ) (m : Option A)
+    → ((v : A) → m ≡ Some v → Back element_at (bits v) v) → Back (λ l at k. optional_at element_at l at k) (optional_bits bits m) m
+optional-back element_at bits None back l at rest k P e go = field_back 1 0 (omega arith) l at _ _ P e go
+optional-back element_at bits (Some v) back l at rest k P e go =
     field_back 1 1 (omega arith) l at _ _ P (simp append_assoc at e) λ a₁ e₁.
-    field_back w v h l a₁ _ _ P e₁ go
+    back v refl l a₁ rest _ P e₁ go
+
+pub opt-back {ℓ} : {X : Type ℓ} (w : ℕ) (m : Option ℕ) → OptWithin w m → Back {X = X} (λ l at k. opt_at w l at k) (opt_bits w m) m
+unfolding opt_bits opt_at
+opt-back w m h = optional-back (λ l at k. field l at w k) (value_bits w) m λ v e. field_back w v (rw e at h)
 
 pub address-back {ℓ} : {X : Type ℓ} (a : Address) → AddressWithin a → Back {X = X} (λ l at k. address_at l at k) (address_bits a) a
 unfolding address_bits address_at
@@ -47,11 +51,11 @@ address-back (SmiEventLabel a v) h l at rest k P e go =
     field_back 24 a h.0 l a₁ _ _ P e₁ λ a₂ e₂. field_back 10 v h.1 l a₂ _ _ P e₂ go
 
 -- ---- the channel allocation
-frame18-back {ℓ} : {X : Type ℓ} (p : ℕ) (f : OptU8) → Frame18Within p f → Back {X = X} (λ l at k. frame18_at p l at k) (frame18_bits f) f
-frame18-back zero OptU8.Absent h l at rest k P e go = absurd (omega arith)
-frame18-back (suc p) OptU8.Absent h l at rest k P e go = go at e
-frame18-back zero (OptU8.Of f) h l at rest k P e go = field_back 2 f h.1 l at _ _ P e go
-frame18-back (suc p) (OptU8.Of f) h l at rest k P e go = absurd (omega (arith, h.0))
+frame18-back {ℓ} : {X : Type ℓ} (p : ℕ) (f : Option ℕ) → Frame18Within p f → Back {X = X} (λ l at k. frame18_at p l at k) (frame18_bits f) f
+frame18-back zero None h l at rest k P e go = absurd (omega arith)
+frame18-back (suc p) None h l at rest k P e go = go at e
+frame18-back zero (Some f) h l at rest k P e go = field_back 2 f h.1 l at _ _ P e go
+frame18-back (suc p) (Some f) h l at rest k P e go = absurd (omega (arith, h.0))
 
 pub chan-alloc-back {ℓ} : {X : Type ℓ} (c : ChanAllocElement) → ChanAllocWithin c → Back {X = X} (λ l at k. chan_alloc_at l at k) (chan_alloc_bits c) c
 unfolding chan_alloc_bits chan_alloc_at
@@ -78,16 +82,16 @@ chan-alloc-back c h l at rest k P e go =
     }) at)
     P e₈ go
 
-pub opt-chan-alloc-back {ℓ} : {X : Type ℓ} (a : OptChanAlloc) → OptChanAllocWithin a → Back {X = X} (λ l at k. opt_chan_alloc_at l at k) (opt_chan_alloc_bits a) a
+pub opt-chan-alloc-back {ℓ} : {X : Type ℓ} (a : Option ChanAllocElement) → OptChanAllocWithin a
+    → Back {X = X} (λ l at k. opt_chan_alloc_at l at k) (opt_chan_alloc_bits a) a
 unfolding opt_chan_alloc_bits opt_chan_alloc_at
-opt-chan-alloc-back OptChanAlloc.Absent h l at rest k P e go = field_back 1 0 (omega arith) l at _ _ P e go
-opt-chan-alloc-back (OptChanAlloc.Of c) h l at rest k P e go =
-    field_back 1 1 (omega arith) l at _ _ P (simp append_assoc at e) λ a₁ e₁.
-    chan-alloc-back c h l a₁ _ _ P e₁ go
+opt-chan-alloc-back a h = optional-back (λ l at k. chan_alloc_at l at k) chan_alloc_bits a λ c e. chan-alloc-back c (rw e at h)
 
 -- ---- the header
-elements-back {ℓ} : {X : Type ℓ} (n : ℕ) (p g : OptU8) (a : OptChanAlloc) → OptWithin 4 p → OptWithin 8 g → OptChanAllocWithin a → NullWithin n p g a
-    → (l : List ℕ) (at : ℕ) (rest : List ℕ) (k : OptU8 → OptU8 → OptChanAlloc → ℕ → X) (P : X → Type 0) → drop at l ≡ elements_bits n p g a ++ rest
+elements-back {ℓ} : {X : Type ℓ} (n : ℕ) (p g : Option ℕ) (a : Option ChanAllocElement) → OptWithin 4 p → OptWithin 8 g
+    → OptChanAllocWithin a → NullWithin n p g a
+    → (l : List ℕ) (at : ℕ) (rest : List ℕ) (k : Option ℕ → Option ℕ → Option ChanAllocElement → ℕ → X) (P : X → Type 0)
+    → drop at l ≡ elements_bits n p g a ++ rest
     → ((after : ℕ) → drop after l ≡ rest → P (k p g a after)) → P (elements_at n l at k)
 unfolding elements_bits elements_at
 elements-back zero p g a hp hg ha h l at rest k P e go = rw (h.0, h.1, h.2) at (go at e)

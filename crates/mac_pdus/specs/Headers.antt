@@ -1,12 +1,10 @@
 -- The headers of the downlink signalling PDUs as rows of fields, and how they are read: EN 300 392-2, clauses 21.4.3.1 to 21.4.3.3, 21.5.2 and 21.5.6;
 -- document 01, section "Block". A field of w bits is `value_bits w`, most significant bit first. Assumes nothing.
-use Rattle.std.specs.Prelude.{ℕ, zero, suc, ◌+◌, List, [], ◌++◌}
+use Rattle.std.specs.Prelude.{ℕ, zero, suc, ◌+◌, List, [], ◌++◌, Option, Some, None}
 use Rattle.bitbuffer.specs.Bits.{value_bits, field}
-use Rattle.optional.specs.declared.OptU8.{OptU8}
 use Rattle.mac_pdus.specs.declared.Address.{Address}
 use Rattle.mac_pdus.specs.declared.Address.TheVariants.{Null, Ssi, EventLabel, Ussi, Smi, SsiEventLabel, SsiUsageMarker, SmiEventLabel}
 use Rattle.mac_pdus.specs.declared.ChanAllocElement.{ChanAllocElement}
-use Rattle.mac_pdus.specs.declared.OptChanAlloc.{OptChanAlloc}
 use Rattle.mac_pdus.specs.declared.ResourceHeader.{ResourceHeader}
 use Rattle.mac_pdus.specs.declared.MacFragDl.{MacFragDl}
 use Rattle.mac_pdus.specs.declared.MacEndDl.{MacEndDl}
@@ -19,12 +17,19 @@ if_zero (suc n) a b = b
 
 -- ---- an optional element: a flag of one bit, then the element if the flag is 1
 
-unfoldable pub opt_bits : ℕ → OptU8 → List ℕ
-opt_bits w OptU8.Absent = value_bits 1 0
-opt_bits w (OptU8.Of v) = value_bits 1 1 ++ value_bits w v
+abbrev pub optional_bits : {A : Type 0} → (A → List ℕ) → Option A → List ℕ
+optional_bits bits None = value_bits 1 0
+optional_bits bits (Some v) = value_bits 1 1 ++ bits v
 
-unfoldable pub opt_at {ℓ} : {X : Type ℓ} → ℕ → List ℕ → ℕ → (OptU8 → ℕ → X) → X
-opt_at w l at k = field l at 1 λ flag at. if_zero flag (k OptU8.Absent at) (field l at w λ v at. k (OptU8.Of v) at)
+abbrev pub optional_at {ℓ} : {A : Type 0} {X : Type ℓ} → (List ℕ → ℕ → (A → ℕ → X) → X) → List ℕ → ℕ → (Option A → ℕ → X) → X
+optional_at element_at l at k = field l at 1 λ flag at. if_zero flag (k None at) (element_at l at λ v at. k (Some v) at)
+
+-- a number of `w` bits
+unfoldable pub opt_bits : ℕ → Option ℕ → List ℕ
+opt_bits w m = optional_bits (value_bits w) m
+
+unfoldable pub opt_at {ℓ} : {X : Type ℓ} → ℕ → List ℕ → ℕ → (Option ℕ → ℕ → X) → X
+opt_at w l at k = optional_at (λ l at k. field l at w k) l at k
 
 -- ---- the address (21.4.3.1, "Address type" and "Address")
 
@@ -68,9 +73,9 @@ address_at l at k = field l at 3 λ t at. address_of t l at k
 -- ---- the channel allocation element (21.5.2)
 
 -- the frame-18 monitoring pattern (2), where there is one
-abbrev pub frame18_bits : OptU8 → List ℕ
-frame18_bits OptU8.Absent = []
-frame18_bits (OptU8.Of f) = value_bits 2 f
+abbrev pub frame18_bits : Option ℕ → List ℕ
+frame18_bits None = []
+frame18_bits (Some f) = value_bits 2 f
 
 -- "channel allocation (25, or 27 with frame-18 pattern, present exactly if the pattern is 0)": allocation type (2), timeslots assigned (4), up/downlink
 -- assigned (2), CLCH permission (1), cell change (1), carrier number (12), extended carrier numbering flag (1; question 6 keeps it 0, so nothing more of
@@ -81,8 +86,8 @@ chan_alloc_bits c =
     ++ (value_bits 1 c.cell_change_flag ++ (value_bits 12 c.carrier_num ++ (value_bits 1 c.ext_carrier_num_flag
     ++ (value_bits 2 c.mon_pattern ++ frame18_bits c.frame18_mon_pattern)))))))
 
-abbrev pub frame18_at {ℓ} : {X : Type ℓ} → ℕ → List ℕ → ℕ → (OptU8 → ℕ → X) → X
-frame18_at pattern l at k = if_zero pattern (field l at 2 λ f at. k (OptU8.Of f) at) (k OptU8.Absent at)
+abbrev pub frame18_at {ℓ} : {X : Type ℓ} → ℕ → List ℕ → ℕ → (Option ℕ → ℕ → X) → X
+frame18_at pattern l at k = if_zero pattern (field l at 2 λ f at. k (Some f) at) (k None at)
 
 unfoldable pub chan_alloc_at {ℓ} : {X : Type ℓ} → List ℕ → ℕ → (ChanAllocElement → ℕ → X) → X
 chan_alloc_at l at k =
@@ -102,12 +107,11 @@ chan_alloc_at l at k =
     })
     at
 
-unfoldable pub opt_chan_alloc_bits : OptChanAlloc → List ℕ
-opt_chan_alloc_bits OptChanAlloc.Absent = value_bits 1 0
-opt_chan_alloc_bits (OptChanAlloc.Of c) = value_bits 1 1 ++ chan_alloc_bits c
+unfoldable pub opt_chan_alloc_bits : Option ChanAllocElement → List ℕ
+opt_chan_alloc_bits a = optional_bits chan_alloc_bits a
 
-unfoldable pub opt_chan_alloc_at {ℓ} : {X : Type ℓ} → List ℕ → ℕ → (OptChanAlloc → ℕ → X) → X
-opt_chan_alloc_at l at k = field l at 1 λ flag at. if_zero flag (k OptChanAlloc.Absent at) (chan_alloc_at l at λ c at. k (OptChanAlloc.Of c) at)
+unfoldable pub opt_chan_alloc_at {ℓ} : {X : Type ℓ} → List ℕ → ℕ → (Option ChanAllocElement → ℕ → X) → X
+opt_chan_alloc_at l at k = optional_at (λ l at k. chan_alloc_at l at k) l at k
 
 -- ---- MAC-RESOURCE (21.4.3.1)
 
@@ -117,12 +121,12 @@ fixed_bits fill position encryption random length =
     value_bits 2 0 ++ (value_bits 1 fill ++ (value_bits 1 position ++ (value_bits 2 encryption ++ (value_bits 1 random ++ value_bits 6 length))))
 
 -- "flags for power control (4), grant (8) and channel allocation": the grant is the octet of 21.5.6. A null, address type 0, ends with its type
-unfoldable pub elements_bits : ℕ → OptU8 → OptU8 → OptChanAlloc → List ℕ
+unfoldable pub elements_bits : ℕ → Option ℕ → Option ℕ → Option ChanAllocElement → List ℕ
 elements_bits type power grant alloc = if_zero type [] (opt_bits 4 power ++ (opt_bits 8 grant ++ opt_chan_alloc_bits alloc))
 
-unfoldable pub elements_at {ℓ} : {X : Type ℓ} → ℕ → List ℕ → ℕ → (OptU8 → OptU8 → OptChanAlloc → ℕ → X) → X
+unfoldable pub elements_at {ℓ} : {X : Type ℓ} → ℕ → List ℕ → ℕ → (Option ℕ → Option ℕ → Option ChanAllocElement → ℕ → X) → X
 elements_at type l at k =
-    if_zero type (k OptU8.Absent OptU8.Absent OptChanAlloc.Absent at)
+    if_zero type (k None None None at)
     (opt_at 4 l at λ power at. opt_at 8 l at λ grant at. opt_chan_alloc_at l at λ alloc at. k power grant alloc at)
 
 unfoldable pub resource_bits : ResourceHeader → List ℕ
@@ -160,9 +164,9 @@ null_header =
       random_access_flag = 0;
       length_ind = 2;
       address = Null;
-      power_control_element = OptU8.Absent;
-      slot_granting_element = OptU8.Absent;
-      chan_alloc_element = OptChanAlloc.Absent;
+      power_control_element = None;
+      slot_granting_element = None;
+      chan_alloc_element = None;
     }
 
 -- ---- MAC-FRAG (21.4.3.2) and MAC-END (21.4.3.3)
@@ -185,9 +189,12 @@ header_bits (PduHeader.End e) = end_bits e
 
 -- ---- how many bits a MAC-RESOURCE header has
 
-abbrev pub opt_length : ℕ → OptU8 → ℕ
-opt_length w OptU8.Absent = 1
-opt_length w (OptU8.Of v) = 1 + w
+abbrev pub optional_length : {A : Type 0} → (A → ℕ) → Option A → ℕ
+optional_length size None = 1
+optional_length size (Some v) = 1 + size v
+
+abbrev pub opt_length : ℕ → Option ℕ → ℕ
+opt_length w m = optional_length (λ v. w) m
 
 abbrev pub address_length : Address → ℕ
 address_length Null = 3
@@ -200,13 +207,12 @@ address_length (SsiUsageMarker a m) = 33
 address_length (SmiEventLabel a e) = 37
 
 -- "channel allocation (25, or 27 with frame-18 pattern, ..)"
-abbrev pub chan_alloc_length : OptU8 → ℕ
-chan_alloc_length OptU8.Absent = 25
-chan_alloc_length (OptU8.Of f) = 27
+abbrev pub chan_alloc_length : Option ℕ → ℕ
+chan_alloc_length None = 25
+chan_alloc_length (Some f) = 27
 
-abbrev pub opt_chan_alloc_length : OptChanAlloc → ℕ
-opt_chan_alloc_length OptChanAlloc.Absent = 1
-opt_chan_alloc_length (OptChanAlloc.Of c) = 1 + chan_alloc_length c.frame18_mon_pattern
+abbrev pub opt_chan_alloc_length : Option ChanAllocElement → ℕ
+opt_chan_alloc_length a = optional_length (λ c. chan_alloc_length c.frame18_mon_pattern) a
 
 unfoldable pub header_length : ResourceHeader → ℕ
 header_length r =

@@ -1,17 +1,15 @@
 -- Headers whose fields have their widths: what can be written, and is read back. Assumes nothing.
-use Rattle.std.specs.Prelude.{◌≡◌, ℕ, ◌^◌, ◌<◌}
-use Rattle.optional.specs.declared.OptU8.{OptU8}
+use Rattle.std.specs.Prelude.{◌≡◌, ℕ, ◌^◌, ◌<◌, Option, Some, None}
 use Rattle.mac_pdus.specs.declared.Address.{Address}
 use Rattle.mac_pdus.specs.declared.Address.TheVariants.{Null, Ssi, EventLabel, Ussi, Smi, SsiEventLabel, SsiUsageMarker, SmiEventLabel}
 use Rattle.mac_pdus.specs.declared.ChanAllocElement.{ChanAllocElement}
-use Rattle.mac_pdus.specs.declared.OptChanAlloc.{OptChanAlloc}
 use Rattle.mac_pdus.specs.declared.ResourceHeader.{ResourceHeader}
 use Rattle.mac_pdus.specs.declared.MacEndDl.{MacEndDl}
 use Rattle.mac_pdus.specs.Headers.{if_zero, address_type}
 
-abbrev pub OptWithin : ℕ → OptU8 → Type 0
-OptWithin w OptU8.Absent = Unit
-OptWithin w (OptU8.Of v) = v < 2 ^ w
+abbrev pub OptWithin : ℕ → Option ℕ → Type 0
+OptWithin w None = Unit
+OptWithin w (Some v) = v < 2 ^ w
 
 abbrev pub AddressWithin : Address → Type 0
 AddressWithin Null = Unit
@@ -24,9 +22,9 @@ AddressWithin (SsiUsageMarker a m) = (a < 2 ^ 24) × (m < 2 ^ 6)
 AddressWithin (SmiEventLabel a e) = (a < 2 ^ 24) × (e < 2 ^ 10)
 
 -- the frame-18 pattern, "present exactly if the pattern is 0"
-abbrev pub Frame18Within : ℕ → OptU8 → Type 0
-Frame18Within pattern OptU8.Absent = 0 < pattern
-Frame18Within pattern (OptU8.Of f) = (pattern ≡ 0) × (f < 2 ^ 2)
+abbrev pub Frame18Within : ℕ → Option ℕ → Type 0
+Frame18Within pattern None = 0 < pattern
+Frame18Within pattern (Some f) = (pattern ≡ 0) × (f < 2 ^ 2)
 
 pub record ChanAllocWithin (c : ChanAllocElement) : Type 0 where
   pub alloc_type : c.alloc_type < 2 ^ 2
@@ -39,13 +37,13 @@ pub record ChanAllocWithin (c : ChanAllocElement) : Type 0 where
   pub mon_pattern : c.mon_pattern < 2 ^ 2
   pub frame18_mon_pattern : Frame18Within c.mon_pattern c.frame18_mon_pattern
 
-abbrev pub OptChanAllocWithin : OptChanAlloc → Type 0
-OptChanAllocWithin OptChanAlloc.Absent = Unit
-OptChanAllocWithin (OptChanAlloc.Of c) = ChanAllocWithin c
+abbrev pub OptChanAllocWithin : Option ChanAllocElement → Type 0
+OptChanAllocWithin None = Unit
+OptChanAllocWithin (Some c) = ChanAllocWithin c
 
 -- a null has no elements
-abbrev pub NullWithin : ℕ → OptU8 → OptU8 → OptChanAlloc → Type 0
-NullWithin type power grant alloc = if_zero type ((power ≡ OptU8.Absent) × (grant ≡ OptU8.Absent) × (alloc ≡ OptChanAlloc.Absent)) Unit
+abbrev pub NullWithin : ℕ → Option ℕ → Option ℕ → Option ChanAllocElement → Type 0
+NullWithin type power grant alloc = if_zero type ((power ≡ None) × (grant ≡ None) × (alloc ≡ None)) Unit
 
 pub record ResourceWithin (r : ResourceHeader) : Type 0 where
   pub fill_bits : r.fill_bits < 2 ^ 1

@@ -114,7 +114,8 @@ block-reads-back o ps s k pos few n f e =
     let inside = fits-inside ps w 0 (omega arith) f in
     let many = fits-few ps w 0 (omega arith) f in
     rw (eq-eqb (length s) o n, eq-eqb (get_or s (o - 1) 0 % 16) 0 (four-zeros s (block_bits ps) k (o - 1) (omega arith) (omega arith) e))
-    (sym (listed-or-not (block_pdus o s)) ∙ ap reply_of (pdus-read-back ps most_pdus w 0 (bits_of (s ++ replicate 14 0)) (replicate k 0 ++ bits_of (replicate 14 0))
+    (sym (listed-or-not (block_pdus o s)) ∙ ap reply_of (pdus-read-back ps most_pdus w 0 (bits_of (s ++ replicate 14 0))
+    (replicate k 0 ++ bits_of (replicate 14 0))
     (omega arith) f
     (bits_of-append s (replicate 14 0) ∙ ap (λ (x : List ℕ). x ++ bits_of (replicate 14 0)) e
     ∙ append_assoc (block_bits ps) (replicate k 0) (bits_of (replicate 14 0)))

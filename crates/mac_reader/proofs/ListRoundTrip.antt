@@ -21,7 +21,8 @@ use Rattle.mac_pdus.specs.declared.MacEndDl.{MacEndDl}
 use Rattle.mac_pdus.specs.Within.{ResourceWithin, EndWithin}
 use Rattle.mac_pdus.specs.Legal.{within_widths, all_absent, legal_parts, legal_fields, legal_to_write, offered, writer_takes}
 use Rattle.mac_pdus.proofs.LegalLaws.{taken-within}
-use Rattle.mac_reader.specs.Reader.{octets_inside, header_end, starts_fragment, well_placed, resource_step, end_step, end_at, fragment_at, pdu_at, headers, before}
+use Rattle.mac_reader.specs.Reader.{octets_inside, header_end, starts_fragment, well_placed, resource_step}
+use Rattle.mac_reader.specs.Reader.{end_step, end_at, fragment_at, pdu_at, headers, before}
 use Rattle.mac_reader.specs.Reader.{read_pdus}
 use Rattle.mac_reader.proofs.Steps.{limit-end, limit-block, at-end, last-read, more-read}
 use Rattle.mac_reader.specs.PduList.{Pdu, whole, first, frag, final, null, header, body, pdu_bits, block_bits, placed, WholeFits, FirstFits, FragFits}

@@ -1,15 +1,14 @@
--- The loop that reads a block, and the one that copies it. Assumes nothing.
+-- The loop that reads a block. Assumes nothing.
 use mathlib.Core.Path.{◌≡◌, refl, sym, ap, ◌∙◌, subst}
 use mathlib.Core.Bool.{Bool, true, false, cond, ◌&&◌, ◌||◌}
 use mathlib.Core.List.{List, [], ◌∷◌, ◌++◌, append-nil}
 use Prim.Native.Nat.{ℕ, zero, suc, ◌+◌, ◌-◌, ◌*◌, ◌≤◌, ◌<◌}
 use native.Mathlib.Nat.{zero-add, suc-add}
-use native.Mathlib.Numerals.{add-one}
 use native.Mathlib.Omega.{arith}
-use lib.ListN.{length, get_or, take, drop, set, replicate, length-append}
-use lib.Seq.{append_snoc, set_at, take_all, paste-suc}
+use lib.ListN.{length, set, replicate, length-append}
+use lib.Seq.{append_snoc, set_at}
 use lib.Dec.{ltb, leb, eqb}
-use Rattle.sizes.specs.Sizes.{block_width, block_octets}
+use Rattle.sizes.specs.Sizes.{block_width}
 use Rattle.bitbuffer.specs.Bits.{bits_value, part, field}
 use Rattle.mac_pdus.specs.declared.ResourceHeader.{ResourceHeader}
 use Rattle.mac_pdus.specs.Headers.{if_zero, address_type}
@@ -124,9 +123,9 @@ module _ (w : ℕ) (l : List ℕ) (pdus : List PlacedHeader) (n at : ℕ) (g : G
       reply g.ds pdus n g.size g.holds
       ∙ ap reply_of (ap headers (sym (append-nil g.ds)) ∙ ap (listed_after g.ds) (sym (at-end (most_pdus - n) w l at h)) ∙ sym g.left)
 
-  pub got-full : most_pdus ≤ n → reading 0 n pdus ≡ reply_of (read_pdus most_pdus w l 0)
+  pub got-full : most_pdus ≤ n → reading 0 most_pdus pdus ≡ reply_of (read_pdus most_pdus w l 0)
   got-full h =
-      reply g.ds pdus n g.size g.holds
+      ap (λ (m : ℕ). reading 0 m pdus) (let few = g.few in omega arith) ∙ reply g.ds pdus n g.size g.holds
       ∙ ap reply_of (ap headers (sym (append-nil g.ds)) ∙ ap (listed_after g.ds) (sym (none_left (most_pdus - n) w l at (omega arith))) ∙ sym g.left)
 
   pub got-refused : n < most_pdus → at + 16 ≤ w → pdu_at w l at ≡ Malformed → no_headers 12 ≡ reply_of (read_pdus most_pdus w l 0)
@@ -166,20 +165,10 @@ module _ (w : ℕ) (l : List ℕ) (pdus : List PlacedHeader) (n at : ℕ) (g : G
             ∙ listed-after-one g.ds p (read_pdus (most_pdus - (n + 1)) w l next);
       }
 
--- ---- the copy
-
-pub copy_more : (s d : List ℕ) (i : ℕ) → i < length s → i < length d → set (take i s ++ drop i d) i (get_or s i 0) ≡ take (i + 1) s ++ drop (i + 1) d
-copy_more s d i hs hd = rw add-one (simp zero-add at (paste-suc d 0 s i 0 (rw zero-add hd) hs))
-
-pub copied : (s pad : List ℕ) (i : ℕ) → length s ≡ block_octets → i ≤ block_octets → block_octets ≤ i → pad ≡ take i s ++ drop i (replicate (block_octets + 14) 0)
-    → pad ≡ s ++ replicate 14 0
-copied s pad i n a b e =
-    let q : i ≡ block_octets = omega arith in
-    e ∙ ap (λ (k : ℕ). take k s ++ drop k (replicate (block_octets + 14) 0)) q ∙ ap (λ (r : List ℕ). r ++ replicate 14 0) (take_all block_octets s (omega arith))
-
 -- ---- sixteen are enough: each PDU that is not the last takes 16 bits or more
 
-same_step : (s : PduStep) (w at : ℕ) (j k : ℕ → Listing) → Onward w at s → ((next : ℕ) → at + most_pdus ≤ next → j next ≡ k next) → on_step s at j ≡ on_step s at k
+same_step : (s : PduStep) (w at : ℕ) (j k : ℕ → Listing) → Onward w at s
+    → ((next : ℕ) → at + most_pdus ≤ next → j next ≡ k next) → on_step s at j ≡ on_step s at k
 same_step Malformed w at j k o h = refl
 same_step (Last x) w at j k o h = refl
 same_step (More x next) w at j k o h = ap (before (record { at = at; header = x })) (h next o.0)

@@ -1,5 +1,7 @@
 -- What the block reader lists and refuses (document 01, section "Block" and questions 2 and 12). Assumes nothing.
-use Rattle.std.specs.Prelude.{Bool, true, false, cond, not, ◌&&◌, ◌||◌, ℕ, zero, suc, ◌+◌, ◌-◌, ◌*◌, ◌%◌, List, [], ◌∷◌, ◌++◌, length, get_or, replicate, ltb, leb, eqb}
+use Rattle.std.specs.Prelude.{Bool, true, false, cond, not, ◌&&◌, ◌||◌, ℕ, zero, suc, ◌+◌, ◌-◌, ◌*◌}
+use Rattle.std.specs.Prelude.{◌%◌, List, [], ◌∷◌, ◌++◌, length, get_or, replicate, ltb, leb, eqb, Result, Ok, Err}
+use Rattle.questions.specs.declared.Refusal.{Refusal}
 use Rattle.questions.specs.Questions.{Question, question, refusal_number, ask}
 use Rattle.bitbuffer.specs.Bits.{bits_of, field}
 use Rattle.mac_pdus.specs.declared.ResourceHeader.{ResourceHeader}
@@ -10,7 +12,6 @@ use Rattle.mac_pdus.specs.Legal.{writer_takes}
 use Rattle.mac_reader.specs.declared.PduStep.{PduStep}
 use Rattle.mac_reader.specs.declared.PduStep.TheVariants.{Malformed, Last, More}
 use Rattle.mac_reader.specs.declared.PlacedHeader.{PlacedHeader}
-use Rattle.mac_reader.specs.declared.ReadOutcome.{ReadOutcome}
 use Rattle.mac_reader.specs.declared.BlockHeaders.{BlockHeaders}
 
 -- ---- question 12: one PDU, from bit `at` of a block of `w` bits
@@ -110,14 +111,6 @@ pub record Reading : Type 0 where
 abbrev pub reading : ℕ → ℕ → List PlacedHeader → Reading
 reading n count ps = record { number = n; count = count; headers = ps }
 
--- "When an answer is an enum, a definition gives this paper's number and values for each of its cases."
-abbrev pub outcome_number : ReadOutcome → ℕ
-outcome_number ReadOutcome.Listed = 0
-outcome_number (ReadOutcome.Refused r) = refusal_number r
-
-abbrev pub reading_of : BlockHeaders → Reading
-reading_of b = reading (outcome_number b.outcome) b.count b.headers
-
 -- what fills the list behind its last header
 abbrev pub no_header : PlacedHeader
 no_header = record { at = 0; header = PduHeader.Frag (record { fill_bits = 0 }) }
@@ -125,6 +118,11 @@ no_header = record { at = 0; header = PduHeader.Frag (record { fill_bits = 0 }) 
 -- "On a no, the number is the whole reply"
 abbrev pub no_headers : ℕ → Reading
 no_headers n = reading n 0 (replicate most_pdus no_header)
+
+-- "When an answer is an enum, a definition gives this paper's number and values for each of its cases."
+abbrev pub reading_of : Result BlockHeaders Refusal → Reading
+reading_of (Ok b) = reading 0 b.count b.headers
+reading_of (Err r) = no_headers (refusal_number r)
 
 abbrev pub reply_of : Listing → Reading
 reply_of refused = no_headers 12

@@ -1,10 +1,8 @@
 -- Which headers stand in the bits of a block, by the bits that are written for each: nothing here reads a field (document 01, section "Block" and
 -- question 12). Assumes nothing.
-use Rattle.std.specs.Prelude.{◌≡◌, true, ◌⊎◌, List, [], ◌∷◌, ℕ, ◌+◌, ◌*◌, ◌≤◌, ◌<◌, length, replicate}
+use Rattle.std.specs.Prelude.{◌≡◌, true, ◌⊎◌, List, [], ◌∷◌, ℕ, ◌+◌, ◌*◌, ◌≤◌, ◌<◌, length, replicate, None}
 use Rattle.bitbuffer.specs.Bits.{part}
-use Rattle.optional.specs.declared.OptU8.{OptU8}
 use Rattle.mac_pdus.specs.declared.Address.{Address}
-use Rattle.mac_pdus.specs.declared.OptChanAlloc.{OptChanAlloc}
 use Rattle.mac_pdus.specs.declared.ResourceHeader.{ResourceHeader}
 use Rattle.mac_pdus.specs.declared.MacEndDl.{MacEndDl}
 use Rattle.mac_pdus.specs.declared.PduHeader.{PduHeader}
@@ -85,7 +83,7 @@ null_of code =
       random_access_flag = 0;
       length_ind = code;
       address = Address.Null;
-      power_control_element = OptU8.Absent;
-      slot_granting_element = OptU8.Absent;
-      chan_alloc_element = OptChanAlloc.Absent;
+      power_control_element = None;
+      slot_granting_element = None;
+      chan_alloc_element = None;
     }

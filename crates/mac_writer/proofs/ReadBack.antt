@@ -1,4 +1,5 @@
 -- THE ROUND TRIP of one header: what the header writer wrote is read as the header that was offered, GSSI and ISSI as SSI. Assumes nothing.
+use Rattle.std.proofs.Common.{Ok}
 use mathlib.Core.Path.{◌≡◌, sym, ap, ◌∙◌}
 use mathlib.Core.Bool.{true}
 use mathlib.Core.List.{List}
@@ -14,7 +15,6 @@ use Rattle.mac_pdus.specs.Legal.{on_air, offered, as_read, writer_takes}
 use Rattle.mac_pdus.proofs.LengthLaws.{header-size}
 use Rattle.mac_pdus.proofs.LegalLaws.{legal-within, to_write, offered-again, taken-on-air}
 use Rattle.mac_pdus.proofs.RoundTrip.{header-back}
-use Rattle.mac_writer.specs.declared.WriteReply.{WriteReply}
 use Rattle.mac_writer.specs.Writer.{WrittenAs}
 use Rattle.mac_writer.proofs.WriterLaws.{was-taken, room-true}
 
@@ -27,7 +27,7 @@ pub record ReadsBack (t : List ℕ) (at : ℕ) (h : MacResource) (next : ℕ) : 
   -- and which the block reader takes for a header
   pub taken : writer_takes (on_air h) ≡ true
 
-pub written-reads-back : (s t : List ℕ) (at : ℕ) (h : MacResource) (next : ℕ) → WrittenAs s at h (WriteReply.Next next) t → ReadsBack t at h next
+pub written-reads-back : (s t : List ℕ) (at : ℕ) (h : MacResource) (next : ℕ) → WrittenAs s at h (Ok next) t → ReadsBack t at h next
 written-reads-back s t at h next w =
     let k = was-taken s at h next w.replies in
     let r = room-true (length s) at (header_length (on_air h)) k.room in

@@ -1,14 +1,15 @@
 -- The header writer's reply, case by case. Assumes nothing.
+use Rattle.std.proofs.Common.{Ok, Err}
 use mathlib.Core.Path.{◌≡◌, refl, sym, ap, ◌∙◌, subst}
-use mathlib.Core.Bool.{Bool, true, false}
+use mathlib.Core.Bool.{true, false}
 use mathlib.Core.List.{List, [], ◌∷◌}
-use Prim.Native.Nat.{ℕ, ◌+◌, ◌-◌, ◌*◌, ◌/◌, ◌%◌, ◌^◌, ◌<◌, ◌≤◌}
+use Prim.Native.Nat.{ℕ, ◌+◌, ◌*◌, ◌^◌, ◌<◌, ◌≤◌}
 use native.Mathlib.Omega.{arith}
 use lib.ListN.{length, get_or}
 use lib.Dec.{ltb, leb}
-use borrow.Author.Tests.{ltb-true, leb-true, leb-false, lt-ltb, le-ltb, le-leb, lt-leb}
+use borrow.Author.Tests.{ltb-true, leb-true, lt-ltb, le-ltb}
 use Rattle.questions.specs.declared.Refusal.{Refusal}
-use Rattle.questions.specs.Questions.{refusal_number}
+use Rattle.questions.specs.Questions.{refusal_number, reply}
 use Rattle.questions.proofs.AskLaws.{FirstYes, nth, first-no, every-yes, ask-elim}
 use Rattle.bitbuffer.specs.Bits.{bits_of, written, Wrote}
 use Rattle.mac_pdus.specs.declared.MacResource.{MacResource}
@@ -19,8 +20,7 @@ use Rattle.mac_pdus.specs.Headers.{resource_bits, header_length}
 use Rattle.mac_pdus.specs.Legal.{legal_to_write, on_air}
 use Rattle.mac_pdus.proofs.Conjunctions.{and2}
 use Rattle.mac_pdus.proofs.LengthLaws.{header-size}
-use Rattle.mac_writer.specs.declared.WriteReply.{WriteReply}
-use Rattle.mac_writer.specs.Writer.{reply, room_for, write_questions, write_reply, bits_after, WrittenAs}
+use Rattle.mac_writer.specs.Writer.{room_for, write_questions, write_reply, bits_after, WrittenAs}
 
 -- ---- question 11
 
@@ -34,48 +34,33 @@ room-true octets at n h =
     let p = and2 (ltb (at + n) (2 ^ 64)) (leb (at + n) (8 * octets)) h in
     record { number = ltb-true (at + n) (2 ^ 64) p.0; inside = leb-true (at + n) (8 * octets) p.1 }
 
--- as code asks it: by octets, where no sum passes 64 bits
-pub room-over : (octets at n : ℕ) → n ≤ 92 → 18446744073709551615 - n < at → false ≡ room_for octets at n
-unfolding room_for
-room-over octets at n h k = let q : ltb (at + n) (2 ^ 64) ≡ false = le-ltb (at + n) (2 ^ 64) (omega arith) in rw q
-
-pub room-test : (octets at n : ℕ) → n ≤ 92 → at ≤ 18446744073709551615 - n → leb (at / 8 + (at % 8 + n + 7) / 8) octets ≡ room_for octets at n
-unfolding room_for
-room-test octets at n h k =
-    let q : ltb (at + n) (2 ^ 64) ≡ true = lt-ltb (at + n) (2 ^ 64) (omega arith) in
-    rw q (go (leb (at / 8 + (at % 8 + n + 7) / 8) octets) refl)
-  where
-    go : (b : Bool) → leb (at / 8 + (at % 8 + n + 7) / 8) octets ≡ b → b ≡ leb (at + n) (8 * octets)
-    go true e = let p = leb-true (at / 8 + (at % 8 + n + 7) / 8) octets e in sym (le-leb (at + n) (8 * octets) (omega arith))
-    go false e = let p = leb-false (at / 8 + (at % 8 + n + 7) / 8) octets e in sym (lt-leb (at + n) (8 * octets) (omega arith))
-
 -- ---- the reply
 
 -- the first no is the whole reply, and the octets are as they were
 refused-written : (s : List ℕ) (at : ℕ) (h : MacResource) (k : ℕ) (r : Refusal)
     → let qs = write_questions (length s) at h in
-    FirstYes k qs → (nth k qs).holds ≡ false → refusal_number r ≡ (nth k qs).number → WrittenAs s at h (WriteReply.Refused r) s
+    FirstYes k qs → (nth k qs).holds ≡ false → refusal_number r ≡ (nth k qs).number → WrittenAs s at h (Err r) s
 unfolding write_reply bits_after
 refused-written s at h k r past other e =
     let qs = write_questions (length s) at h in
     record { replies = ap (λ (n : ℕ). n ∷ []) e ∙ first-no _ _ k qs past other; bits = first-no _ _ k qs past other }
 
-pub refused-address : (s : List ℕ) (at : ℕ) (h : MacResource) → 16777216 ≤ h.number → WrittenAs s at h (WriteReply.Refused Refusal.Address) s
+pub refused-address : (s : List ℕ) (at : ℕ) (h : MacResource) → 16777216 ≤ h.number → WrittenAs s at h (Err Refusal.Address) s
 refused-address s at h k = refused-written s at h 0 Refusal.Address tt (le-ltb h.number 16777216 k) refl
 
 pub refused-header : (s : List ℕ) (at : ℕ) (h : MacResource) → h.number < 16777216 → legal_to_write h ≡ false
-    → WrittenAs s at h (WriteReply.Refused Refusal.Header) s
+    → WrittenAs s at h (Err Refusal.Header) s
 refused-header s at h k l = refused-written s at h 1 Refusal.Header (tt, lt-ltb h.number 16777216 k) l refl
 
 pub refused-room : (s : List ℕ) (at : ℕ) (h : MacResource) (r : ResourceHeader) (n : ℕ) → h.number < 16777216 → legal_to_write h ≡ true → r ≡ on_air h
     → n ≡ header_length r
-    → room_for (length s) at n ≡ false → WrittenAs s at h (WriteReply.Refused Refusal.NoRoom) s
+    → room_for (length s) at n ≡ false → WrittenAs s at h (Err Refusal.NoRoom) s
 refused-room s at h r n k l er en lacks =
     let room : room_for (length s) at (header_length (on_air h)) ≡ false = ap (room_for (length s) at) (sym (en ∙ ap header_length er)) ∙ lacks in
     refused-written s at h 2 Refusal.NoRoom ((tt, lt-ltb h.number 16777216 k), l) room refl
 
 pub header-written : (s t : List ℕ) (at : ℕ) (h : MacResource) (r : ResourceHeader) (n next : ℕ) → h.number < 16777216 → legal_to_write h ≡ true → r ≡ on_air h
-    → n ≡ header_length r → room_for (length s) at n ≡ true → Wrote (bits_of s) at (bits_of t) next (resource_bits r) → WrittenAs s at h (WriteReply.Next next) t
+    → n ≡ header_length r → room_for (length s) at n ≡ true → Wrote (bits_of s) at (bits_of t) next (resource_bits r) → WrittenAs s at h (Ok next) t
 unfolding write_reply bits_after
 header-written s t at h r n next k l er en has w =
     let room : room_for (length s) at (header_length (on_air h)) ≡ true = ap (room_for (length s) at) (sym (en ∙ ap header_length er)) ∙ has in
@@ -102,7 +87,7 @@ pub record TakenHeader (s : List ℕ) (at : ℕ) (h : MacResource) (next : ℕ) 
 never : {X : Type 0} (next n : ℕ) → 0 ∷ next ∷ [] ≡ n ∷ [] → X
 never next n e = let z = ap length e in absurd (omega arith)
 
-pub was-taken : (s : List ℕ) (at : ℕ) (h : MacResource) (next : ℕ) → reply (WriteReply.Next next) ≡ write_reply (length s) at h → TakenHeader s at h next
+pub was-taken : (s : List ℕ) (at : ℕ) (h : MacResource) (next : ℕ) → reply (Ok next) ≡ write_reply (length s) at h → TakenHeader s at h next
 unfolding write_reply bits_after
 was-taken s at h next =
     ask-elim (λ (r : List ℕ). 0 ∷ next ∷ [] ≡ r → TakenHeader s at h next) (write_questions (length s) at h) _ _

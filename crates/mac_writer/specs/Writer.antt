@@ -1,16 +1,11 @@
--- The header writer's reply, and what it does to its buffer (document 01, questions 5, 6 and 11). Assumes nothing.
-use Rattle.std.specs.Prelude.{◌≡◌, Bool, ◌&&◌, ℕ, ◌+◌, ◌*◌, ◌^◌, List, [], ◌∷◌, length, ltb, leb}
-use Rattle.questions.specs.Questions.{Question, question, refusal_number, ask}
+-- What the header writer answers, and what it does to its buffer (document 01, questions 5, 6 and 11). Assumes nothing.
+use Rattle.std.specs.Prelude.{◌≡◌, Bool, ◌&&◌, ℕ, ◌+◌, ◌*◌, ◌^◌, List, [], ◌∷◌, length, ltb, leb, Result}
+use Rattle.questions.specs.declared.Refusal.{Refusal}
+use Rattle.questions.specs.Questions.{Question, question, ask, reply}
 use Rattle.bitbuffer.specs.Bits.{bits_of, written}
 use Rattle.mac_pdus.specs.declared.MacResource.{MacResource}
 use Rattle.mac_pdus.specs.Headers.{resource_bits, header_length}
 use Rattle.mac_pdus.specs.Legal.{fits, legal_to_write, on_air}
-use Rattle.mac_writer.specs.declared.WriteReply.{WriteReply}
-
--- document 01's number of each reply, and after a 0 its value, the position after the header: "On a no, the number is the whole reply"
-abbrev pub reply : WriteReply → List ℕ
-reply (WriteReply.Refused x) = refusal_number x ∷ []
-reply (WriteReply.Next n) = 0 ∷ n ∷ []
 
 -- question 5: "number below 2^24". Every kind of address that can be named here may be offered
 abbrev pub number_fits : MacResource → Bool
@@ -37,6 +32,6 @@ unfoldable pub bits_after : List ℕ → ℕ → MacResource → List ℕ
 bits_after s at h = ask (write_questions (length s) at h) (written (bits_of s) at (resource_bits (on_air h))) (λ n. bits_of s)
 
 -- the header writer's promise: the octets `s` become `t`
-pub record WrittenAs (s : List ℕ) (at : ℕ) (h : MacResource) (answer : WriteReply) (t : List ℕ) : Type 0 where
+pub record WrittenAs (s : List ℕ) (at : ℕ) (h : MacResource) (answer : Result ℕ Refusal) (t : List ℕ) : Type 0 where
   pub replies : reply answer ≡ write_reply (length s) at h
   pub bits : bits_of t ≡ bits_after s at h

@@ -1,5 +1,5 @@
 -- Document 01, "Questions put to each call": their numbers, and how they are asked. Assumes nothing.
-use Rattle.std.specs.Prelude.{Bool, cond, List, [], ◌∷◌, ℕ}
+use Rattle.std.specs.Prelude.{Bool, cond, List, [], ◌∷◌, ℕ, Result, Ok, Err}
 use Rattle.questions.specs.declared.Refusal.{Refusal}
 
 -- "When an answer is an enum, a definition gives this paper's number and values for each of its cases.": "No: 1." to "No: 12."
@@ -16,6 +16,11 @@ refusal_number Refusal.NoRun = 9
 refusal_number Refusal.TooLate = 10
 refusal_number Refusal.NoRoom = 11
 refusal_number Refusal.Malformed = 12
+
+-- "On a no, the number is the whole reply": a reply with a value in its numbers, 0 and the value where every answer is yes
+abbrev pub reply : Result ℕ Refusal → List ℕ
+reply (Ok n) = 0 ∷ n ∷ []
+reply (Err r) = refusal_number r ∷ []
 
 -- a question: is the answer yes, and what is the number of the refusal if not
 pub record Question : Type 0 where

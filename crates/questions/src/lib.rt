@@ -5,38 +5,27 @@ ghost use Rattle.std.specs.Prelude.{◌≡◌};
 ghost use Rattle.questions.specs.Questions.{refusal_number};
 
 // The question that was answered no. No call asks them all.
-#[derive(Clone, Copy)]
+#[derive(Clone, Copy, Debug, PartialEq, Eq)]
 pub enum Refusal {
-    Unsound,
-    Lengths,
-    Timeslot,
-    Requirement,
-    Address,
-    Header,
-    Sdu,
-    QueueFull,
-    NoRun,
-    TooLate,
-    NoRoom,
-    Malformed,
+    Unsound = 1,
+    Lengths = 2,
+    Timeslot = 3,
+    Requirement = 4,
+    Address = 5,
+    Header = 6,
+    Sdu = 7,
+    QueueFull = 8,
+    NoRun = 9,
+    TooLate = 10,
+    NoRoom = 11,
+    Malformed = 12,
 }
 
 // Document 01's number of a refusal.
-pub fn number(r: Refusal) -> u8
-    ensures { result ≡ refusal_number r }
-{
-    match r {
-        Refusal::Unsound => 1,
-        Refusal::Lengths => 2,
-        Refusal::Timeslot => 3,
-        Refusal::Requirement => 4,
-        Refusal::Address => 5,
-        Refusal::Header => 6,
-        Refusal::Sdu => 7,
-        Refusal::QueueFull => 8,
-        Refusal::NoRun => 9,
-        Refusal::TooLate => 10,
-        Refusal::NoRoom => 11,
-        Refusal::Malformed => 12,
+impl From<Refusal> for u8 {
+    ghost from_gives = { λ r n. n ≡ refusal_number r };
+
+    fn from(r: Refusal) -> u8 {
+        r as u8
     }
 }

@@ -1,15 +1,14 @@
 -- Laws of reservation requirements: code and case are inverse. Assumes nothing.
-use mathlib.Core.Path.{◌≡◌, refl, sym, ap, ◌∙◌}
-use mathlib.Core.Bool.{Bool, true, false, cond}
+use mathlib.Core.Path.{◌≡◌, refl}
+use mathlib.Core.Bool.{true, false}
 use Prim.Native.Nat.{ℕ, ◌≤◌, ◌<◌}
-use native.Mathlib.Omega.{arith}
 use lib.Dec.{leb, lit<}
 use lib.ListN.{take}
-use borrow.Author.Tests.{leb-true}
 use Rattle.slot_codes.proofs.TableLaws.{past-the-last, agree-below}
-use Rattle.slot_codes.proofs.CodesLaws.{numbers-read}
+use Rattle.slot_codes.proofs.CodesLaws.{code-read-back, code-reads, code-unread}
 use Rattle.reservation_requirement.specs.declared.ReservationRequirement.{ReservationRequirement}
-use Rattle.reservation_requirement.specs.declared.RequirementRead as requirement
+use Rattle.slot_codes.specs.declared.UnknownCode.{UnknownCode}
+use Rattle.std.proofs.Common.{Ok, Err}
 use Rattle.reservation_requirement.specs.Requirement.{requirements, requirement_at, requirement_code, requirement_read}
 
 -- every number from 15 on is read as the last case
@@ -46,27 +45,12 @@ pub requirement-code-of-read : (code : ℕ) → code < 16 → requirement_code (
 requirement-code-of-read = agree-below (λ k. requirement_code (requirement_at k)) (λ k. k) 16 refl
 
 -- what was coded is read back
-pub requirement-read-back : (r : ReservationRequirement) → requirement_read (requirement_code r) ≡ requirement.TheVariants.Of r
-requirement-read-back r =
-    numbers-read requirement.TheVariants.Of requirement.TheVariants.Unknown requirement_at (requirement_code r) (requirement-code-below-16 r)
-    ∙ ap requirement.TheVariants.Of (requirement-of-its-code r)
+pub requirement-read-back : (r : ReservationRequirement) → requirement_read (requirement_code r) ≡ Ok r
+requirement-read-back r = code-read-back requirement_at requirement_code r (requirement-code-below-16 r) (requirement-of-its-code r)
 
 -- a number that is read as a case is a code, that of the case; one that is not is none
-pub requirement-reads : (x : ℕ) (r : ReservationRequirement) → requirement_read x ≡ requirement.TheVariants.Of r → (leb x 15 ≡ true) × (requirement_code r ≡ x)
-requirement-reads x r e = go (leb x 15) refl e
-  where
-    go : (b : Bool) → leb x 15 ≡ b → cond b (requirement.TheVariants.Of (requirement_at x)) requirement.TheVariants.Unknown ≡ requirement.TheVariants.Of r
-        → (leb x 15 ≡ true) × (requirement_code r ≡ x)
-    go true h e =
-        let same : requirement_at x ≡ r = cc in
-        let low : x ≤ 15 = leb-true x 15 h in
-        (h, ap requirement_code (sym same) ∙ requirement-code-of-read x (omega arith))
-    go false h e = absurd (let z : ◌≡◌ {A = ℕ} 0 1 = cc in omega arith)
+pub requirement-reads : (x : ℕ) (r : ReservationRequirement) → requirement_read x ≡ Ok r → (leb x 15 ≡ true) × (requirement_code r ≡ x)
+requirement-reads = code-reads requirement_at requirement_code requirement-code-of-read
 
-pub requirement-unread : (x : ℕ) → requirement_read x ≡ requirement.TheVariants.Unknown → leb x 15 ≡ false
-requirement-unread x e = go (leb x 15) refl e
-  where
-    go : (b : Bool) → leb x 15 ≡ b → cond b (requirement.TheVariants.Of (requirement_at x)) requirement.TheVariants.Unknown ≡ requirement.TheVariants.Unknown
-        → leb x 15 ≡ false
-    go true h e = absurd (let z : ◌≡◌ {A = ℕ} 0 1 = cc in omega arith)
-    go false h e = h
+pub requirement-unread : (x : ℕ) (u : UnknownCode) → requirement_read x ≡ Err u → leb x 15 ≡ false
+requirement-unread = code-unread requirement_at requirement_code

@@ -1,5 +1,5 @@
 -- Document 01, "Request and grant": the reservation requirements and their codes. EN 300 392-2, clause 21.5.4. Assumes nothing.
-use Rattle.std.specs.Prelude.{cond, List, [], ◌∷◌, ℕ, leb, get_or}
+use Rattle.std.specs.Prelude.{List, [], ◌∷◌, ℕ, get_or, Result}
 use Rattle.reservation_requirement.specs.declared.ReservationRequirement.{ReservationRequirement}
 use Rattle.reservation_requirement.specs.declared.ReservationRequirement.TheVariants.{
   Req1Subslot,
@@ -19,7 +19,8 @@ use Rattle.reservation_requirement.specs.declared.ReservationRequirement.TheVari
   Req68Slots,
   ReqOver68,
 }
-use Rattle.reservation_requirement.specs.declared.RequirementRead as requirement
+use Rattle.slot_codes.specs.Codes.{code_read}
+use Rattle.slot_codes.specs.declared.UnknownCode.{UnknownCode}
 
 -- "Requirement codes 0–15: one half-slot; [..] over 68"; clause 21.5.4
 abbrev pub requirement_code : ReservationRequirement → ℕ
@@ -66,5 +67,5 @@ abbrev pub requirement_at : ℕ → ReservationRequirement
 requirement_at code = get_or requirements code ReqOver68
 
 -- "Requirement code 0–15? No: 4": what a number is read as; past 15 it is no code
-abbrev pub requirement_read : ℕ → requirement.RequirementRead
-requirement_read x = cond (leb x 15) (requirement.TheVariants.Of (requirement_at x)) requirement.TheVariants.Unknown
+abbrev pub requirement_read : ℕ → Result ReservationRequirement UnknownCode
+requirement_read = code_read requirement_at

@@ -7,11 +7,10 @@ use native.Mathlib.Omega.{arith}
 use lib.Dec.{eqb, ltb}
 use lib.ListN.{length, get_or, set, take, drop, replicate, length-drop}
 use lib.Seq.{paste, get_or-take}
-use borrow.Author.Tests.{eq-eqb, leb-true}
+use borrow.Author.Tests.{eq-eqb}
 use Rattle.sizes.specs.Sizes.{timeslots, per_timeslot, queue_places, cell_octets, store_octets, block_width, block_octets}
 use Rattle.tdma_time.specs.Time.{Valid, usable}
 use Rattle.tdma_time.proofs.TimeLaws.{slot_of-timeslot, slot_of-frame}
-use Rattle.uplink.proofs.Everywhere.{all-at}
 use Rattle.dl_record.specs.declared.Record.{Record}
 use Rattle.dl_record.specs.Record.{empty_record}
 use Rattle.dl_queue.specs.Queue.{records_of}
@@ -26,30 +25,18 @@ use Rattle.dl_build.proofs.ArrangeLaws.{paste-rest}
 use Rattle.dl_build.proofs.BuildLaws.{built-few, built-own}
 use Rattle.sched_core.specs.declared.Station.{Station}
 use Rattle.sched_core.specs.Station.{with_queued}
-use Rattle.sched_core.specs.Questions.{Memory, memory, sound_count, sound_station, memory_questions, build_lent}
+use Rattle.sched_core.specs.Questions.{Memory, memory, sound_station, memory_questions, build_lent}
 use Rattle.sched_core.specs.Replies.{Numbered}
 use Rattle.sched_core.specs.Calls.{BuildOutcome, not_built, current, builds_now, built_now, block_built, build_call}
 use Rattle.questions.proofs.AskLaws.{every-yes}
 use Rattle.sched_core.proofs.QuestionLaws.{right-lengths}
-use Rattle.sched_core.proofs.StationLaws.{station-parts, sound-time}
+use Rattle.sched_core.proofs.StationLaws.{sound-time, current-low}
 
 -- frame and timeslot as the time shows them
 pub builds-now : (s : Station) → Valid s.uplink.time
     → not (eqb s.uplink.time.f 18) && ltb 0 (get_or s.queued (s.uplink.time.t - 1) 0) ≡ builds_now s
 unfolding builds_now usable
 builds-now s v = rw (slot_of-frame s.uplink.time v, slot_of-timeslot s.uplink.time v)
-
-pub current-is : (s : Station) → Valid s.uplink.time → s.uplink.time.t - 1 ≡ current s
-current-is s v = ap (λ (n : ℕ). n - 1) (sym (slot_of-timeslot s.uplink.time v))
-
-pub current-low : (s : Station) → Valid s.uplink.time → current s < timeslots
-current-low s v = omega (arith, current-is s v, v.t-low, v.t-high)
-
-pub count-few : (s : Station) → sound_station s ≡ true → (t : ℕ) → t < length s.queued → get_or s.queued t 0 ≤ per_timeslot
-count-few s e t h = leb-true (get_or s.queued t 0) per_timeslot (all-at sound_count s.queued t 0 h (station-parts s e).counts)
-
-pub few-now : (s : Station) → sound_station s ≡ true → length s.queued ≡ timeslots → get_or s.queued (current s) 0 ≤ per_timeslot
-few-now s e four = count-few s e (current s) (omega (arith, four, current-low s (sound-time s e)))
 
 -- ---- the timeslot's own records
 

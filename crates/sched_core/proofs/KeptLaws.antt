@@ -1,4 +1,6 @@
 -- Every call keeps a sound memory sound, and a new station's memory is sound. Assumes nothing.
+use Rattle.std.proofs.lemmas.Bool.{and_parts}
+use Rattle.std.proofs.Common.{Option, Some, None, Result, Ok, Err}
 use mathlib.Core.Path.{◌≡◌, refl, sym, ap, ◌∙◌}
 use mathlib.Core.Bool.{Bool, true, false, cond}
 use mathlib.Core.List.{List, [], ◌∷◌, ◌++◌}
@@ -9,15 +11,13 @@ use lib.ListN.{length, get_or, take, drop, replicate, length-set, length-replica
 use lib.Seq.{take_at, drop_at, length-paste}
 use borrow.Author.Tests.{leb-true, le-leb, lt-ltb, le-ltb}
 use Rattle.lists.proofs.Every.{all-weaken}
+use Rattle.questions.specs.declared.Refusal.{Refusal}
 use Rattle.sizes.specs.Sizes.{cell_octets, per_timeslot, queue_places, store_octets, timeslot_octets, timeslots, latest_delay}
-use Rattle.optional.specs.declared.OptU8.{OptU8}
-use Rattle.optional.specs.declared.OptU16.{OptU16}
-use Rattle.optional.proofs.Tests.{and_right}
 use Rattle.tdma_time.specs.declared.TdmaTime.{TdmaTime}
 use Rattle.tdma_time.specs.Time.{Valid}
 use Rattle.slot_codes.specs.Codes.{grant_octet}
 use Rattle.uplink.specs.declared.CapAnswer.{CapAnswer}
-use Rattle.uplink.specs.declared.CapReply.{CapReply}
+use Rattle.uplink.specs.declared.Grant.{Grant}
 use Rattle.uplink.specs.declared.Uplink.{Uplink}
 use Rattle.uplink.specs.UplinkEntry.{FourRowsOfEighteen, sound_counter, sound_counters}
 use Rattle.uplink.specs.Request.{Request, draws, marker_of, answer}
@@ -212,7 +212,7 @@ module _ (m : Memory) (t : ℕ) (h : SoundMemory m) (low : 1 ≤ t) (high : t �
       joined (ack_record kind n) m.store m.station.uplink p.shape p.four-counters p.uplink h.cells h.octets
       (ack-joins ns m.records m.store (t - 1) inside room places cells h.queue kind n h.octets a).sound
 
-  tma-joined : (kind n : ℕ) (tag : OptU16) (header : QueuedHeader) (bits : ℕ) (sdu : List ℕ) → legal_address kind n ≡ true
+  tma-joined : (kind n : ℕ) (tag : Option ℕ) (header : QueuedHeader) (bits : ℕ) (sdu : List ℕ) → legal_address kind n ≡ true
       → legal_offered (resource_of (offered_record kind n tag header bits) 0 0) ≡ true → present_sdu bits sdu ≡ true
       → SoundMemory (with_sdu m t (offered_record kind n tag header bits) sdu)
   tma-joined kind n tag header bits sdu a l s =
@@ -225,30 +225,29 @@ module _ (m : Memory) (t : ℕ) (h : SoundMemory m) (low : 1 ≤ t) (high : t �
 
   module _ (kind n : ℕ) (address : legal_address kind n ≡ true) (a : CapAnswer) (shape : FourRowsOfEighteen a.uplink.rows)
       (four-ms : length a.uplink.next_usage_marker ≡ timeslots) (sound : sound_uplink a.uplink ≡ true) where
-    grant-joined : (cap delay : ℕ) (mk : OptU8) → cap ≤ 15 → delay ≤ latest_delay → opt_fits 6 mk ≡ true
-        → SoundMemory (grant_queued m t kind n a (CapReply.Granted cap delay mk)).memory
+    grant-joined : (g : Grant) → g.capacity ≤ 15 → g.delay ≤ latest_delay → opt_fits 6 g.usage_marker ≡ true
+        → SoundMemory (grant_queued m t kind n a (Ok g)).memory
     unfolding grant_queued
-    grant-joined cap delay mk c d w =
-        joined (grant_record kind n (grant_octet cap delay) mk) m.store a.uplink shape four-ms sound h.cells h.octets
-        (grant-joins ns m.records m.store (t - 1) inside room places cells h.queue kind n (grant_octet cap delay) mk h.octets address
-        (lt-ltb (grant_octet cap delay) (2 ^ 8) (omega (arith, c, d))) w).sound
+    grant-joined g c d w =
+        let octet = grant_octet g.capacity g.delay in
+        joined (grant_record kind n octet g.usage_marker) m.store a.uplink shape four-ms sound h.cells h.octets
+        (grant-joins ns m.records m.store (t - 1) inside room places cells h.queue kind n octet g.usage_marker h.octets address
+        (lt-ltb octet (2 ^ 8) (omega (arith, c, d))) w).sound
 
-    answer-joined : (x : CapReply) → ((cap delay : ℕ) (mk : OptU8) → x ≡ CapReply.Granted cap delay mk
-        → (cap ≤ 15) × (delay ≤ latest_delay) × (opt_fits 6 mk ≡ true))
+    answer-joined : (x : Result Grant Refusal) → ((g : Grant) → x ≡ Ok g → (g.capacity ≤ 15) × (g.delay ≤ latest_delay) × (opt_fits 6 g.usage_marker ≡ true))
         → SoundMemory (grant_queued m t kind n a x).memory
     unfolding grant_queued
-    answer-joined CapReply.NoRun f = h
-    answer-joined CapReply.TooLate f = h
-    answer-joined (CapReply.Granted cap delay mk) f = let g = f cap delay mk refl in grant-joined cap delay mk g.0 g.1 g.2
+    answer-joined (Err r) f = h
+    answer-joined (Ok g) f = let k = f g refl in grant-joined g k.0 k.1 k.2
 
 module _ (ms : List ℕ) (r : Request) where
   -- a marker drawn from sound counters has six bits
-  drawn-fits : (b : Bool) → sound_counter (get_or ms (r.timeslot - 1) 0) ≡ true → opt_fits 6 (cond b (OptU8.Of (get_or ms (r.timeslot - 1) 0)) OptU8.Absent) ≡ true
+  drawn-fits : (b : Bool) → sound_counter (get_or ms (r.timeslot - 1) 0) ≡ true → opt_fits 6 (cond b (Some (get_or ms (r.timeslot - 1) 0)) None) ≡ true
   drawn-fits true e =
       lt-ltb (get_or ms (r.timeslot - 1) 0) (2 ^ 6) (omega (
         arith,
         leb-true (get_or ms (r.timeslot - 1) 0) 62
-            (and_right (leb 4 (get_or ms (r.timeslot - 1) 0)) (leb (get_or ms (r.timeslot - 1) 0) 62) e),
+            ((and_parts (leb 4 (get_or ms (r.timeslot - 1) 0)) (leb (get_or ms (r.timeslot - 1) 0) 62) e).1),
       ))
   drawn-fits false e = refl
 
@@ -266,7 +265,7 @@ ack-keeps m t kind n h =
     let ts = timeslot-range t yes.1.1.1.0 in
     ack-joined m t h ts.0 ts.1 (room-left (queued_for m.station.queued t) yes.1.1.1.1.1.0) kind n yes.1.1.1.1.0)
 
-pub tma-keeps : (m : Memory) (t kind n : ℕ) (tag : OptU16) (header : QueuedHeader) (bits : ℕ) (sdu : List ℕ) → SoundMemory m
+pub tma-keeps : (m : Memory) (t kind n : ℕ) (tag : Option ℕ) (header : QueuedHeader) (bits : ℕ) (sdu : List ℕ) → SoundMemory m
     → SoundMemory (tma_call m t kind n tag header bits sdu).memory
 unfolding tma_call
 tma-keeps m t kind n tag header bits sdu h =
@@ -300,8 +299,8 @@ request-keeps m t code kind n h =
     answer-joined m t h ts.0 ts.1 (room-left (queued_for m.station.queued t) yes.1.1.1.1.1.1.0) kind n yes.1.1.1.1.1.0
     (answer u r) (answer-shape u r p.shape) (answer-four u r ∙ p.four-counters) (granted-exactly u r good).sound
     (answer u r).reply
-    (λ cap delay mk e.
-    let k = grant-holds u r cap delay mk e in
+    (λ g e.
+    let k = grant-holds u r g e in
     let counters = (uplink-parts u p.uplink).counters in
     (k.cap-fits, k.delay-fits, rw k.marker-drawn (marker-fits u.next_usage_marker r p.four-counters counters ts.0 ts.1))))
 

@@ -1,29 +1,34 @@
 -- What each question tells where it is answered yes. Assumes nothing.
-use mathlib.Core.Path.{◌≡◌}
-use mathlib.Core.Bool.{true, false}
+use Rattle.std.proofs.lemmas.Bool.{and_parts}
+use Rattle.std.proofs.Common.{Result, Ok, Err}
+use mathlib.Core.Path.{◌≡◌, refl}
+use mathlib.Core.Bool.{Bool, true, false, cond}
 use mathlib.Core.List.{List, [], ◌∷◌, ◌++◌}
-use Prim.Native.Nat.{ℕ, ◌-◌, ◌*◌, ◌^◌, ◌≤◌, ◌<◌}
+use Prim.Native.Nat.{ℕ, ◌*◌, ◌^◌, ◌≤◌, ◌<◌}
 use native.Mathlib.Omega.{arith}
 use lib.Dec.{leb, ltb, eqb}
 use lib.ListN.{length}
 use borrow.Author.Tests.{leb-true, ltb-true, eqb-true, eq-eqb, ne_eqb}
 use Rattle.sizes.specs.Sizes.{timeslots, per_timeslot, queue_places, store_octets, sdu_bits}
+use Rattle.questions.specs.declared.Refusal.{Refusal}
 use Rattle.questions.specs.Questions.{Question, ask}
 use Rattle.questions.proofs.AskLaws.{AllYes, Positive, yes-between}
-use Rattle.optional.proofs.Tests.{and_left, and_right}
 use Rattle.dl_record.specs.Questions.{legal_address, present_sdu}
 use Rattle.sched_core.specs.Questions.{Memory, asks_lengths, asks_queue, memory_questions, legal_timeslot, has_room}
+
+-- a question that let the call pass was answered yes
+pub asked-yes : (b : Bool) (q : Refusal) {x : Unit {0}} {r : Result (Unit {0}) Refusal} → r ≡ cond b (Ok tt) (Err q) → r ≡ Ok x → b ≡ true
+asked-yes true q e h = refl
+asked-yes false q e h = absurd (cc)
 
 -- question 2
 pub right-lengths : (m : Memory) → length m.records ≡ queue_places → length m.store ≡ store_octets → (asks_lengths m).holds ≡ true
 right-lengths m a b = rw (eq-eqb _ _ a, eq-eqb _ _ b)
 
 pub lengths-right : (m : Memory) → (asks_lengths m).holds ≡ true → (length m.records ≡ queue_places) × (length m.store ≡ store_octets)
-lengths-right m h = (
-  eqb-true _ _ (and_left (eqb (length m.records) queue_places) (eqb (length m.store) store_octets) h),
-  eqb-true _ _
-      (and_right (eqb (length m.records) queue_places) (eqb (length m.store) store_octets) h),
-)
+lengths-right m h =
+    let both = and_parts (eqb (length m.records) queue_places) (eqb (length m.store) store_octets) h in
+    (eqb-true _ _ both.0, eqb-true _ _ both.1)
 
 pub other-places : (m : Memory) → (length m.records ≡ queue_places → ⊥) → (asks_lengths m).holds ≡ false
 other-places m other = rw (ne_eqb _ _ other)
@@ -33,18 +38,19 @@ other-octets m a other = rw (eq-eqb _ _ a, ne_eqb _ _ other)
 
 -- question 3
 pub timeslot-range : (t : ℕ) → legal_timeslot t ≡ true → (1 ≤ t) × (t ≤ timeslots)
-timeslot-range t h = (leb-true 1 t (and_left (leb 1 t) (leb t timeslots) h), leb-true t timeslots (and_right (leb 1 t) (leb t timeslots) h))
+timeslot-range t h = let both = and_parts (leb 1 t) (leb t timeslots) h in (leb-true 1 t both.0, leb-true t timeslots both.1)
 
 -- question 5
 pub address-number : (kind n : ℕ) → legal_address kind n ≡ true → n < 2 ^ 24
 unfolding legal_address
-address-number kind n h = ltb-true _ _ (and_right (leb kind 2) (ltb n (2 ^ 24)) h)
+address-number kind n h = ltb-true _ _ (and_parts (leb kind 2) (ltb n (2 ^ 24)) h).1
 
 -- question 7
 pub sdu-range : (bits : ℕ) (sdu : List ℕ) → present_sdu bits sdu ≡ true → (bits ≤ sdu_bits) × (bits ≤ 8 * length sdu)
 unfolding present_sdu
 sdu-range bits sdu h =
-    (leb-true _ _ (and_left (leb bits sdu_bits) (leb bits (8 * length sdu)) h), leb-true _ _ (and_right (leb bits sdu_bits) (leb bits (8 * length sdu)) h))
+    let both = and_parts (leb bits sdu_bits) (leb bits (8 * length sdu)) h in
+    (leb-true _ _ both.0, leb-true _ _ both.1)
 
 -- question 8
 pub room-left : (queued : ℕ) → has_room queued ≡ true → queued < per_timeslot

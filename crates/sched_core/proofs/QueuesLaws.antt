@@ -1,4 +1,5 @@
 -- What each call that queues leaves, whatever the memory. Assumes nothing.
+use Rattle.std.proofs.Common.{Option, Result, Ok, Err}
 use mathlib.Core.Path.{◌≡◌, refl}
 use mathlib.Core.Bool.{true, false}
 use mathlib.Core.List.{List, [], ◌++◌}
@@ -6,10 +7,10 @@ use Prim.Native.Nat.{ℕ, ◌-◌, ◌*◌, ◌≤◌, ◌<◌}
 use native.Mathlib.Omega.{arith}
 use lib.ListN.{length, get_or, length-set}
 use lib.Seq.{length-paste}
+use Rattle.questions.specs.declared.Refusal.{Refusal}
 use Rattle.sizes.specs.Sizes.{timeslots, per_timeslot, cell_octets, store_octets}
-use Rattle.optional.specs.declared.OptU16.{OptU16}
 use Rattle.uplink.specs.declared.CapAnswer.{CapAnswer}
-use Rattle.uplink.specs.declared.CapReply.{CapReply}
+use Rattle.uplink.specs.declared.Grant.{Grant}
 use Rattle.uplink.proofs.Basics.{not-both}
 use Rattle.dl_record.specs.declared.Record.{Record}
 use Rattle.dl_record.specs.declared.QueuedHeader.{QueuedHeader}
@@ -49,11 +50,10 @@ module _ (m : Memory) (t code kind n : ℕ) where
   abbrev Requested : Outcome → Type 0
   Requested o = CountRises m t o.memory (is_done o.reply)
 
-  grant-queues : (a : CapAnswer) (x : CapReply) → Requested (grant_queued m t kind n a x)
+  grant-queues : (a : CapAnswer) (x : Result Grant Refusal) → Requested (grant_queued m t kind n a x)
   unfolding grant_queued
-  grant-queues a CapReply.NoRun = nothing-queued m t
-  grant-queues a CapReply.TooLate = nothing-queued m t
-  grant-queues a (CapReply.Granted cap delay marker) =
+  grant-queues a (Err r) = nothing-queued m t
+  grant-queues a (Ok g) =
       record { count = refl; refusal = λ e. not-both true refl e; places = length-set m.records (next_place m.station.queued (t - 1)) _; cells = refl }
 
   pub request-queues : Requested (request_call m t code kind n)
@@ -72,7 +72,7 @@ module _ (m : Memory) (t kind n : ℕ) where
       ask-elim Done (memory_questions m [] ++ ack_questions (queued_for m.station.queued t) t kind n) _ _ (λ r. nothing-queued m t)
       (λ yes. record-queued m t (ack_record kind n))
 
-  pub tma-queues : (tag : OptU16) (header : QueuedHeader) (bits : ℕ) (sdu : List ℕ) → Done (tma_call m t kind n tag header bits sdu)
+  pub tma-queues : (tag : Option ℕ) (header : QueuedHeader) (bits : ℕ) (sdu : List ℕ) → Done (tma_call m t kind n tag header bits sdu)
   unfolding tma_call
   tma-queues tag header bits sdu =
       ask-elim Done (memory_questions m [] ++ tma_questions (queued_for m.station.queued t) t (offered_record kind n tag header bits) sdu) _ _

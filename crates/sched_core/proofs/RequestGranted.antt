@@ -1,4 +1,5 @@
 -- The theorem of demand 2 at the call: `request-granted-exactly`. Assumes nothing.
+use Rattle.std.proofs.Common.{Option, None, Result, Ok, Err}
 use mathlib.Core.Path.{◌≡◌, refl, sym, ap, ◌∙◌}
 use mathlib.Core.Logic.{◌↔◌}
 use mathlib.Core.Bool.{Bool, true, false}
@@ -7,16 +8,17 @@ use Prim.Native.Nat.{ℕ, ◌-◌, ◌≤◌, ◌<◌}
 use native.Mathlib.Omega.{arith}
 use borrow.Author.Tests.{eqb-true, le-leb, lt-ltb}
 use Rattle.sizes.specs.Sizes.{timeslots, latest_delay}
-use Rattle.questions.specs.Questions.{Question}
+use Rattle.questions.specs.declared.Refusal.{Refusal}
+use Rattle.questions.specs.Questions.{Question, refusal_number}
 use Rattle.questions.proofs.AskLaws.{FirstYes, nth, first-no, every-yes}
-use Rattle.optional.specs.declared.OptU8.{OptU8}
+use Rattle.questions.proofs.NumberLaws.{number-positive, number-tells}
 use Rattle.slot_codes.specs.Codes.{wants_half}
 use Rattle.uplink.specs.declared.CapAnswer.{CapAnswer}
-use Rattle.uplink.specs.declared.CapReply.{CapReply}
+use Rattle.uplink.specs.declared.Grant.{Grant}
 use Rattle.uplink.specs.declared.Uplink.{Uplink}
 use Rattle.uplink.specs.HalfSlot.{first_half, vacant}
 use Rattle.uplink.specs.UplinkEntry.{table_view}
-use Rattle.uplink.specs.Request.{Request, marker_of, answer}
+use Rattle.uplink.specs.Request.{Request, marker_of, granted_reply, answer}
 use Rattle.uplink.specs.GrantedExactly.{FreeFrom, EarliestFrom, slot_of_run, Reserved, Proper, GrantedExactly}
 use Rattle.uplink.proofs.AnswerLaws.{answer-shape, marker-none}
 use Rattle.uplink.proofs.GrantedExactly.{granted-exactly}
@@ -111,7 +113,7 @@ module _ (m : Memory) (t code kind n : ℕ) where
         sym (every-yes (request_answered m t code kind n) (λ x. outcome (Numbered.refused x) m) questions
         ((((sound-first may.sound, legal), le-leb code 15 may.requirement), may.address), lt-ltb _ _ may.room))
 
-    answered : (x : CapReply) → a.reply ≡ x → o ≡ grant_queued m t kind n a x
+    answered : (x : Result Grant Refusal) → a.reply ≡ x → o ≡ grant_queued m t kind n a x
     answered x e = passes ∙ ap (grant_queued m t kind n a) e
 
     -- ---- a grant
@@ -123,23 +125,23 @@ module _ (m : Memory) (t code kind n : ℕ) where
       abbrev cap : ℕ
       cap = capacity_at u r i
 
-      abbrev marker : OptU8
+      abbrev marker : Option ℕ
       marker = marker_of u.next_usage_marker r
 
       -- the reply of the search, by one definition of the capacity
-      reply-is : a.reply ≡ CapReply.Granted cap i marker
+      reply-is : a.reply ≡ granted_reply cap i marker
       reply-is = go (wants_half code) refl (vacant (table_view u.rows (slot_of_run u r i 0) first_half)) refl
         where
-          unmarked-half : wants_half code ≡ true → marker ≡ OptU8.Absent
+          unmarked-half : wants_half code ≡ true → marker ≡ None
           unmarked-half e = (marker-none u.next_usage_marker r (let z : code ≡ 0 = eqb-true _ _ e in rw z (omega arith))).0
 
           go : (b : Bool) → wants_half code ≡ b → (v : Bool) → vacant (table_view u.rows (slot_of_run u r i 0) first_half) ≡ v
-              → a.reply ≡ CapReply.Granted cap i marker
+              → a.reply ≡ granted_reply cap i marker
           go false e v ev = has.whole-reply e ∙ rw e
           go true e true ev = (has.first-half e ev).0 ∙ rw (e, ev, unmarked-half e)
           go true e false ev = (has.second-half e ev).0 ∙ rw (e, ev, unmarked-half e)
 
-      outcome-is : o ≡ grant_queued m t kind n a (CapReply.Granted cap i marker)
+      outcome-is : o ≡ grant_queued m t kind n a (granted_reply cap i marker)
       outcome-is = answered _ reply-is
 
       granted-run : GrantedRun m kind r o i
@@ -161,32 +163,30 @@ module _ (m : Memory) (t code kind n : ℕ) where
 
     -- ---- and only then
 
-    only_then : (c d : ℕ) (k : OptU8) → GrantedWith o c d k → EarliestFrom u r d × (d ≤ latest_delay)
+    only_then : (c d : ℕ) (k : Option ℕ) → GrantedWith o c d k → EarliestFrom u r d × (d ≤ latest_delay)
     unfolding grant_queued
     only_then c d k e = go a.reply refl (rw passes at e)
       where
-        go : (x : CapReply) → a.reply ≡ x → GrantedWith (grant_queued m t kind n a x) c d k → EarliestFrom u r d × (d ≤ latest_delay)
-        go (CapReply.Granted c' d' k') f g = let same : d' ≡ d = ap delay_in g in rw (← same) (exactly.only_then c' d' k' f)
-        go CapReply.NoRun f g = absurd (let z : ◌≡◌ {A = ℕ} 9 0 = ap reply_number g in omega arith)
-        go CapReply.TooLate f g = absurd (let z : ◌≡◌ {A = ℕ} 10 0 = ap reply_number g in omega arith)
+        go : (x : Result Grant Refusal) → a.reply ≡ x → GrantedWith (grant_queued m t kind n a x) c d k → EarliestFrom u r d × (d ≤ latest_delay)
+        go (Ok g) f h = let same : g.delay ≡ d = ap delay_in h in rw (← same) (exactly.only_then g.capacity g.delay g.usage_marker f)
+        go (Err r) f h = absurd (let z : ◌≡◌ {A = ℕ} (refusal_number r) 0 = ap reply_number h in omega (arith, number-positive r))
+
+    -- the search refuses with k where the request is refused with its number
+    refused-by : (k : Refusal) → RefusedWith m o (refusal_number k) → a.reply ≡ Err k
+    unfolding grant_queued
+    refused-by k e = go a.reply refl (sym passes ∙ e)
+      where
+        go : (x : Result Grant Refusal) → a.reply ≡ x → RefusedWith m (grant_queued m t kind n a x) (refusal_number k) → a.reply ≡ Err k
+        go (Ok g) f h = absurd (let z : ◌≡◌ {A = ℕ} 0 (refusal_number k) = ap number_in h in omega (arith, number-positive k))
+        go (Err r) f h = f ∙ ap (λ (x : Refusal). Err x) (number-tells r k (ap number_in h))
 
     no-run : RefusedWith m o 9 ↔ ((i : ℕ) → FreeFrom u r i → ⊥)
     unfolding grant_queued
-    no-run = (λ e. exactly.no-run.0 (there a.reply refl (sym passes ∙ e)), λ h. answered CapReply.NoRun (exactly.no-run.1 h))
-      where
-        there : (x : CapReply) → a.reply ≡ x → RefusedWith m (grant_queued m t kind n a x) 9 → a.reply ≡ CapReply.NoRun
-        there (CapReply.Granted c d k) f g = absurd (let z : ◌≡◌ {A = ℕ} 0 9 = ap number_in g in omega arith)
-        there CapReply.NoRun f g = f
-        there CapReply.TooLate f g = absurd (let z : ◌≡◌ {A = ℕ} 10 9 = ap number_in g in omega arith)
+    no-run = (λ e. exactly.no-run.0 (refused-by Refusal.NoRun e), λ h. answered (Err Refusal.NoRun) (exactly.no-run.1 h))
 
     too-late : RefusedWith m o 10 ↔ ((i : ℕ) × EarliestFrom u r i × (latest_delay < i))
     unfolding grant_queued
-    too-late = (λ e. exactly.too-late.0 (there a.reply refl (sym passes ∙ e)), λ h. answered CapReply.TooLate (exactly.too-late.1 h))
-      where
-        there : (x : CapReply) → a.reply ≡ x → RefusedWith m (grant_queued m t kind n a x) 10 → a.reply ≡ CapReply.TooLate
-        there (CapReply.Granted c d k) f g = absurd (let z : ◌≡◌ {A = ℕ} 0 10 = ap number_in g in omega arith)
-        there CapReply.NoRun f g = absurd (let z : ◌≡◌ {A = ℕ} 9 10 = ap number_in g in omega arith)
-        there CapReply.TooLate f g = f
+    too-late = (λ e. exactly.too-late.0 (refused-by Refusal.TooLate e), λ h. answered (Err Refusal.TooLate) (exactly.too-late.1 h))
 
 -- of any memory, and whatever the request
 pub request-granted-exactly : (m : Memory) (t code kind n : ℕ) → Demand2AtCall m t code kind n

@@ -1,16 +1,16 @@
 -- Document 01: each call as its whole outcome, the reply and the memory after it. Assumes nothing.
-use Rattle.std.specs.Prelude.{Bool, ◌&&◌, cond, List, [], ◌∷◌, ◌++◌, ℕ, ◌-◌, ltb, get_or, replicate}
+use Rattle.std.specs.Prelude.{Bool, ◌&&◌, cond, List, [], ◌∷◌, ◌++◌, ℕ, ◌-◌, ltb, get_or, replicate, Option, Result, Ok, Err}
 use Rattle.sizes.specs.Sizes.{queue_places, store_octets, block_octets}
+use Rattle.questions.specs.declared.Refusal.{Refusal}
 use Rattle.questions.specs.Questions.{Question, ask}
-use Rattle.optional.specs.declared.OptU16.{OptU16}
 use Rattle.tdma_time.specs.declared.TdmaTime.{TdmaTime}
 use Rattle.tdma_time.specs.Time.{slot_of, timeslot, usable}
 use Rattle.slot_codes.specs.Codes.{grant_octet}
 use Rattle.uplink.specs.declared.PhyBlockNum.{PhyBlockNum}
 use Rattle.uplink.specs.declared.CapAnswer.{CapAnswer}
-use Rattle.uplink.specs.declared.CapReply.{CapReply}
+use Rattle.uplink.specs.declared.Grant.{Grant}
 use Rattle.uplink.specs.UplinkEntry.{entry_at, owner_of}
-use Rattle.uplink.specs.Request.{cap_number, answer}
+use Rattle.uplink.specs.Request.{answer}
 use Rattle.mac_reader.specs.PduList.{block_bits}
 use Rattle.dl_record.specs.declared.Record.{Record}
 use Rattle.dl_record.specs.declared.QueuedHeader.{QueuedHeader}
@@ -23,7 +23,7 @@ use Rattle.sched_core.specs.declared.Station.{Station}
 use Rattle.sched_core.specs.Station.{station_of, new_station, advanced_station, with_queued}
 use Rattle.sched_core.specs.Questions.{Memory, memory, asks_station, queued_for, memory_questions, request_questions, ack_questions, tma_questions, build_lent}
 use Rattle.sched_core.specs.Questions.{time_questions}
-use Rattle.sched_core.specs.Replies.{Numbered, used_as}
+use Rattle.sched_core.specs.Replies.{Numbered, request_reply, used_as}
 
 -- ---- calls on the station alone
 
@@ -81,12 +81,11 @@ with_sdu m t r sdu =
 
 -- "Reference: `ul_process_cap_req`, then `dl_enqueue_grant`.": questions 9 and 10, then the grant is queued, and the uplink is
 -- that of the answer
-unfoldable pub grant_queued : Memory → ℕ → ℕ → ℕ → CapAnswer → CapReply → Outcome
-grant_queued m t kind n a CapReply.NoRun = outcome (Numbered.refused (cap_number CapReply.NoRun)) m
-grant_queued m t kind n a CapReply.TooLate = outcome (Numbered.refused (cap_number CapReply.TooLate)) m
-grant_queued m t kind n a (CapReply.Granted capacity delay marker) =
-    let q = enqueued m.station.queued m.records (t - 1) (grant_record kind n (grant_octet capacity delay) marker) in
-    outcome (Numbered.granted capacity delay marker) (memory (station_of a.uplink q.counts) q.records m.store)
+unfoldable pub grant_queued : Memory → ℕ → ℕ → ℕ → CapAnswer → Result Grant Refusal → Outcome
+grant_queued m t kind n a (Err r) = outcome (request_reply (Err r)) m
+grant_queued m t kind n a (Ok g) =
+    let q = enqueued m.station.queued m.records (t - 1) (grant_record kind n (grant_octet g.capacity g.delay) g.usage_marker) in
+    outcome (request_reply (Ok g)) (memory (station_of a.uplink q.counts) q.records m.store)
 
 -- what a request is answered that questions 1 to 8 let pass
 unfoldable pub request_answered : Memory → ℕ → ℕ → ℕ → ℕ → Outcome
@@ -105,7 +104,7 @@ ack_call m t kind n =
     judged m (ack_questions (queued_for m.station.queued t) t kind n) (outcome Numbered.done (with_record m t (ack_record kind n)))
 
 -- queue a record
-unfoldable pub tma_call : Memory → ℕ → ℕ → ℕ → OptU16 → QueuedHeader → ℕ → List ℕ → Outcome
+unfoldable pub tma_call : Memory → ℕ → ℕ → ℕ → Option ℕ → QueuedHeader → ℕ → List ℕ → Outcome
 tma_call m t kind n tag header bits sdu =
     let r = offered_record kind n tag header bits in
     judged m (tma_questions (queued_for m.station.queued t) t r sdu) (outcome Numbered.done (with_sdu m t r sdu))

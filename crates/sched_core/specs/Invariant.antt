@@ -1,7 +1,6 @@
 -- What every call keeps: a memory that questions 1 and 2 let pass stays one. Assumes nothing.
-use Rattle.std.specs.Prelude.{◌≡◌, Bool, true, false, cond, List, ℕ, ◌+◌, ◌-◌, ◌^◌, ◌<◌, length, get_or, set}
+use Rattle.std.specs.Prelude.{◌≡◌, Bool, true, false, cond, List, ℕ, ◌+◌, ◌-◌, ◌^◌, ◌<◌, length, get_or, set, Option}
 use Rattle.sizes.specs.Sizes.{timeslots, queue_places, store_octets}
-use Rattle.optional.specs.declared.OptU16.{OptU16}
 use Rattle.tdma_time.specs.declared.TdmaTime.{TdmaTime}
 use Rattle.tdma_time.specs.Time.{Valid}
 use Rattle.uplink.specs.UplinkEntry.{FourRowsOfEighteen}
@@ -28,7 +27,7 @@ pub record EveryCallKeeps : Type 0 where
   pub advance : (m : Memory) → SoundMemory m → SoundMemory (advance_memory m).memory
   pub request : (m : Memory) (t code kind n : ℕ) → SoundMemory m → SoundMemory (request_call m t code kind n).memory
   pub ack : (m : Memory) (t kind n : ℕ) → SoundMemory m → SoundMemory (ack_call m t kind n).memory
-  pub tma : (m : Memory) (t kind n : ℕ) (tag : OptU16) (header : QueuedHeader) (bits : ℕ) (sdu : List ℕ) → SoundMemory m
+  pub tma : (m : Memory) (t kind n : ℕ) (tag : Option ℕ) (header : QueuedHeader) (bits : ℕ) (sdu : List ℕ) → SoundMemory m
       → SoundMemory (tma_call m t kind n tag header bits sdu).memory
   pub build : (m : Memory) (block : List ℕ) → SoundMemory m → SoundMemory (build_call m block).memory
 
@@ -58,5 +57,5 @@ pub record CountRises (m : Memory) (t : ℕ) (after : Memory) (done : Bool) : Ty
 pub record EveryCountRises : Type 0 where
   pub request : (m : Memory) (t code kind n : ℕ) → let o = request_call m t code kind n in CountRises m t o.memory (is_done o.reply)
   pub ack : (m : Memory) (t kind n : ℕ) → let o = ack_call m t kind n in CountRises m t o.memory (is_done o.reply)
-  pub tma : (m : Memory) (t kind n : ℕ) (tag : OptU16) (header : QueuedHeader) (bits : ℕ) (sdu : List ℕ)
+  pub tma : (m : Memory) (t kind n : ℕ) (tag : Option ℕ) (header : QueuedHeader) (bits : ℕ) (sdu : List ℕ)
       → let o = tma_call m t kind n tag header bits sdu in CountRises m t o.memory (is_done o.reply)

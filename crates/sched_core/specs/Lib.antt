@@ -4,3 +4,4 @@ pub mod Replies
 pub mod Calls
 pub mod Invariant
 pub mod RequestGranted
+pub mod Answers

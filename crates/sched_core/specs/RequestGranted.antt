@@ -1,7 +1,6 @@
 -- Demand 2 at the call: what a request is answered, whatever it is given, and what it alters. Assumes nothing.
-use Rattle.std.specs.Prelude.{◌≡◌, ◌↔◌, true, false, not, List, [], ◌∷◌, ◌++◌, ℕ, ◌-◌, ◌≤◌, ◌<◌, leb, get_or, set}
+use Rattle.std.specs.Prelude.{◌≡◌, ◌↔◌, true, false, not, List, [], ◌∷◌, ◌++◌, ℕ, ◌-◌, ◌≤◌, ◌<◌, leb, get_or, set, Option}
 use Rattle.sizes.specs.Sizes.{timeslots, per_timeslot, latest_delay}
-use Rattle.optional.specs.declared.OptU8.{OptU8}
 use Rattle.slot_codes.specs.Codes.{capacity_for, grant_octet}
 use Rattle.uplink.specs.declared.Uplink.{Uplink}
 use Rattle.uplink.specs.HalfSlot.{first_half, vacant}
@@ -26,7 +25,7 @@ abbrev pub RefusedWith : Memory → Outcome → ℕ → Type 0
 RefusedWith m o n = o ≡ outcome (Numbered.refused n) m
 
 -- a grant of this capacity, with this delay and this marker or none
-abbrev pub GrantedWith : Outcome → ℕ → ℕ → OptU8 → Type 0
+abbrev pub GrantedWith : Outcome → ℕ → ℕ → Option ℕ → Type 0
 GrantedWith o capacity delay marker = o.reply ≡ Numbered.granted capacity delay marker
 
 -- ---- the questions, "in this order"
@@ -99,7 +98,7 @@ pub record RequestGranted (m : Memory) (kind : ℕ) (r : Request) (o : Outcome) 
   -- where the earliest run has at most 13 usable slots before it, it is granted
   pub granted : (i : ℕ) → EarliestFrom m.station.uplink r i → i ≤ latest_delay → GrantedRun m kind r o i
   -- and a request is granted only then
-  pub only_then : (capacity delay : ℕ) (marker : OptU8) → GrantedWith o capacity delay marker
+  pub only_then : (capacity delay : ℕ) (marker : Option ℕ) → GrantedWith o capacity delay marker
       → EarliestFrom m.station.uplink r delay × (delay ≤ latest_delay)
   -- "9. Does the run exist? No: 9.": exactly when there is none
   pub no-run : RefusedWith m o 9 ↔ ((i : ℕ) → FreeFrom m.station.uplink r i → ⊥)

@@ -1,4 +1,6 @@
 -- A call's plan, question by question. Assumes nothing.
+use Rattle.std.specs.Prelude.{IfOk}
+use Rattle.std.proofs.Common.{Option, Result, Ok, Err}
 use mathlib.Core.Path.{◌≡◌, refl, sym, ap, ◌∙◌, subst}
 use mathlib.Core.Bool.{Bool, true, false, cond}
 use mathlib.Core.List.{List, [], ◌∷◌}
@@ -11,7 +13,6 @@ use Rattle.questions.specs.declared.Refusal.{Refusal}
 use Rattle.questions.specs.Questions.{Question, question, refusal_number, ask}
 use Rattle.questions.proofs.AskLaws.{nth, FirstYes, AllYes, Positive, first-no, every-yes, ask-both}
 use Rattle.questions.proofs.NumberLaws.{number-positive}
-use Rattle.optional.specs.declared.OptU16.{OptU16}
 use Rattle.uplink.specs.declared.Uplink.{Uplink}
 use Rattle.dl_record.specs.declared.Record.{Record}
 use Rattle.dl_record.specs.declared.QueuedHeader.{QueuedHeader}
@@ -21,11 +22,11 @@ use Rattle.dl_queue.specs.Queue.{next_place, with_cell}
 use Rattle.sched_core.specs.declared.Station.{Station}
 use Rattle.sched_core.specs.Station.{station_of}
 use Rattle.sched_core.specs.Questions.{Memory, memory, sound_station, memory_questions, queued_for, ack_questions, tma_questions}
-use Rattle.sched_core.specs.Replies.{Numbered, reply_number, queue_reply}
+use Rattle.sched_core.specs.Replies.{Numbered, reply_number}
 use Rattle.sched_core.specs.Calls.{Outcome, outcome, judged, ack_call, tma_call}
 use Rattle.sched_core.proofs.QuestionLaws.{right-lengths, lengths-right, timeslot-range, room-left, memory-passes}
 use Rattle.sched_enqueue.specs.declared.QueuePlan.{QueuePlan}
-use Rattle.sched_enqueue.specs.Plan.{SoundQueue, Planned, QueuePlanned, Queued, not_queued, queued_one, ack_queued, tma_queued, plan_queued}
+use Rattle.sched_enqueue.specs.Plan.{SoundQueue, Joins, Refuses, QueuePlanned, Queued, not_queued, queued_one, ack_queued, tma_queued, plan_queued}
 
 -- the place behind those of a timeslot that has room is in the queue
 pub next-place-below : (ns : List ℕ) (t : ℕ) → 1 ≤ t → t ≤ timeslots → get_or ns (t - 1) 0 < per_timeslot → next_place ns (t - 1) < queue_places
@@ -47,54 +48,37 @@ yes-told s rs st lent h =
     let both = lengths-right (memory s rs st) h.1.0 in
     record { station = h.0; lengths = h.1.1.0; queue = record { places = both.0; cells = both.1; sound = h.1.1.1.0 } }
 
-module _ (s : Station) (st : List ℕ) where
-  -- a refusal leaves all as it came in
-  pub refused-planned : (call : Memory → Outcome) (r : Refusal)
-      → ((rs : List Record) → SoundQueue s rs st → outcome (Numbered.refused (refusal_number r)) (memory s rs st) ≡ call (memory s rs st))
-      → Planned call s st st (Numbered.refused (refusal_number r)) s queue_places empty_record
-  refused-planned call r h =
-      let x = Numbered.refused (refusal_number r) in
+-- a call that asks its own questions of a sound station, behind those of the memory
+module _ (s : Station) (st : List ℕ) (own : Station → List Question) (fine : Memory → Outcome) (sound : sound_station s ≡ true) where
+  abbrev call : Memory → Outcome
+  call m = judged m (own m.station) (fine m)
+
+  -- its own questions decide
+  own-asked : (rs : List Record) → SoundQueue s rs st → let m = memory s rs st in
+      ask (own s) (fine m) (λ n. outcome (Numbered.refused n) m) ≡ call m
+  own-asked rs q = sym (memory-passes (memory s rs st) [] (own s) _ _ (queue-yes s rs st sound q))
+
+  -- the first that is answered no is the whole reply: the refusal of its number
+  pub no-planned : (k : ℕ) (r : Refusal) → refusal_number r ≡ (nth k (own s)).number → FirstYes k (own s) → (nth k (own s)).holds ≡ false
+      → Refuses call s st st (refusal_number r)
+  no-planned k r e past other =
       record {
-        whole = λ rs q. ap (λ (l : List Record). outcome x (memory s l st)) (set_out rs queue_places empty_record (omega (arith, q.places))) ∙ h rs q;
-        joins = λ z. absurd (omega (arith, z, number-positive r));
-        refused = λ z. (refl, refl, refl);
+        whole = λ rs q. ap (λ (n : ℕ). outcome (Numbered.refused n) (memory s rs st)) e ∙ first-no _ _ k (own s) past other ∙ own-asked rs q;
+        store = refl;
       }
 
-  -- a record joins
-  pub joined-planned : (call : Memory → Outcome) (after : List ℕ) (reply : Numbered) (next : Station) (place : ℕ) (x : Record) → reply_number reply ≡ 0
-      → place < queue_places
-      → ((rs : List Record) → outcome reply (memory next (set rs place x) after) ≡ call (memory s rs st))
-      → Planned call s st after reply next place x
-  joined-planned call after reply next place x e h w =
-      record { whole = λ rs q. w rs; joins = λ z. h; refused = λ z. absurd (omega (arith, z, e)) }
+  -- every one is answered yes: what follows decides
+  module _ (all : FirstYes (length (own s)) (own s)) where
+    own-passed : (rs : List Record) → SoundQueue s rs st → fine (memory s rs st) ≡ call (memory s rs st)
+    own-passed rs q = every-yes _ _ (own s) all ∙ own-asked rs q
 
-  -- a call that asks its own questions of a sound station, behind those of the memory
-  module _ (own : Station → List Question) (fine : Memory → Outcome) (sound : sound_station s ≡ true) where
-    abbrev call : Memory → Outcome
-    call m = judged m (own m.station) (fine m)
+    pub yes-refused : (after : List ℕ) (n : ℕ) → Refuses fine s st after n → Refuses call s st after n
+    yes-refused after n p = record { whole = λ rs q. p.whole rs q ∙ own-passed rs q; store = p.store }
 
-    -- its own questions decide
-    own-asked : (rs : List Record) → SoundQueue s rs st → let m = memory s rs st in
-        ask (own s) (fine m) (λ n. outcome (Numbered.refused n) m) ≡ call m
-    own-asked rs q = sym (memory-passes (memory s rs st) [] (own s) _ _ (queue-yes s rs st sound q))
-
-    -- the first that is answered no is the whole reply: the refusal of its number
-    pub no-planned : (k : ℕ) (r : Refusal) → refusal_number r ≡ (nth k (own s)).number → FirstYes k (own s) → (nth k (own s)).holds ≡ false
-        → Planned call s st st (Numbered.refused (refusal_number r)) s queue_places empty_record
-    no-planned k r e past other =
-        refused-planned call r
-        (λ rs q. ap (λ (n : ℕ). outcome (Numbered.refused n) (memory s rs st)) e ∙ first-no _ _ k (own s) past other ∙ own-asked rs q)
-
-    -- every one is answered yes
-    pub yes-planned : (after : List ℕ) (reply : Numbered) (next : Station) (place : ℕ) (x : Record) → FirstYes (length (own s)) (own s)
-        → Planned fine s st after reply next place x
-        → Planned call s st after reply next place x
-    yes-planned after reply next place x all p =
-        record {
-          whole = λ rs q. p.whole rs q ∙ every-yes _ _ (own s) all ∙ own-asked rs q;
-          joins = p.joins;
-          refused = p.refused;
-        }
+    pub yes-joined : (after : List ℕ) (reply : Numbered) (next : Station) (place : ℕ) (x : Record) → Joins fine s st after reply next place x
+        → Joins call s st after reply next place x
+    yes-joined after reply next place x p =
+        record { whole = λ rs q. p.whole rs q ∙ own-passed rs q; done = p.done; place-in-queue = p.place-in-queue }
 
 -- ---- queueing, by the counts and the store alone
 
@@ -122,53 +106,67 @@ module _ (s : Station) (st : List ℕ) (own : Station → List Question) (fine :
   abbrev stored_in : List Record → Queued → Outcome
   stored_in rs j = outcome j.reply (memory (station_of s.uplink j.queued) (set rs j.place j.«record») j.store)
 
-  pub queued-planned : (AllYes (own s) → next_place s.queued (t - 1) < queue_places)
-      → ((rs : List Record) → stored_in rs (queued_one s.queued t x st') ≡ fine (memory s rs st))
-      → Planned judges s st asked.store asked.reply (station_of s.uplink asked.queued) asked.place asked.«record»
-  queued-planned below same =
-      record {
-        whole = λ rs q.
-            ask-both (λ (j : Queued) (o : Outcome). stored_in rs j ≡ o) (own s) _ _ _ _
-            (λ n. ap (λ (l : List Record). outcome (Numbered.refused n) (memory s l st)) (set_out rs queue_places empty_record (omega (arith, q.places))))
-            (λ yes. same rs)
-            ∙ sym (memory-passes (memory s rs st) [] (own s) _ _ (queue-yes s rs st sound q));
-        joins =
-            ask-positive (λ (j : Queued). reply_number j.reply ≡ 0 → j.place < queue_places) (own s) pos _ _ (λ n p z. absurd (omega (arith, z, p)))
-            (λ yes z. below yes);
-        refused =
-            ask-positive (λ (j : Queued). 1 ≤ reply_number j.reply → (j.place ≡ queue_places) × (j.«record» ≡ empty_record) × (j.store ≡ st))
-            (own s) pos _ _ (λ n p z. (refl, refl, refl)) (λ yes z. absurd (omega (arith, z)));
-      }
+  module _ (below : AllYes (own s) → next_place s.queued (t - 1) < queue_places)
+      (same : (rs : List Record) → stored_in rs (queued_one s.queued t x st') ≡ fine (memory s rs st)) where
+    whole : (rs : List Record) → SoundQueue s rs st → stored_in rs asked ≡ judges (memory s rs st)
+    whole rs q =
+        ask-both (λ (j : Queued) (o : Outcome). stored_in rs j ≡ o) (own s) _ _ _ _
+        (λ n. ap (λ (l : List Record). outcome (Numbered.refused n) (memory s l st)) (set_out rs queue_places empty_record (omega (arith, q.places))))
+        (λ yes. same rs)
+        ∙ sym (memory-passes (memory s rs st) [] (own s) _ _ (queue-yes s rs st sound q))
 
--- a plan that leaves this is the plan of the call
-as-planned : (s : Station) (st st' : List ℕ) (call : Memory → Outcome) (p : QueuePlan) (j : Queued) → p.station.uplink ≡ s.uplink → plan_queued p st' ≡ j
-    → Planned call s st j.store j.reply (station_of s.uplink j.queued) j.place j.«record» → QueuePlanned call s st st' p
-as-planned s st st' call p j u e plan =
-    subst (λ (v : Uplink). Planned call s st st' (queue_reply p.reply) (station_of v p.station.queued) p.place p.«record») (sym u)
-    (subst (λ (k : Queued). Planned call s st k.store k.reply (station_of s.uplink k.queued) k.place k.«record») (sym e) plan)
+    joins : reply_number asked.reply ≡ 0 → asked.place < queue_places
+    joins =
+        ask-positive (λ (j : Queued). reply_number j.reply ≡ 0 → j.place < queue_places) (own s) pos _ _ (λ n p z. absurd (omega (arith, z, p)))
+        (λ yes z. below yes)
+
+    refused : 1 ≤ reply_number asked.reply → asked.store ≡ st
+    refused =
+        ask-positive (λ (j : Queued). 1 ≤ reply_number j.reply → j.store ≡ st) (own s) pos _ _ (λ n p z. refl) (λ yes z. absurd (omega (arith, z)))
+
+    pub queued-planned : (after : List ℕ) (p : Result QueuePlan Refusal) → IfOk p (λ j. j.station.uplink ≡ s.uplink) → plan_queued p s after ≡ asked
+        → QueuePlanned judges s st after p
+    queued-planned after (Ok p) u e =
+        record {
+          whole = λ rs q.
+              ap (λ (v : Uplink). outcome Numbered.done (memory (station_of v p.station.queued) (set rs p.place p.«record») after)) u
+              ∙ ap (stored_in rs) e ∙ whole rs q;
+          done = refl;
+          place-in-queue =
+              subst (λ (k : ℕ). k < queue_places) (ap (λ (j : Queued). j.place) (sym e)) (joins (ap (λ (j : Queued). reply_number j.reply) (sym e)));
+        }
+    queued-planned after (Err r) u e =
+        let n : Numbered = Numbered.refused (refusal_number r) in
+        let left : after ≡ st =
+        ap (λ (j : Queued). j.store) e ∙ refused (omega (arith, ap (λ (j : Queued). reply_number j.reply) e, number-positive r)) in
+        record {
+          whole = λ rs q.
+              ap (λ (l : List ℕ). outcome n (memory s rs l)) (sym left)
+              ∙ ap (λ (l : List Record). outcome n (memory s l after)) (sym (set_out rs queue_places empty_record (omega (arith, q.places))))
+              ∙ ap (stored_in rs) e ∙ whole rs q;
+          store = left;
+        }
 
 -- an acknowledgement's
-pub ack-planned : (s : Station) (st : List ℕ) (t kind n : ℕ) (p : QueuePlan) → sound_station s ≡ true → p.station.uplink ≡ s.uplink
-    → plan_queued p st ≡ ack_queued s.queued st t kind n → QueuePlanned (λ m. ack_call m t kind n) s st st p
+pub ack-planned : (s : Station) (st : List ℕ) (t kind n : ℕ) (p : Result QueuePlan Refusal) → sound_station s ≡ true
+    → IfOk p (λ j. j.station.uplink ≡ s.uplink) → plan_queued p s st ≡ ack_queued s.queued st t kind n → QueuePlanned (λ m. ack_call m t kind n) s st st p
 unfolding ack_call ack_queued
 ack-planned s st t kind n p sound u e =
-    as-planned s st st _ p _ u e
-    (queued-planned s st (λ (x : Station). ack_questions (queued_for x.queued t) t kind n) _ t (ack_record kind n) st sound
+    queued-planned s st (λ (x : Station). ack_questions (queued_for x.queued t) t kind n) _ t (ack_record kind n) st sound
     (omega arith, (omega arith, (omega arith, tt)))
     (λ yes. let r = timeslot-range t yes.0 in next-place-below s.queued t r.0 r.1 (room-left (queued_for s.queued t) yes.1.1.0))
-    (λ rs. refl))
+    (λ rs. refl) st p u e
 
 -- a record's
-pub tma-planned : (s : Station) (st st' : List ℕ) (t kind n : ℕ) (tag : OptU16) (header : QueuedHeader) (bits : ℕ) (sdu : List ℕ) (p : QueuePlan)
-    → sound_station s ≡ true → p.station.uplink ≡ s.uplink
-    → plan_queued p st' ≡ tma_queued s.queued st t (offered_record kind n tag header bits) sdu
+pub tma-planned : (s : Station) (st st' : List ℕ) (t kind n : ℕ) (tag : Option ℕ) (header : QueuedHeader) (bits : ℕ) (sdu : List ℕ)
+    (p : Result QueuePlan Refusal) → sound_station s ≡ true → IfOk p (λ j. j.station.uplink ≡ s.uplink)
+    → plan_queued p s st' ≡ tma_queued s.queued st t (offered_record kind n tag header bits) sdu
     → QueuePlanned (λ m. tma_call m t kind n tag header bits sdu) s st st' p
 unfolding tma_call tma_queued
 tma-planned s st st' t kind n tag header bits sdu p sound u e =
     let r = offered_record kind n tag header bits in
-    as-planned s st st' _ p _ u e
-    (queued-planned s st (λ (x : Station). tma_questions (queued_for x.queued t) t r sdu) _ t r (with_cell st s.queued (t - 1) (cell_of bits sdu)) sound
+    queued-planned s st (λ (x : Station). tma_questions (queued_for x.queued t) t r sdu) _ t r (with_cell st s.queued (t - 1) (cell_of bits sdu)) sound
     (omega arith, (omega arith, (omega arith, (omega arith, (omega arith, tt)))))
     (λ yes. let k = timeslot-range t yes.0 in
     next-place-below s.queued t k.0 k.1 (room-left (queued_for s.queued t) yes.1.1.1.1.0))
-    (λ rs. refl))
+    (λ rs. refl) st' p u e

@@ -1,8 +1,8 @@
 -- What a call leaves to a caller that keeps the queue elsewhere: at most one record joins the queue. Assumes nothing.
-use Rattle.std.specs.Prelude.{◌≡◌, true, List, ℕ, ◌-◌, ◌≤◌, ◌<◌, length, set}
+use Rattle.std.specs.Prelude.{◌≡◌, true, List, ℕ, ◌-◌, ◌<◌, length, set, Result, Ok, Err}
 use Rattle.sizes.specs.Sizes.{queue_places, store_octets}
 use Rattle.questions.specs.declared.Refusal.{Refusal}
-use Rattle.questions.specs.Questions.{ask}
+use Rattle.questions.specs.Questions.{refusal_number, ask}
 use Rattle.uplink.specs.declared.Uplink.{Uplink}
 use Rattle.dl_record.specs.declared.Record.{Record}
 use Rattle.dl_record.specs.Record.{empty_record, ack_record}
@@ -10,10 +10,9 @@ use Rattle.dl_sdu_store.specs.Cells.{cell_of}
 use Rattle.dl_queue.specs.Queue.{next_place, with_cell}
 use Rattle.dl_queue.specs.Questions.{sound_queue}
 use Rattle.sched_core.specs.declared.Station.{Station}
-use Rattle.sched_core.specs.declared.Reply.{Reply}
 use Rattle.sched_core.specs.Station.{station_of}
 use Rattle.sched_core.specs.Questions.{Memory, memory, queued_for, ack_questions, tma_questions}
-use Rattle.sched_core.specs.Replies.{Numbered, reply_number, queue_reply}
+use Rattle.sched_core.specs.Replies.{Numbered, reply_number}
 use Rattle.sched_core.specs.Calls.{Outcome, outcome}
 use Rattle.sched_core.specs.Invariant.{one_more}
 use Rattle.sched_enqueue.specs.declared.QueuePlan.{QueuePlan}
@@ -25,18 +24,23 @@ pub record SoundQueue (s : Station) (rs : List Record) (st : List ℕ) : Type 0 
   pub cells : length st ≡ store_octets
   pub sound : sound_queue s.queued rs st ≡ true
 
--- A reply, a station and a record with its place are the plan of a call on station s and a store: with the record stored they are the
--- call's whole outcome, whatever the queue. A call that is done stores its record in the queue; one that is refused stores the empty
--- record past the queue, where it changes nothing, and leaves the store.
-pub record Planned (call : Memory → Outcome) (s : Station) (before after : List ℕ)
+-- A call on station s and a store is refused with number n, whatever the queue, and leaves the store.
+pub record Refuses (call : Memory → Outcome) (s : Station) (before after : List ℕ) (n : ℕ) : Type 0 where
+  pub whole : (rs : List Record) → SoundQueue s rs before → outcome (Numbered.refused n) (memory s rs before) ≡ call (memory s rs before)
+  pub store : after ≡ before
+
+-- A reply, a station and a record with its place are the plan of a call on station s and a store that is done: with the record stored
+-- they are the call's whole outcome, whatever the queue.
+pub record Joins (call : Memory → Outcome) (s : Station) (before after : List ℕ)
     (reply : Numbered) (next : Station) (place : ℕ) (r : Record) : Type 0 where
   pub whole : (rs : List Record) → SoundQueue s rs before → outcome reply (memory next (set rs place r) after) ≡ call (memory s rs before)
-  pub joins : reply_number reply ≡ 0 → place < queue_places
-  pub refused : 1 ≤ reply_number reply → (place ≡ queue_places) × (r ≡ empty_record) × (after ≡ before)
+  pub done : reply_number reply ≡ 0
+  pub place-in-queue : place < queue_places
 
 -- the plan of queueing an acknowledgement or a record
-abbrev pub QueuePlanned : (Memory → Outcome) → Station → List ℕ → List ℕ → QueuePlan → Type 0
-QueuePlanned call s before after p = Planned call s before after (queue_reply p.reply) p.station p.place p.«record»
+abbrev pub QueuePlanned : (Memory → Outcome) → Station → List ℕ → List ℕ → Result QueuePlan Refusal → Type 0
+QueuePlanned call s before after (Ok p) = Joins call s before after Numbered.done p.station p.place p.«record»
+QueuePlanned call s before after (Err x) = Refuses call s before after (refusal_number x)
 
 -- ---- queueing, by the counts and the store alone: the same whatever the queue
 
@@ -65,21 +69,25 @@ unfoldable pub tma_queued : List ℕ → List ℕ → ℕ → Record → List �
 tma_queued ns st t r sdu =
     ask (tma_questions (queued_for ns t) t r sdu) (queued_one ns t r (with_cell st ns (t - 1) (cell_of r.bits sdu))) (not_queued ns st)
 
--- what the code answers, with the store after it
-abbrev pub joined_queued : Joining → List ℕ → Queued
-joined_queued j st = record { reply = queue_reply j.reply; queued = j.queued; place = j.place; «record» = j.«record»; store = st }
+-- what the code answers where the counts were ns, with the store after it
+abbrev pub joined_queued : Result Joining Refusal → List ℕ → List ℕ → Queued
+joined_queued (Ok j) ns st = record { reply = Numbered.done; queued = j.queued; place = j.place; «record» = j.«record»; store = st }
+joined_queued (Err x) ns st = not_queued ns st (refusal_number x)
 
-abbrev pub plan_queued : QueuePlan → List ℕ → Queued
-plan_queued p st = record { reply = queue_reply p.reply; queued = p.station.queued; place = p.place; «record» = p.«record»; store = st }
-
--- the answers of the code: a call that is refused leaves the counts
-abbrev pub refused_joining : Refusal → List ℕ → Joining
-refused_joining x ns = record { reply = Reply.Refused x; queued = ns; place = queue_places; «record» = empty_record }
+-- and for a station
+abbrev pub plan_queued : Result QueuePlan Refusal → Station → List ℕ → Queued
+plan_queued (Ok p) s st = record { reply = Numbered.done; queued = p.station.queued; place = p.place; «record» = p.«record»; store = st }
+plan_queued (Err x) s st = not_queued s.queued st (refusal_number x)
 
 -- a record joins the queue of timeslot t
 abbrev pub joined_joining : List ℕ → ℕ → Record → Joining
-joined_joining ns t r = record { reply = Reply.Done; queued = one_more ns t; place = next_place ns (t - 1); «record» = r }
+joined_joining ns t r = record { queued = one_more ns t; place = next_place ns (t - 1); «record» = r }
 
 -- the plan for a station with that uplink
-abbrev pub plan_of : Uplink → Joining → QueuePlan
-plan_of u j = record { reply = j.reply; station = station_of u j.queued; place = j.place; «record» = j.«record» }
+abbrev pub plan_for : Uplink → Joining → QueuePlan
+plan_for u j = record { station = station_of u j.queued; place = j.place; «record» = j.«record» }
+
+-- and of what was answered
+abbrev pub plan_of : Uplink → Result Joining Refusal → Result QueuePlan Refusal
+plan_of u (Ok j) = Ok (plan_for u j)
+plan_of u (Err x) = Err x

@@ -2,23 +2,22 @@
 // to a caller that keeps the queue elsewhere.
 #![tactic(auto)]
 
-ghost use Rattle.std.specs.Prelude.{◌≡◌, List, ℕ, ◌-◌, ◌≤◌, ◌<◌, length, get_or};
-ghost use Rattle.sizes.specs.Sizes.{timeslots, per_timeslot, queue_places, store_octets};
-ghost use Rattle.dl_queue.specs.Queue.{next_place};
+ghost use Rattle.std.specs.Prelude.{◌≡◌, List, ℕ, ◌<◌, length, IfOk};
+ghost use Rattle.sizes.specs.Sizes.{queue_places, store_octets};
 ghost use Rattle.dl_record.specs.Record.{offered_record};
-ghost use Rattle.sched_core.specs.Invariant.{one_more};
-ghost use Rattle.sched_enqueue.specs.Plan.{ack_queued, tma_queued, joined_queued, plan_queued, refused_joining, joined_joining, plan_of};
+ghost use Rattle.sched_enqueue.specs.Plan.{ack_queued, tma_queued, joined_queued, plan_queued, joined_joining, plan_for};
+
+mod room;
 
 use dl_record::{QueuedHeader, Record};
-use optional::OptU16;
 use questions::Refusal;
-use sched_core::{Reply, Station};
+pub use room::Room;
+use sched_core::Station;
+use sizes::{CELL_OCTETS, TIMESLOTS};
 
-// The reply, the station after the call, and the record that joins the queue with its place; where none joins, the place is past the
-// queue, and the record the empty one.
+// The station after the call, and the record that joins the queue with its place.
 #[derive(Clone, Copy)]
 pub struct QueuePlan {
-    pub reply: Reply,
     pub station: Station,
     pub place: usize,
     pub record: Record,
@@ -27,139 +26,87 @@ pub struct QueuePlan {
 // The same with the counts alone: what a call that queues leaves of any station that has its counts.
 #[derive(Clone, Copy)]
 pub struct Joining {
-    pub reply: Reply,
-    pub queued: [u8; 4],
+    pub queued: [u8; TIMESLOTS],
     pub place: usize,
     pub record: Record,
 }
 
-// The plan for a station.
-fn plan_of(station: Station, j: Joining) -> QueuePlan
-    ensures { result ≡ plan_of station.uplink j }
-{
-    let reply = j.reply;
-    let queued = j.queued;
-    let record = j.record;
-    let next = sched_core::with_queued(station, queued);
-    QueuePlan {
-        reply: reply,
-        station: next,
-        place: j.place,
-        record: record,
+impl Joining {
+    // The plan for a station.
+    fn plan_for(self, station: Station) -> QueuePlan
+        ensures { result ≡ plan_for station.uplink self }
+    {
+        QueuePlan {
+            station: station.with_queued(self.queued),
+            place: self.place,
+            record: self.record,
+        }
     }
 }
 
-// The place behind those queued for a timeslot.
-pub fn next_place(queued: [u8; 4], timeslot: u8) -> usize
-    requires { (1 ≤ timeslot) × (timeslot ≤ timeslots) × (get_or queued (timeslot - 1) 0 < per_timeslot) }
-    ensures { (result ≡ next_place queued (timeslot - 1)) × (result < queue_places) }
-{
-    let t = (timeslot - 1) as usize;
-    sizes::PER_TIMESLOT * t + queued[t] as usize
-}
-
-// The counts with one more for a timeslot.
-pub fn one_more(queued: [u8; 4], timeslot: u8) -> [u8; 4]
-    requires { (1 ≤ timeslot) × (timeslot ≤ timeslots) × (get_or queued (timeslot - 1) 0 < per_timeslot) }
-    ensures { result ≡ one_more queued timeslot }
-{
-    let t = (timeslot - 1) as usize;
-    let n = queued[t];
-    let mut counts = queued;
-    counts[t] = n + 1;
-    counts
-}
-
-fn refused(refusal: Refusal, queued: [u8; 4]) -> Joining
-    ensures { result ≡ refused_joining refusal queued }
-{
-    Joining {
-        reply: Reply::Refused(refusal),
-        queued: queued,
-        place: sizes::QUEUE_PLACES,
-        record: Record::EMPTY,
-    }
-}
-
-// The record joins the queue of its timeslot.
-fn joined(queued: [u8; 4], timeslot: u8, r: Record) -> Joining
-    requires { (1 ≤ timeslot) × (timeslot ≤ timeslots) × (get_or queued (timeslot - 1) 0 < per_timeslot) }
-    ensures value { result ≡ joined_joining queued timeslot r }
+// The record joins the queue of a timeslot that has room.
+fn joined(room: Room, record: Record) -> Joining
+    ensures value { result ≡ joined_joining room.queued room.timeslot «record» }
     ensures place_lt_queue_places { result.place < queue_places }
 {
-    let place = next_place(queued, timeslot);
-    let counts = one_more(queued, timeslot);
     Joining {
-        reply: Reply::Done,
-        queued: counts,
-        place: place,
-        record: r,
+        queued: room.one_more(),
+        place: room.place(),
+        record,
     }
 }
 
 // Queueing an acknowledgement, after questions 1 and 2, by the counts.
-pub fn ack_joins(queued: [u8; 4], timeslot: u8, kind: u8, number: u32) -> Joining
-    ensures { (store : List ℕ) → joined_queued result store ≡ ack_queued queued store timeslot kind number }
+#[tactic(auto, unfolding(questions::specs::Questions::ask, crate::specs::Plan::ack_queued))]
+pub fn ack_joins(
+    queued: [u8; TIMESLOTS],
+    timeslot: u8,
+    kind: u8,
+    number: u32,
+) -> Result<Joining, Refusal>
+    ensures { (store : List ℕ) → joined_queued result queued store ≡ ack_queued queued store timeslot kind number }
 {
-    if !sched_core::timeslot_is_legal(timeslot) {
-        return refused(Refusal::Timeslot, queued);
-    }
-    if !dl_record::address_is_legal(kind, number) {
-        return refused(Refusal::Address, queued);
-    }
-    if !sched_core::has_room(queued, timeslot) {
-        return refused(Refusal::QueueFull, queued);
-    }
-    let ack = dl_record::ack_record(kind, number);
-    joined(queued, timeslot, ack)
+    sched_core::ask(sched_core::timeslot_is_legal(timeslot), Refusal::Timeslot)?;
+    sched_core::ask(dl_record::address_is_legal(kind, number), Refusal::Address)?;
+    let room = Room::of(queued, timeslot)?;
+    Ok(joined(room, Record::ack(kind, number)))
 }
 
 // Queueing an acknowledgement, after questions 1 and 2.
-pub fn ack_plan(station: Station, timeslot: u8, kind: u8, number: u32) -> QueuePlan
-    ensures { (result.station.uplink ≡ station.uplink)
-        × ((store : List ℕ) → plan_queued result store ≡ ack_queued station.queued store timeslot kind number) }
+pub fn ack_plan(station: Station, timeslot: u8, kind: u8, number: u32) -> Result<QueuePlan, Refusal>
+    ensures uplink { IfOk result (λ p. p.station.uplink ≡ station.uplink) }
+    ensures queued { (store : List ℕ) → plan_queued result station store ≡ ack_queued station.queued store timeslot kind number }
 {
-    let queued = station.queued;
-    let j = ack_joins(queued, timeslot, kind, number);
-    plan_of(station, j)
+    let joining = ack_joins(station.queued, timeslot, kind, number)?;
+    Ok(joining.plan_for(station))
 }
 
 // Queueing a record with its SDU, after questions 1 and 2, by the counts.
+#[tactic(auto, unfolding(questions::specs::Questions::ask, crate::specs::Plan::tma_queued))]
 pub fn tma_joins(
-    queued: [u8; 4],
+    queued: [u8; TIMESLOTS],
     store: &mut [u8],
     timeslot: u8,
     kind: u8,
     number: u32,
-    tag: OptU16,
+    tag: Option<u16>,
     header: QueuedHeader,
     bits: u16,
     sdu: &[u8],
-) -> Joining
+) -> Result<Joining, Refusal>
     requires { length store.old ≡ store_octets }
-    ensures { joined_queued result store.new
+    ensures { joined_queued result queued store.new
         ≡ tma_queued queued store.old timeslot (offered_record kind number tag header bits) sdu.now }
 {
-    if !sched_core::timeslot_is_legal(timeslot) {
-        return refused(Refusal::Timeslot, queued);
-    }
-    if !dl_record::address_is_legal(kind, number) {
-        return refused(Refusal::Address, queued);
-    }
-    let r = dl_record::offered_record(kind, number, tag, header, bits);
-    if !dl_record::offered_header_is_legal(r) {
-        return refused(Refusal::Header, queued);
-    }
-    if !dl_record::sdu_is_present(bits, sdu) {
-        return refused(Refusal::Sdu, queued);
-    }
-    if !sched_core::has_room(queued, timeslot) {
-        return refused(Refusal::QueueFull, queued);
-    }
-    let p = joined(queued, timeslot, r);
-    let place = p.place;
-    dl_sdu_store::write_cell(store, sizes::CELL_OCTETS * place, sdu, bits as usize);
-    p
+    sched_core::ask(sched_core::timeslot_is_legal(timeslot), Refusal::Timeslot)?;
+    sched_core::ask(dl_record::address_is_legal(kind, number), Refusal::Address)?;
+    let offered = Record::offered(kind, number, tag, header, bits);
+    sched_core::ask(offered.offered_header_is_legal(), Refusal::Header)?;
+    sched_core::ask(dl_record::sdu_is_present(bits, sdu), Refusal::Sdu)?;
+    let room = Room::of(queued, timeslot)?;
+    let joining = joined(room, offered);
+    dl_sdu_store::write_cell(store, CELL_OCTETS * joining.place, sdu, bits as usize);
+    Ok(joining)
 }
 
 // Queueing a record with its SDU, after questions 1 and 2.
@@ -169,18 +116,26 @@ pub fn tma_plan(
     timeslot: u8,
     kind: u8,
     number: u32,
-    tag: OptU16,
+    tag: Option<u16>,
     header: QueuedHeader,
     bits: u16,
     sdu: &[u8],
-) -> QueuePlan
+) -> Result<QueuePlan, Refusal>
     requires { length store.old ≡ store_octets }
-    ensures { (result.station.uplink ≡ station.uplink) × (plan_queued result store.new
-        ≡ tma_queued station.queued store.old timeslot (offered_record kind number tag header bits) sdu.now) }
+    ensures uplink { IfOk result (λ p. p.station.uplink ≡ station.uplink) }
+    ensures queued { plan_queued result station store.new
+        ≡ tma_queued station.queued store.old timeslot (offered_record kind number tag header bits) sdu.now }
 {
-    let queued = station.queued;
-    let j = tma_joins(
-        queued, store, timeslot, kind, number, tag, header, bits, sdu,
-    );
-    plan_of(station, j)
+    let joining = tma_joins(
+        station.queued,
+        store,
+        timeslot,
+        kind,
+        number,
+        tag,
+        header,
+        bits,
+        sdu,
+    )?;
+    Ok(joining.plan_for(station))
 }

@@ -1,11 +1,12 @@
 -- Words that are those of what is read from them: single words, and words one after another. Assumes nothing.
-use Rattle.std.proofs.Common.{◌≡◌, ℕ, zero, suc, ◌+◌, ◌*◌, ◌%◌, ◌^◌, ◌<◌, ◌≤◌, Bool, true, ◌&&◌, eqb, ltb, leb, List, [], ◌∷◌, ◌++◌, length, get_or, take}
-use Rattle.std.proofs.Common.{drop, replicate, sym, refl, ap, ◌∙◌, ap₂, append_assoc, mod-lt, mod-eq_of_lt, arith, drop-cons, drop-drop, ltb-true, le-ltb}
-use Rattle.std.proofs.Common.{lt-ltb, eq-eqb, ne_eqb, eqb-true}
+use Rattle.std.proofs.Common.{◌≡◌, ℕ, zero, suc, ◌+◌, ◌*◌, ◌%◌, ◌^◌, ◌<◌, ◌≤◌, Bool, true, ◌&&◌, eqb, leb, List, [], ◌∷◌, ◌++◌, length, get_or, take}
+use Rattle.std.proofs.Common.{drop, replicate, sym, refl, ap, ◌∙◌, ap₂, arith, drop-cons, drop-drop, le-leb, leb-true}
+use Rattle.std.proofs.Common.{eq-eqb, eqb-true}
 use mathlib.Core.Bool.{and_assoc}
 use Rattle.dl_record.proofs.Tests.{same_test}
 use Rattle.dl_sdu_store.specs.Cells.{all_zero}
-use Rattle.sched_words.specs.Words.{word_of8, word_of16, word_of32, opt_u8, opt_u16, opt_u32, kind_word, kind_from, words_of_all, read_all, same_words}
+use Rattle.sched_words.specs.Words.{itself, unless_zero, opt_word, words_of_all, read_all, same_words}
+use Rattle.sched_words.specs.FieldLaws.{FieldLaws}
 use Rattle.sched_words.specs.Front.{begins}
 
 -- ---- single words
@@ -13,37 +14,17 @@ use Rattle.sched_words.specs.Front.{begins}
 pub eqb-sym : (a b : ℕ) → eqb a b ≡ eqb b a
 eqb-sym a b = same_test (eqb a b) (eqb b a) (λ e. eq-eqb b a (sym (eqb-true a b e))) (λ e. eq-eqb a b (sym (eqb-true b a e)))
 
--- the low bits of a word are the word
-pub low_fits : (n w : ℕ) → 0 < n → ltb w n ≡ eqb (w % n) w
-low_fits n w h =
-    same_test (ltb w n) (eqb (w % n) w) (λ e. eq-eqb (w % n) w (mod-eq_of_lt (ltb-true w n e))) (λ e. lt-ltb w n (rw (eqb-true (w % n) w e) at (mod-lt w h)))
+-- a word is that of the field read from it exactly if it is not above the greatest
+pub most-fits : {A : Type 0} {from_word : ℕ → A} {word : A → ℕ} {most : ℕ} → FieldLaws from_word word most → (w : ℕ) → w < 2 ^ 32
+    → leb w most ≡ eqb (word (from_word w)) w
+most-fits {from_word = from_word} {word = word} {most = most} laws w h =
+    same_test (leb w most) (eqb (word (from_word w)) w) (λ e. eq-eqb (word (from_word w)) w (laws.back w (leb-true w most e)))
+    (λ e. le-leb w most (rw (eqb-true (word (from_word w)) w e) at (laws.within w h)))
 
--- a value that may be absent
-present-fits : (n v : ℕ) → 0 < n → ltb v n ≡ eqb (v % n + 1) (suc v)
-present-fits n v h =
-    same_test (ltb v n) (eqb (v % n + 1) (suc v))
-    (λ e. let k : v % n ≡ v = mod-eq_of_lt (ltb-true v n e) in eq-eqb (v % n + 1) (suc v) (omega arith))
-    (λ e. let k : v % n ≡ v = omega (arith, eqb-true (v % n + 1) (suc v) e) in lt-ltb v n (rw k at (mod-lt v h)))
-
-pub opt8-fits : (w : ℕ) → leb w 256 ≡ eqb (word_of8 (opt_u8 w)) w
-opt8-fits zero = refl
-opt8-fits (suc v) = present-fits 256 v (omega arith)
-
-pub opt16-fits : (w : ℕ) → leb w 65536 ≡ eqb (word_of16 (opt_u16 w)) w
-opt16-fits zero = refl
-opt16-fits (suc v) = present-fits 65536 v (omega arith)
-
-pub opt32-fits : (w : ℕ) → w < 2 ^ 32 → true ≡ eqb (word_of32 (opt_u32 w)) w
-opt32-fits zero h = refl
-opt32-fits (suc v) h = let e : (v + 1) % 2 ^ 32 ≡ suc v = omega arith in sym (eq-eqb ((v + 1) % 2 ^ 32) (suc v) e)
-
-pub kind_fits : (w : ℕ) → ltb w 5 ≡ eqb (kind_word (kind_from w)) w
-kind_fits zero = refl
-kind_fits (suc zero) = refl
-kind_fits (suc (suc zero)) = refl
-kind_fits (suc (suc (suc zero))) = refl
-kind_fits (suc (suc (suc (suc zero)))) = refl
-kind_fits (suc (suc (suc (suc (suc n))))) = let w : ℕ = suc (suc (suc (suc (suc n)))) in le-ltb w 5 (omega arith) ∙ sym (ne_eqb 4 w (λ e. omega (arith, e)))
+-- any word is that of the owner read from it
+pub owner-fits : (w : ℕ) → w < 2 ^ 32 → true ≡ eqb (opt_word (unless_zero itself w)) w
+owner-fits zero h = refl
+owner-fits (suc v) h = let e : (v + 1) % 2 ^ 32 ≡ suc v = omega arith in sym (eq-eqb ((v + 1) % 2 ^ 32) (suc v) e)
 
 -- ---- words at the front
 
@@ -99,11 +80,6 @@ module _ {A : Type 0} (f : A → List ℕ) (g : List ℕ → A) (k : ℕ) (size 
       → begins (words_of_all f (read_all g k (suc n) ws)) ws ≡ begins (f (g ws)) ws && begins (words_of_all f (read_all g k n (drop k ws))) (drop k ws)
   unfolding words_of_all read_all
   parts-turn n ws = begins-append (f (g ws)) (words_of_all f (read_all g k n (drop k ws))) ws k (size (g ws))
-
-pub joined-append : {A : Type 0} (f : A → List ℕ) (xs ys : List A) → words_of_all f (xs ++ ys) ≡ words_of_all f xs ++ words_of_all f ys
-unfolding words_of_all
-joined-append f [] ys = refl
-joined-append f (x ∷ xs) ys = ap (λ (l : List ℕ). f x ++ l) (joined-append f xs ys) ∙ sym (append_assoc (f x) (words_of_all f xs) (words_of_all f ys))
 
 pub parts_add : {A : Type 0} (g : List ℕ → A) (k n m : ℕ) (ws : List ℕ) → read_all g k (n + m) ws ≡ read_all g k n ws ++ read_all g k m (drop (k * n) ws)
 unfolding read_all

@@ -1,33 +1,37 @@
 -- The words of a station fit, part by part. Assumes nothing.
-use Rattle.std.proofs.Common.{◌≡◌, ℕ, ◌+◌, ◌*◌, ◌^◌, ◌<◌, ◌≤◌, Bool, true, ◌&&◌, ltb, leb, List, ◌++◌, length, get_or, drop, sym, refl, ap, ◌∙◌, ap₂}
-use Rattle.std.proofs.Common.{arith, drop-drop}
+use Rattle.std.proofs.Common.{◌≡◌, ℕ, ◌+◌, ◌*◌, ◌%◌, ◌^◌, ◌<◌, ◌≤◌, Bool, true, ◌&&◌, eqb, leb, List, ◌++◌, length, get_or, drop, sym, refl, ap, ◌∙◌, ap₂}
+use Rattle.std.proofs.Common.{drop-drop}
 use mathlib.Core.Bool.{and_assoc, and-true}
-use Rattle.sched_words.specs.Words.{words_of_all, read_all, same_words, time_words, time_from, entry_words, entry_from, words_of_row, row_from, four_from}
+use Rattle.sched_words.specs.Words.{low, itself, words_of_all, read_all, same_words, time_words}
+use Rattle.sched_words.specs.Words.{time_from, entry_words, entry_from, words_of_row, row_from, four_from}
 use Rattle.sched_words.specs.Words.{table_words}
 use Rattle.sched_words.specs.Words.{table_from, station_words, station_read}
+use Rattle.sched_words.specs.FieldLaws.{low_laws, option_laws}
 use Rattle.sched_words.specs.Front.{begins}
-use Rattle.sched_words.proofs.FitLaws.{low_fits, opt8-fits, opt32-fits, spelled, begins-append, begins-whole, joined-append, parts_add}
+use Rattle.sched_words.proofs.WordLaws.{joined-append}
+use Rattle.sched_words.proofs.FitLaws.{most-fits, owner-fits, spelled, begins-append, begins-whole, parts_add}
 
 pub nested4 : (a b c d : Bool) → a && b && c && d ≡ a && (b && (c && (d && true)))
 nested4 a b c d = simp (and_assoc, and-true)
 
-pub time-fits : (ws : List ℕ) → 4 ≤ length ws → ltb (get_or ws 0 0) 256 && ltb (get_or ws 1 0) 256 && ltb (get_or ws 2 0) 256 && ltb (get_or ws 3 0) 65536
+pub time-fits : (ws : List ℕ) → 4 ≤ length ws
+    → eqb (get_or ws 0 0 % 256) (get_or ws 0 0) && eqb (get_or ws 1 0 % 256) (get_or ws 1 0) && eqb (get_or ws 2 0 % 256) (get_or ws 2 0)
+    && eqb (get_or ws 3 0 % 65536) (get_or ws 3 0)
     ≡ begins (time_words (time_from ws)) ws
 unfolding begins
 time-fits ws h =
-    nested4 (ltb (get_or ws 0 0) 256) (ltb (get_or ws 1 0) 256) (ltb (get_or ws 2 0) 256) (ltb (get_or ws 3 0) 65536)
-    ∙ (λ i. low_fits 256 (get_or ws 0 0) (omega arith) i && (low_fits 256 (get_or ws 1 0) (omega arith) i
-    && (low_fits 256 (get_or ws 2 0) (omega arith) i && (low_fits 65536 (get_or ws 3 0) (omega arith) i && true))))
+    nested4 (eqb (get_or ws 0 0 % 256) (get_or ws 0 0)) (eqb (get_or ws 1 0 % 256) (get_or ws 1 0)) (eqb (get_or ws 2 0 % 256) (get_or ws 2 0))
+    (eqb (get_or ws 3 0 % 65536) (get_or ws 3 0))
     ∙ ap (begins (time_words (time_from ws))) (sym (spelled 4 0 ws h))
 
 -- ---- entries: the owners of any words fit
 
-pub entry-fits : (ws : List ℕ) → 3 ≤ length ws → get_or ws 0 0 < 2 ^ 32 → get_or ws 1 0 < 2 ^ 32 → leb (get_or ws 2 0) 256 ≡ begins
-    (entry_words (entry_from ws)) ws
+pub entry-fits : (ws : List ℕ) → 3 ≤ length ws → ((i : ℕ) → get_or ws i 0 < 2 ^ 32) → leb (get_or ws 2 0) 256 ≡ begins (entry_words (entry_from ws)) ws
 unfolding begins
-entry-fits ws h a b =
+entry-fits ws h small =
+    let laws = option_laws (low 256) itself 255 (low_laws 255) in
     sym (and-true (leb (get_or ws 2 0) 256))
-    ∙ (λ i. opt32-fits (get_or ws 0 0) a i && (opt32-fits (get_or ws 1 0) b i && (opt8-fits (get_or ws 2 0) i && true)))
+    ∙ (λ i. owner-fits (get_or ws 0 0) (small 0) i && (owner-fits (get_or ws 1 0) (small 1) i && (most-fits laws (get_or ws 2 0) (small 2) i && true)))
     ∙ ap (begins (entry_words (entry_from ws))) (sym (spelled 3 0 ws h))
 
 -- ---- the whole

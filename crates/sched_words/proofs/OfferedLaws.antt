@@ -5,7 +5,7 @@ use Rattle.sizes.specs.Sizes.{sdu_bits}
 use Rattle.mac_pdus.specs.Legal.{fits, legal_fields, legal_offered, legal_queued, within_widths}
 use Rattle.dl_record.specs.Record.{offered_record, resource_of}
 use Rattle.dl_record.specs.Questions.{legal_address, present_sdu}
-use Rattle.sched_words.specs.Words.{word_at, opt_u16, header_from, saturated, header_fits, illegal_header, offered_from}
+use Rattle.sched_words.specs.Words.{word_at, opt_low, header_from, saturated, header_fits, illegal_header, offered_from}
 
 above : (most low w : ℕ) → low < w → low < most → low < saturated most w
 above most low w h k = go (leb w most)
@@ -24,7 +24,7 @@ module _ (ws : List ℕ) where
   pub wide-header : header_fits ws ≡ false → legal_offered (resource_of (offered_from ws) 0 0) ≡ false
   unfolding offered_from legal_offered legal_queued legal_fields within_widths
   wide-header h =
-      ap (λ (b : Bool). legal_offered (resource_of (offered_record (saturated 255 (word_at ws 1)) (word_at ws 2) (opt_u16 (word_at ws 3))
+      ap (λ (b : Bool). legal_offered (resource_of (offered_record (saturated 255 (word_at ws 1)) (word_at ws 2) (opt_low 65536 (word_at ws 3))
       (cond b (header_from ws) illegal_header) (saturated 65535 (word_at ws 21))) 0 0)) h
 
   -- more bits than an SDU has: 7

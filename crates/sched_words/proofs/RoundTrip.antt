@@ -1,15 +1,15 @@
 -- Words stand for one station and one queue, and these for one list of words. So what one call leaves is what the next one gets, and a history over words is
 -- a history of document 01. Assumes nothing.
-use Rattle.std.proofs.Common.{◌≡◌, ℕ, zero, suc, ◌+◌, ◌%◌, ◌^◌, ◌<◌, ◌≤◌, Bool, true, false, cond, eqb, leb, List, [], ◌∷◌, ◌++◌, length, get_or, drop}
-use Rattle.std.proofs.Common.{sym, refl, ap, ◌∙◌, append_assoc, append-nil, add-one, arith, drop-drop, drop_at, ltb-true, eq-eqb, eqb-true, leb-true}
+use Rattle.std.proofs.lemmas.Bool.{and_parts}
+use Rattle.std.proofs.Common.{◌≡◌, ℕ, zero, suc, ◌+◌, ◌%◌, ◌^◌, ◌<◌, ◌≤◌, Bool, true, false}
+use Rattle.std.proofs.Common.{cond, eqb, leb, List, [], ◌∷◌, ◌++◌, length, get_or, drop, Option, Some, None}
+use Rattle.std.proofs.Common.{sym, refl, ap, ◌∙◌, append_assoc, append-nil, mod-eq_of_lt, arith, drop-drop, drop_at, ltb-true, eq-eqb, eqb-true, leb-true}
 use Rattle.lists.proofs.Every.{All, all-weaken}
 use Rattle.sizes.specs.Sizes.{timeslots, per_timeslot}
-use Rattle.optional.specs.declared.OptU8.{OptU8}
-use Rattle.optional.specs.declared.OptU32.{OptU32}
 use Rattle.tdma_time.specs.Time.{valid}
+use Rattle.mac_pdus.specs.Within.{OptWithin}
 use Rattle.uplink.specs.declared.Entry.{Entry}
 use Rattle.uplink.specs.UplinkEntry.{Table, FourRowsOfEighteen, all, sound_owner, sound_counter, sound_marker, sound_entry, sound_row}
-use Rattle.optional.proofs.Tests.{and_left, and_right}
 use Rattle.uplink.specs.Uplink.{uplink_of, sound_uplink}
 use Rattle.uplink.proofs.Basics.{not-both, four}
 use Rattle.uplink.proofs.Everywhere.{all-at}
@@ -18,7 +18,7 @@ use Rattle.sched_core.specs.declared.Station.{Station}
 use Rattle.sched_core.specs.Station.{station_of}
 use Rattle.sched_core.proofs.StationLaws.{station-parts}
 use Rattle.sched_core.specs.Questions.{sound_count, sound_station}
-use Rattle.sched_words.specs.Words.{word_of8, word_of32, opt_u8, opt_u32, words_of_all, read_all, same_words, entry_words, entry_from, words_of_row, row_from}
+use Rattle.sched_words.specs.Words.{itself, unless_zero, opt_word, opt_low, words_of_all, read_all, same_words, entry_words, entry_from, words_of_row, row_from}
 use Rattle.sched_words.specs.Words.{four_from, table_from, station_words, station_read, station_from, no_station}
 use Rattle.sched_words.proofs.WordLaws.{row-size}
 
@@ -34,7 +34,7 @@ unfolding same_words
 same-equal [] [] h = refl
 same-equal [] (x ∷ w) h = not-both false h refl
 same-equal (x ∷ v) [] h = not-both false h refl
-same-equal (x ∷ v) (y ∷ w) h = λ i. eqb-true x y (and_left (eqb x y) (same_words v w) h) i ∷ same-equal v w (and_right (eqb x y) (same_words v w) h) i
+same-equal (x ∷ v) (y ∷ w) h = λ i. eqb-true x y (and_parts (eqb x y) (same_words v w) h).0 i ∷ same-equal v w (and_parts (eqb x y) (same_words v w) h).1 i
 
 -- what is read back and what stands for it
 module _ {A : Type 0} (write : A → List ℕ) (read : List ℕ → A) (none : A) where
@@ -55,9 +55,8 @@ module _ {A : Type 0} (write : A → List ℕ) (read : List ℕ → A) (none : A
 -- ---- elements one after another
 
 pub every-all : {A : Type 0} (p : A → Bool) (xs : List A) → all p xs ≡ true → All (λ (x : A). p x ≡ true) xs
-unfolding all
 every-all p [] h = tt
-every-all p (x ∷ xs) h = (and_left (p x) (all p xs) h, every-all p xs (and_right (p x) (all p xs) h))
+every-all p (x ∷ xs) h = ((and_parts (p x) (all p xs) h).0, every-all p xs (and_parts (p x) (all p xs) h).1)
 
 module _ {A : Type 0} (f : A → List ℕ) (g : List ℕ → A) (k : ℕ) (size : (x : A) → length (f x) ≡ k) (P : A → Type 0)
     (back : (x : A) → P x → (rest : List ℕ) → g (f x ++ rest) ≡ x) where
@@ -75,22 +74,25 @@ module _ {A : Type 0} (f : A → List ℕ) (g : List ℕ → A) (k : ℕ) (size 
 
 -- ---- the station
 
-pub small8 : (v : ℕ) → v < 256 → v % 256 ≡ v
-small8 v h = omega arith
+-- a number below n
+pub small : (n v : ℕ) → v < n → v % n ≡ v
+small n v h = mod-eq_of_lt h
 
-pub small16 : (v : ℕ) → v < 65536 → v % 65536 ≡ v
-small16 v h = omega arith
+-- and one that may be absent
+pub opt-back : (w : ℕ) (o : Option ℕ) → 2 ^ w < 2 ^ 32 → OptWithin w o → opt_low (2 ^ w) (opt_word o) ≡ o
+opt-back w None room h = refl
+opt-back w (Some v) room h = let e : (v + 1) % 2 ^ 32 ≡ suc v = omega arith in rw (e, small (2 ^ w) v h)
 
-owner-back : (o : OptU32) → sound_owner o ≡ true → opt_u32 (word_of32 o) ≡ o
-owner-back OptU32.Absent h = refl
-owner-back (OptU32.Of w) h =
+owner-back : (o : Option ℕ) → sound_owner o ≡ true → unless_zero itself (opt_word o) ≡ o
+owner-back None h = refl
+owner-back (Some w) h =
     let k : w < 2 ^ 24 = ltb-true _ _ h in
     let e : (w + 1) % 2 ^ 32 ≡ suc w = omega arith in
     rw e
 
-marker-back : (o : OptU8) → sound_marker o ≡ true → opt_u8 (word_of8 o) ≡ o
-marker-back OptU8.Absent h = refl
-marker-back (OptU8.Of m) h = let k : m ≤ 62 = leb-true m 62 (and_right (leb 4 m) (leb m 62) h) in rw (add-one, small8 m (omega arith))
+marker-within : (o : Option ℕ) → sound_marker o ≡ true → OptWithin 8 o
+marker-within None h = tt
+marker-within (Some m) h = let k : m ≤ 62 = leb-true m 62 (and_parts (leb 4 m) (leb m 62) h).1 in omega arith
 
 entry-back : (e : Entry) → sound_entry e ≡ true → (rest : List ℕ) → entry_from (entry_words e ++ rest) ≡ e
 entry-back e h rest =
@@ -98,8 +100,7 @@ entry-back e h rest =
     λ i. record {
       ul1 = owner-back e.ul1 p.first i;
       ul2 = owner-back e.ul2 p.second i;
-      usage_marker = marker-back e.usage_marker
-          p.marker i;
+      usage_marker = opt-back 8 e.usage_marker (omega arith) (marker-within e.usage_marker p.marker) i;
     }
 
 row_back : (row : List Entry) (rest : List ℕ) → length row ≡ 18 → sound_row row ≡ true → row_from (words_of_row row ++ rest) ≡ row
@@ -112,7 +113,7 @@ four-back [] rest e h = absurd (omega (arith, e))
 four-back (a ∷ []) rest e h = absurd (omega (arith, e))
 four-back (a ∷ b ∷ []) rest e h = absurd (omega (arith, e))
 four-back (a ∷ b ∷ c ∷ []) rest e h = absurd (omega (arith, e))
-four-back (a ∷ b ∷ c ∷ d ∷ []) rest e h = λ i. small8 a h.0 i ∷ small8 b h.1.0 i ∷ small8 c h.1.1.0 i ∷ small8 d h.1.1.1.0 i ∷ []
+four-back (a ∷ b ∷ c ∷ d ∷ []) rest e h = λ i. small 256 a h.0 i ∷ small 256 b h.1.0 i ∷ small 256 c h.1.1.0 i ∷ small 256 d h.1.1.1.0 i ∷ []
 four-back (a ∷ b ∷ c ∷ d ∷ x ∷ v) rest e h = absurd (omega (arith, e))
 
 -- the lengths of a station's arrays
@@ -134,7 +135,7 @@ module _ (s : Station) (sizes : Arrays s) (sound : sound_station s ≡ true) whe
   counters-small : All (λ (x : ℕ). x < 256) s.uplink.next_usage_marker
   counters-small =
       all-weaken (λ (x : ℕ). sound_counter x ≡ true) (λ (x : ℕ). x < 256)
-      (λ x h. let k : x ≤ 62 = leb-true x 62 (and_right (leb 4 x) (leb x 62) h) in omega arith) s.uplink.next_usage_marker
+      (λ x h. let k : x ≤ 62 = leb-true x 62 (and_parts (leb 4 x) (leb x 62) h).1 in omega arith) s.uplink.next_usage_marker
       (every-all sound_counter s.uplink.next_usage_marker judged.counters)
 
   counts-small : All (λ (x : ℕ). x < 256) s.queued
@@ -218,11 +219,11 @@ module _ (s : Station) (sizes : Arrays s) (sound : sound_station s ≡ true) whe
       let v = judged.time in
       λ i. station_of
       (uplink_of (record {
-        t = small8 x.t (omega (arith, v.t-high)) i;
-        f = small8 x.f (omega (arith, v.f-high)) i;
-        m = small8 x.m
+        t = small 256 x.t (omega (arith, v.t-high)) i;
+        f = small 256 x.f (omega (arith, v.f-high)) i;
+        m = small 256 x.m
             (omega (arith, v.m-high)) i;
-        h = small16 x.h (omega (arith, v.h-high)) i;
+        h = small 65536 x.h (omega (arith, v.h-high)) i;
       })
       (table-back i)
       ((ap four_from at-220 ∙ four-back c s.queued sizes.counters counters-small) i))

@@ -1,15 +1,17 @@
 -- The words of a station, judged where they stand. Assumes nothing.
-use Rattle.std.proofs.Common.{◌≡◌, ℕ, zero, suc, ◌+◌, ◌-◌, ◌*◌, ◌%◌, ◌^◌, ◌<◌, ◌≤◌, Bool, true, false, cond, ◌&&◌, ◌||◌, eqb, leb, List, [], ◌∷◌, ◌++◌}
+use Rattle.std.proofs.lemmas.Bool.{and_parts, and_from}
+use Rattle.std.proofs.Common.{◌≡◌, ℕ, zero, suc, ◌+◌, ◌-◌, ◌*◌, ◌%◌, ◌^◌, ◌<◌, ◌≤◌, Bool, true, false, cond, ◌&&◌, ◌||◌, eqb, leb, List}
 use Rattle.std.proofs.Common.{length, get_or, drop, sym, refl, ap, ◌∙◌, ap₂, arith, length-drop, get_or-drop, drop-drop, ne_eqb}
 use Rattle.std.proofs.Common.{le-leb, leb-true}
+use Rattle.std.proofs.lemmas.List.Folds.{list_all-append}
 use mathlib.Core.Bool.{and_assoc, and-true, and-false}
-use Rattle.optional.proofs.Tests.{and_left, and_right, and_intro}
 use Rattle.dl_record.proofs.Tests.{same_test}
 use Rattle.tdma_time.specs.Time.{valid}
 use Rattle.uplink.specs.UplinkEntry.{all, sound_owner, sound_counter, sound_marker, sound_entry, sound_row, sound_table, sound_counters}
 use Rattle.uplink.specs.Uplink.{sound_uplink}
 use Rattle.sched_core.specs.Questions.{sound_count, sound_station}
-use Rattle.sched_words.specs.Words.{opt_u8, opt_u32, entry_of, words_of_all, read_all, same_words, time_words, time_from, entry_words, entry_from, row_from}
+use Rattle.sched_words.specs.Words.{itself, unless_zero, opt_low, entry_of, words_of_all, read_all}
+use Rattle.sched_words.specs.Words.{same_words, time_words, time_from, entry_words, entry_from, row_from}
 use Rattle.sched_words.specs.Words.{four_from, table_from, station_words, station_read, station_from, no_station}
 use Rattle.sched_words.specs.Front.{begins}
 use Rattle.sched_words.proofs.FitLaws.{spelled, parts-turn, parts_add}
@@ -28,25 +30,25 @@ marker-word : (m : ℕ) → leb 5 (suc m) && leb (suc m) 63 ≡ leb (suc m) 256 
 marker-word m =
     same_test (leb 5 (suc m) && leb (suc m) 63) (leb (suc m) 256 && sound_counter (m % 256))
     (λ h.
-    let low : 5 ≤ suc m = leb-true 5 (suc m) (and_left (leb 5 (suc m)) (leb (suc m) 63) h) in
-    let high : suc m ≤ 63 = leb-true (suc m) 63 (and_right (leb 5 (suc m)) (leb (suc m) 63) h) in
-    and_intro (leb (suc m) 256) (sound_counter (m % 256)) (le-leb (suc m) 256 (omega arith))
-    (and_intro (leb 4 (m % 256)) (leb (m % 256) 62) (le-leb 4 (m % 256) (omega arith)) (le-leb (m % 256) 62 (omega arith))))
+    let low : 5 ≤ suc m = leb-true 5 (suc m) (and_parts (leb 5 (suc m)) (leb (suc m) 63) h).0 in
+    let high : suc m ≤ 63 = leb-true (suc m) 63 (and_parts (leb 5 (suc m)) (leb (suc m) 63) h).1 in
+    and_from (leb (suc m) 256) (sound_counter (m % 256)) (le-leb (suc m) 256 (omega arith))
+    (and_from (leb 4 (m % 256)) (leb (m % 256) 62) (le-leb 4 (m % 256) (omega arith)) (le-leb (m % 256) 62 (omega arith))))
     (λ h.
-    let small : suc m ≤ 256 = leb-true (suc m) 256 (and_left (leb (suc m) 256) (sound_counter (m % 256)) h) in
-    let k : sound_counter (m % 256) ≡ true = and_right (leb (suc m) 256) (sound_counter (m % 256)) h in
-    let low : 4 ≤ m % 256 = leb-true 4 (m % 256) (and_left (leb 4 (m % 256)) (leb (m % 256) 62) k) in
-    let high : m % 256 ≤ 62 = leb-true (m % 256) 62 (and_right (leb 4 (m % 256)) (leb (m % 256) 62) k) in
-    and_intro (leb 5 (suc m)) (leb (suc m) 63) (le-leb 5 (suc m) (omega arith)) (le-leb (suc m) 63 (omega arith)))
+    let small : suc m ≤ 256 = leb-true (suc m) 256 (and_parts (leb (suc m) 256) (sound_counter (m % 256)) h).0 in
+    let k : sound_counter (m % 256) ≡ true = (and_parts (leb (suc m) 256) (sound_counter (m % 256)) h).1 in
+    let low : 4 ≤ m % 256 = leb-true 4 (m % 256) (and_parts (leb 4 (m % 256)) (leb (m % 256) 62) k).0 in
+    let high : m % 256 ≤ 62 = leb-true (m % 256) 62 (and_parts (leb 4 (m % 256)) (leb (m % 256) 62) k).1 in
+    and_from (leb 5 (suc m)) (leb (suc m) 63) (le-leb 5 (suc m) (omega arith)) (le-leb (suc m) 63 (omega arith)))
 
 positive : (m : ℕ) → eqb (suc m) 0 ≡ false
 positive m = ne_eqb (suc m) 0 (λ e. omega (arith, e))
 
-pub marker-sound : (w : ℕ) → eqb w 0 || (leb 5 w && leb w 63) ≡ leb w 256 && sound_marker (opt_u8 w)
+pub marker-sound : (w : ℕ) → eqb w 0 || (leb 5 w && leb w 63) ≡ leb w 256 && sound_marker (opt_low 256 w)
 marker-sound zero = refl
 marker-sound (suc m) = rw (positive m) (marker-word m)
 
-owner-word : (b : ℕ) → leb b (2 ^ 24) ≡ sound_owner (opt_u32 b)
+owner-word : (b : ℕ) → leb b (2 ^ 24) ≡ sound_owner (unless_zero itself b)
 owner-word zero = refl
 owner-word (suc b) = refl
 
@@ -55,11 +57,12 @@ past true b c = refl
 past false b c = sym (and-false b)
 
 -- a first half
-pub taken-sound : (a b m : ℕ) (k : Bool) → (a ≡ 0 → ⊥) → k ≡ leb m 256 && sound_marker (opt_u8 m)
+pub taken-sound : (a b m : ℕ) (k : Bool) → (a ≡ 0 → ⊥) → k ≡ leb m 256 && sound_marker (opt_low 256 m)
     → leb a (2 ^ 24) && leb b (2 ^ 24) && k ≡ leb m 256 && sound_entry (entry_of a b m)
 taken-sound zero b m k h e = absurd (h refl)
 taken-sound (suc a) b m k h e =
-    (λ i. owner-word (suc a) i && owner-word b i && e i) ∙ past (sound_owner (opt_u32 (suc a)) && sound_owner (opt_u32 b)) (leb m 256) (sound_marker (opt_u8 m))
+    (λ i. owner-word (suc a) i && owner-word b i && e i) ∙ past (sound_owner (unless_zero itself (suc a)) && sound_owner (unless_zero itself b))
+    (leb m 256) (sound_marker (opt_low 256 m))
 
 -- ---- the entries
 
@@ -72,7 +75,7 @@ judged_from i ws =
 pub judged-turn : (ws : List ℕ) (sound b : Bool) (i : ℕ) → 216 ≤ length ws → ((j : ℕ) → get_or ws j 0 < 2 ^ 32) → i < 72
     → b ≡ leb (get_or ws (3 * i + 2) 0) 256 && sound_entry (entry_of (get_or ws (3 * i) 0) (get_or ws (3 * i + 1) 0) (get_or ws (3 * i + 2) 0))
     → sound && b && judged_from (i + 1) ws ≡ sound && judged_from i ws
-unfolding all read_all
+unfolding read_all
 judged-turn ws sound b i h w l e =
     let at : ℕ = 3 * i in
     let d : List ℕ = drop at ws in
@@ -86,7 +89,7 @@ judged-turn ws sound b i h w l e =
     let first : get_or ws at 0 ≡ get_or d 0 0 = sym (word 0 ∙ ap (λ (j : ℕ). get_or ws j 0) same) in
     let here : b ≡ begins (entry_words (entry_from d)) d && sound_entry (entry_from d) =
     e ∙ (λ j. leb (sym (word 2) j) 256 && sound_entry (entry_of (first j) (sym (word 1) j) (sym (word 2) j)))
-    ∙ ap (λ (x : Bool). x && sound_entry (entry_from d)) (entry-fits d long (small 0) (small 1)) in
+    ∙ ap (λ (x : Bool). x && sound_entry (entry_from d)) (entry-fits d long small) in
     let rest : List ℕ = drop 3 d in
     let fits : Bool = begins (words_of_all entry_words (read_all entry_from 3 n rest)) rest in
     let sounds : Bool = all sound_entry (read_all entry_from 3 n rest) in
@@ -100,25 +103,19 @@ judged-turn ws sound b i h w l e =
     (drop-drop 3 at ws ∙ ap (λ (j : ℕ). drop j ws) next)))
 
 pub judged-done : (ws : List ℕ) (sound : Bool) (i : ℕ) → 72 ≤ i → sound ≡ sound && judged_from i ws
-unfolding begins words_of_all read_all all
+unfolding begins words_of_all read_all
 judged-done ws sound i h =
     let n : 0 ≡ 72 - i = omega arith in
     let d : List ℕ = drop (3 * i) ws in
     sym (and-true sound) ∙ ap (λ (m : ℕ). sound && (begins (words_of_all entry_words (read_all entry_from 3 m d)) d && all sound_entry
     (read_all entry_from 3 m d))) n
 
-all_append : {A : Type 0} (p : A → Bool) (xs ys : List A) → all p (xs ++ ys) ≡ all p xs && all p ys
-unfolding all
-all_append p [] ys = refl
-all_append p (x ∷ xs) ys = ap (λ (b : Bool). p x && b) (all_append p xs ys) ∙ sym (and_assoc (p x) (all p xs) (all p ys))
-
 row_more : (n : ℕ) (ws : List ℕ) → all sound_entry (read_all entry_from 3 (n + 18) ws) ≡ all sound_entry (read_all entry_from 3 n ws)
     && sound_row (row_from (drop (3 * n) ws))
-row_more n ws = ap (all sound_entry) (parts_add entry_from 3 n 18 ws) ∙ all_append sound_entry (read_all entry_from 3 n ws) (row_from (drop (3 * n) ws))
+row_more n ws = ap (all sound_entry) (parts_add entry_from 3 n 18 ws) ∙ list_all-append sound_entry (read_all entry_from 3 n ws) (row_from (drop (3 * n) ws))
 
 -- 72 entries are four rows
 table-sound : (ws : List ℕ) → all sound_entry (read_all entry_from 3 72 (drop 4 ws)) ≡ sound_table (table_from ws)
-unfolding all
 table-sound ws =
     let at : (n : ℕ) → sound_row (row_from (drop n (drop 4 ws))) ≡ sound_row (row_from (drop (4 + n) ws)) = λ n. ap (λ (l : List ℕ). sound_row (row_from l))
     (drop-drop n 4 ws) in
@@ -134,7 +131,7 @@ pub four-sound : (p : ℕ → Bool) (ws : List ℕ) → 4 ≤ length ws
     → (eqb (get_or ws 0 0 % 256) (get_or ws 0 0) && p (get_or ws 0 0 % 256)) && (eqb (get_or ws 1 0 % 256) (get_or ws 1 0) && p (get_or ws 1 0 % 256))
     && (eqb (get_or ws 2 0 % 256) (get_or ws 2 0) && p (get_or ws 2 0 % 256)) && (eqb (get_or ws 3 0 % 256) (get_or ws 3 0) && p (get_or ws 3 0 % 256))
     ≡ begins (four_from ws) ws && all p (four_from ws)
-unfolding all begins
+unfolding begins
 four-sound p ws h =
     let fit : ℕ → Bool = λ i. eqb (get_or ws i 0 % 256) (get_or ws i 0) in
     let pass : ℕ → Bool = λ i. p (get_or ws i 0 % 256) in

@@ -4,8 +4,7 @@ use Rattle.std.proofs.Common.{arith, length-append, length-set, take-append-drop
 use lib.Seq.{sets, sets-eq, set-append_left, set_split}
 use Rattle.lists.proofs.Lists.{set-append-add}
 use Rattle.sched_words.specs.Words.{words_of_all}
-use Rattle.sched_words.proofs.WordLaws.{length-joined}
-use Rattle.sched_words.proofs.FitLaws.{joined-append}
+use Rattle.sched_words.proofs.WordLaws.{joined-append, length-joined}
 
 -- in the first of two lists
 pub sets-left : (a b : List ℕ) (i : ℕ) (w : List ℕ) → i + length w ≤ length a → sets (a ++ b) i w ≡ sets a i w ++ b

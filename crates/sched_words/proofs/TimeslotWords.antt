@@ -8,9 +8,8 @@ use Rattle.dl_record.specs.Record.{empty_record}
 use Rattle.dl_queue.specs.Questions.{sound_queue}
 use Rattle.dl_queue.proofs.PushLaws.{rec_at}
 use Rattle.sched_words.specs.Words.{record_word_count, record_words, record_read, queue_words, queue_from}
-use Rattle.sched_words.proofs.WordLaws.{record-size, length-joined, joined-next, joined-done, length-parts}
+use Rattle.sched_words.proofs.WordLaws.{joined-append, record-size, length-joined, joined-next, joined-done, length-parts}
 use Rattle.sched_words.proofs.StoreLaws.{sets-middle}
-use Rattle.sched_words.proofs.FitLaws.{joined-append}
 use Rattle.sched_words.proofs.WordsQueue.{sound-read, sound-words}
 
 -- ---- the loop that stores m records

@@ -1,32 +1,33 @@
 -- Words one after another, as the loops read and store them; and single words. Assumes nothing.
-use Rattle.std.proofs.Common.{◌≡◌, ℕ, zero, suc, ◌+◌, ◌*◌, ◌<◌, ◌≤◌, List, [], ◌∷◌, ◌++◌, length, get_or, take}
-use Rattle.std.proofs.Common.{drop, set, sym, refl, ap, ◌∙◌, append-nil, le_of_suc-le-suc, not-suc-le-zero, add-zero, zero-add, add-one, arith}
+use Rattle.std.proofs.Common.{◌≡◌, ℕ, zero, suc, ◌+◌, ◌*◌, ◌<◌, ◌≤◌, List, [], ◌∷◌, ◌++◌, length, get_or, take, Option, Some, None}
+use Rattle.std.proofs.Common.{drop, set, sym, refl, ap, ◌∙◌, append_assoc, append-nil, le_of_suc-le-suc, not-suc-le-zero, add-zero, zero-add, add-one, arith}
 use Rattle.std.proofs.Common.{length-append, drop_of_length-le, take_all, drop-cons, drop-drop}
+use borrow.Rule.Slice.PartMut.{put_mid}
 use lib.Seq.{sets, sets-eq, paste-suc}
-use Rattle.optional.specs.declared.OptU16.{OptU16}
 use Rattle.uplink.specs.declared.Entry.{Entry}
-use Rattle.mac_pdus.specs.declared.OptChanAlloc.{OptChanAlloc}
 use Rattle.dl_record.specs.declared.QueuedHeader.{QueuedHeader}
 use Rattle.dl_record.specs.declared.Record.{Record}
-use Rattle.sched_words.specs.Words.{record_word_count, Stored, words_of_all, read_all, alloc_words}
+use Rattle.sched_words.specs.Words.{record_word_count, words_of_all, read_all, alloc_words}
 use Rattle.sched_words.specs.Words.{alloc_fields}
-use Rattle.sched_words.specs.Words.{alloc_from, queued_header_words, record_words, entry_words, words_of_row}
+use Rattle.sched_words.specs.Words.{alloc_by, queued_header_words, record_words, entry_words, words_of_row, table_words}
+use Rattle.uplink.specs.UplinkEntry.{Table}
+use Rattle.std.specs.List.{flat_map}
+use Rattle.mac_pdus.specs.declared.ChanAllocElement.{ChanAllocElement}
 
 -- ---- single words
 
 -- the words of a channel allocation, one by one
-pub ten-words : (a : List ℕ) (o : OptChanAlloc) (bits sent : ℕ) → a ≡ alloc_words o
-    → get_or a 0 0 ∷ get_or a 1 0 ∷ get_or a 2 0 ∷ get_or a 3 0 ∷ get_or a 4 0 ∷ get_or a 5 0 ∷ get_or a 6 0 ∷ get_or a 7 0 ∷ get_or a 8 0 ∷ get_or a 9 0 ∷
-    bits ∷ sent ∷ []
-    ≡ alloc_words o ++ bits ∷ sent ∷ []
-ten-words a OptChanAlloc.Absent bits sent e = rw e
-ten-words a (OptChanAlloc.Of c) bits sent e = rw e
+pub ten-words : (a : List ℕ) (o : Option ChanAllocElement) (rest : List ℕ) → a ≡ alloc_words o
+    → get_or a 0 0 ∷ get_or a 1 0 ∷ get_or a 2 0 ∷ get_or a 3 0 ∷ get_or a 4 0 ∷ get_or a 5 0 ∷ get_or a 6 0 ∷ get_or a 7 0 ∷ get_or a 8 0 ∷ get_or a 9 0 ∷ rest
+    ≡ alloc_words o ++ rest
+ten-words a None rest e = rw e
+ten-words a (Some c) rest e = rw e
 
-pub ten-long : (o : OptChanAlloc) → length (alloc_words o) ≡ 10
-ten-long OptChanAlloc.Absent = refl
-ten-long (OptChanAlloc.Of c) = refl
+pub ten-long : (o : Option ChanAllocElement) → length (alloc_words o) ≡ 10
+ten-long None = refl
+ten-long (Some c) = refl
 
-pub header-size : (tag : OptU16) (h : QueuedHeader) → length (queued_header_words tag h) ≡ 18
+pub header-size : (tag : Option ℕ) (h : QueuedHeader) → length (queued_header_words tag h) ≡ 18
 header-size tag h = ap (λ (n : ℕ). suc (suc (suc (suc (suc (suc (suc (suc n)))))))) (ten-long h.chan_alloc_element)
 
 pub record-size : (r : Record) → length (record_words r) ≡ record_word_count
@@ -36,7 +37,7 @@ record-size r =
     length-append (queued_header_words r.tag r.header) (r.bits ∷ r.sent ∷ []) ∙ omega (arith, header-size r.tag r.header) in
     ap (λ (n : ℕ). suc (suc (suc n))) e
 
-pub alloc-present : (w : ℕ) (ws : List ℕ) → (w ≡ 0 → ⊥) → OptChanAlloc.Of (alloc_fields ws) ≡ alloc_from w ws
+pub alloc-present : (w : ℕ) (ws : List ℕ) → (w ≡ 0 → ⊥) → Some (alloc_fields ws) ≡ alloc_by w ws
 alloc-present zero ws h = absurd (h refl)
 alloc-present (suc w) ws h = refl
 
@@ -52,18 +53,20 @@ sets-whole l f e =
     sets-eq f l 0 (omega arith) ∙ ap (λ (r : List ℕ). f ++ r) (drop_of_length-le l {i = 0 + length f} (omega arith)) ∙ append-nil f
 
 -- one run of words after another
-pub stored_on : {l l' ws : List ℕ} {at n : ℕ} → Stored l at l' ws n → {l'' v : List ℕ} {p k : ℕ} → Stored l' p l'' v k → p ≡ at + n → (m : ℕ) → m ≡ n + k
-    → Stored l at l'' (ws ++ v) m
-stored_on {l} {l'} {ws} {at} {n} s {l''} {v} {p} t e m g =
-    record {
-      words =
-          t.words ∙ ap (λ (x : List ℕ). sets x p v) s.words ∙ ap (λ (j : ℕ). sets (sets l at ws) j v) (e ∙ ap (λ (j : ℕ). at + j) (sym s.size))
-          ∙ sym (sets-append l at ws v);
-      size = length-append ws v ∙ omega (arith, s.size, t.size, g);
-    }
+pub sets-next : (l f g : List ℕ) (n : ℕ) → length f ≡ n → sets (sets l 0 f) n g ≡ sets l 0 (f ++ g)
+sets-next l f g n size =
+    let e : n ≡ 0 + length f = omega (arith, size) in
+    ap (λ (j : ℕ). sets (sets l 0 f) j g) e ∙ sym (sets-append l 0 f g)
 
-pub stored-whole : {l l' ws : List ℕ} {n : ℕ} → Stored l 0 l' ws n → length l ≡ n → l' ≡ ws
-stored-whole {l} {l'} {ws} s e = s.words ∙ sets-whole l ws (s.size ∙ sym e)
+-- words copied over as many
+pub copied : (l v w : List ℕ) (i n : ℕ) → v ≡ w → length w ≡ n → i + n ≤ length l → put_mid i n l v ≡ sets l i w
+copied l v w i n e size room =
+    ap (λ (x : List ℕ). take i l ++ (x ++ drop n (drop i l))) e
+    ∙ ap (λ (r : List ℕ). take i l ++ (w ++ r)) (drop-drop n i l ∙ ap (λ (j : ℕ). drop (i + j) l) (sym size))
+    ∙ sym (append_assoc (take i l) w (drop (i + length w) l)) ∙ sym (sets-eq w l i (omega arith))
+
+pub copied-front : (l v w : List ℕ) (n : ℕ) → v ≡ w → length w ≡ n → n ≤ length l → v ++ drop n l ≡ sets l 0 w
+copied-front l v w n e size room = copied l v w 0 n e size (omega arith)
 
 -- ---- elements stored and read
 
@@ -89,6 +92,20 @@ module _ {A : Type 0} (f : A → List ℕ) (k : ℕ) (size : (x : A) → length 
 -- the words of a row
 pub row-size : (row : List Entry) → length row ≡ 18 → length (words_of_row row) ≡ 54
 row-size row e = length-joined entry_words 3 (λ x. refl) row ∙ omega (arith, e)
+
+pub joined-append : {A : Type 0} (f : A → List ℕ) (xs ys : List A) → words_of_all f (xs ++ ys) ≡ words_of_all f xs ++ words_of_all f ys
+unfolding words_of_all
+joined-append f [] ys = refl
+joined-append f (x ∷ xs) ys = ap (λ (l : List ℕ). f x ++ l) (joined-append f xs ys) ∙ sym (append_assoc (f x) (words_of_all f xs) (words_of_all f ys))
+
+-- and of the four rows of a table, one after another
+pub table-joined : (tb : Table) → length tb ≡ 4 → words_of_all entry_words (flat_map (λ row. row) tb) ≡ table_words tb
+table-joined [] e = absurd (omega (arith, e))
+table-joined (a ∷ []) e = absurd (omega (arith, e))
+table-joined (a ∷ b ∷ []) e = absurd (omega (arith, e))
+table-joined (a ∷ b ∷ c ∷ []) e = absurd (omega (arith, e))
+table-joined (a ∷ b ∷ c ∷ d ∷ []) e = simp (append-nil, joined-append, append_assoc)
+table-joined (a ∷ b ∷ c ∷ d ∷ x ∷ tb) e = absurd (omega (arith, e))
 
 module _ {A : Type 0} (f : List ℕ → A) (k : ℕ) where
   pub length-parts : (n : ℕ) (ws : List ℕ) → length (read_all f k n ws) ≡ n

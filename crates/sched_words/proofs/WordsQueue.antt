@@ -1,11 +1,11 @@
 -- The queue that words stand for, place by place: it is sound exactly if the words of each place are those of a record that is sound there. A record stored in
 -- its words is one set in the queue. Assumes nothing.
+use Rattle.std.proofs.lemmas.Bool.{and_parts, and_from}
 use Rattle.std.proofs.Common.{◌≡◌, ℕ, zero, suc, ◌+◌, ◌-◌, ◌*◌, ◌/◌, ◌%◌, ◌<◌, ◌≤◌, Bool, true, false, cond, ◌&&◌, ltb, List, [], ◌∷◌, length, get_or}
 use Rattle.std.proofs.Common.{take, drop, set, replicate, sym, refl, ap, ◌∙◌, ap₂, arith, length-drop, drop-drop}
 use mathlib.Core.Bool.{and_assoc}
 use lib.Seq.{sets}
 use Rattle.sizes.specs.Sizes.{cell_octets, timeslots, per_timeslot, queue_places}
-use Rattle.optional.proofs.Tests.{and_left, and_right, and_intro}
 use Rattle.uplink.proofs.Basics.{not-both}
 use Rattle.dl_record.specs.declared.Record.{Record}
 use Rattle.dl_record.specs.Record.{empty_record}
@@ -61,19 +61,19 @@ unfolding begins words_of_all read_all
 fits_all zero ws h f = refl
 fits_all (suc n) ws h f =
     parts-turn record_words record_read record_word_count record-size n ws
-    ∙ and_intro (begins (record_words (record_read ws)) ws) (run_fits n (drop record_word_count ws)) (first_fits ws (omega arith) ∙ f 0 (omega arith))
+    ∙ and_from (begins (record_words (record_read ws)) ws) (run_fits n (drop record_word_count ws)) (first_fits ws (omega arith) ∙ f 0 (omega arith))
     (fits_all n (drop record_word_count ws) (rw length-drop (omega arith)) (λ p l. ap fit (next-words ws p) ∙ f (suc p) (omega arith)))
 
 all-fits : (n : ℕ) (ws : List ℕ) → record_word_count * n ≤ length ws → run_fits n ws ≡ true → (p : ℕ) → p < n → fit (words_at ws p) ≡ true
 all-fits zero ws h e p l = absurd (omega arith)
 all-fits (suc n) ws h e zero l =
-    sym (first_fits ws (omega arith)) ∙ and_left (begins (record_words (record_read ws)) ws) (run_fits n (drop record_word_count ws))
-    (sym (parts-turn record_words record_read record_word_count record-size n ws) ∙ e)
+    sym (first_fits ws (omega arith)) ∙ (and_parts (begins (record_words (record_read ws)) ws) (run_fits n (drop record_word_count ws)) (sym
+    (parts-turn record_words record_read record_word_count record-size n ws) ∙ e)).0
 all-fits (suc n) ws h e (suc p) l =
     ap fit (sym (next-words ws p))
     ∙ all-fits n (drop record_word_count ws) (rw length-drop (omega arith))
-    (and_right (begins (record_words (record_read ws)) ws) (run_fits n (drop record_word_count ws))
-    (sym (parts-turn record_words record_read record_word_count record-size n ws) ∙ e)) p (omega arith)
+    (and_parts (begins (record_words (record_read ws)) ws) (run_fits n (drop record_word_count ws)) (sym
+    (parts-turn record_words record_read record_word_count record-size n ws) ∙ e)).1 p (omega arith)
 
 -- ---- words that stand for a sound queue
 
@@ -135,16 +135,16 @@ module _ (ns s ws : List ℕ) (counts : length ns ≡ timeslots) (size : length 
       let j : ℕ = p % per_timeslot in
       let e : p ≡ per_timeslot * t + j = omega arith in
       ap (λ (q : ℕ). fit (words_at ws q)) e
-      ∙ and_left (fit (words_at ws (per_timeslot * t + j))) (sound_place (ltb j (get_or ns t 0)) (record_read (words_at ws (per_timeslot * t + j)))
-      (cell_at s (per_timeslot * t + j))) ((f t (omega arith)).places j (omega arith)) in
+      ∙ (and_parts (fit (words_at ws (per_timeslot * t + j))) (sound_place (ltb j (get_or ns t 0)) (record_read (words_at ws (per_timeslot * t + j)))
+      (cell_at s (per_timeslot * t + j))) ((f t (omega arith)).places j (omega arith))).0 in
       ap (λ (rs : List Record). sound_queue ns rs s) (same_read ws (sym run-same ∙ fits_all queue_places ws (omega arith) fits))
       ∙ queue-all ns (records_read ws) s
       (λ t h. let here = f t (omega arith) in (
         here.count,
         places-all per_timeslot (get_or ns t 0) (drop (per_timeslot * t) (records_read ws)) (drop (cell_octets * (per_timeslot * t)) s)
             (λ j l. place_at (ltb j (get_or ns t 0)) t j (omega arith) l
-            ∙ and_right (fit (words_at ws (per_timeslot * t + j))) (sound_place (ltb j (get_or ns t 0)) (record_read (words_at ws (per_timeslot * t + j)))
-            (cell_at s (per_timeslot * t + j))) (here.places j l)),
+            ∙ (and_parts (fit (words_at ws (per_timeslot * t + j))) (sound_place (ltb j (get_or ns t 0)) (record_read (words_at ws (per_timeslot * t + j)))
+            (cell_at s (per_timeslot * t + j))) (here.places j l)).1),
       ))
 
   pub sound-slots : sound_queue ns (queue_from ws) s ≡ true → (t : ℕ) → t < timeslots → Timeslot ns s ws t
@@ -153,7 +153,7 @@ module _ (ns s ws : List ℕ) (counts : length ns ≡ timeslots) (size : length 
       let q = queue-at ns (records_read ws) s (ap (λ (rs : List Record). sound_queue ns rs s) (sym (same_read ws same)) ∙ h) t (omega arith) in
       record {
         count = q.0;
-        places = λ j k. and_intro (fit (words_at ws (per_timeslot * t + j)))
+        places = λ j k. and_from (fit (words_at ws (per_timeslot * t + j)))
             (sound_place (ltb j (get_or ns t 0)) (record_read (words_at ws (per_timeslot * t + j))) (cell_at s (per_timeslot * t + j)))
             (all-fits queue_places ws (omega arith) (run-same ∙ same) (per_timeslot * t + j) (omega arith))
             (sym (place_at (ltb j (get_or ns t 0)) t j l k) ∙ places-at per_timeslot (get_or ns t 0) (drop (per_timeslot * t) (records_read ws))

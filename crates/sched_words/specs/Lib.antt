@@ -1,2 +1,3 @@
+pub mod FieldLaws
 pub mod Front
 pub mod Words

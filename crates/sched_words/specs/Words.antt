@@ -1,17 +1,14 @@
 -- The station and the queue as words of 32 bits, for callers in C: the table of include/bs_sched.h. Assumes nothing.
-use Rattle.std.specs.Prelude.{◌≡◌, ℕ, zero, suc, ◌+◌, ◌*◌, ◌%◌, ◌^◌, Bool, true, false, cond, ◌&&◌, List, [], ◌∷◌, ◌++◌, length, drop, replicate, ◌==◌, nat_le}
+use Rattle.std.specs.Prelude.{◌≡◌, ℕ, zero, suc, ◌+◌, ◌*◌, ◌%◌, ◌^◌, Bool, true, false, cond}
+use Rattle.std.specs.Prelude.{◌&&◌, List, [], ◌∷◌, ◌++◌, length, drop, replicate, ◌==◌, nat_le, Option, Some, None}
 use Rattle.std.specs.Prelude.{slice_index, slice_index_or}
 use Rattle.std.proofs.lemmas.List.Edits.{sets}
 use Rattle.sizes.specs.Sizes.{timeslots, queue_places}
-use Rattle.optional.specs.declared.OptU8.{OptU8}
-use Rattle.optional.specs.declared.OptU16.{OptU16}
-use Rattle.optional.specs.declared.OptU32.{OptU32}
 use Rattle.tdma_time.specs.declared.TdmaTime.{TdmaTime}
 use Rattle.uplink.specs.declared.Entry.{Entry}
 use Rattle.uplink.specs.UplinkEntry.{Table, empty_table}
 use Rattle.uplink.specs.Uplink.{uplink_of}
 use Rattle.mac_pdus.specs.declared.ChanAllocElement.{ChanAllocElement}
-use Rattle.mac_pdus.specs.declared.OptChanAlloc.{OptChanAlloc}
 use Rattle.dl_record.specs.declared.Kind.{Kind}
 use Rattle.dl_record.specs.declared.QueuedHeader.{QueuedHeader}
 use Rattle.dl_record.specs.declared.Record.{Record}
@@ -34,31 +31,31 @@ queue_word_count = record_word_count * queue_places
 
 -- ---- one value
 
--- a value that may be absent: 0, or the value and 1
-abbrev pub word_of8 : OptU8 → ℕ
-word_of8 OptU8.Absent = 0
-word_of8 (OptU8.Of v) = v + 1
+-- the low bits of a word that is too wide (such words are no station's and no record's: `same_words` below): all below n
+abbrev pub low : ℕ → ℕ → ℕ
+low n w = w % n
 
-abbrev pub word_of16 : OptU16 → ℕ
-word_of16 OptU16.Absent = 0
-word_of16 (OptU16.Of v) = v + 1
+-- the word of a field, or the field of a word, where either is the other as it stands
+abbrev pub itself : ℕ → ℕ
+itself v = v
 
-abbrev pub word_of32 : OptU32 → ℕ
-word_of32 OptU32.Absent = 0
-word_of32 (OptU32.Of v) = (v + 1) % 2 ^ 32
+-- a value that may be absent: 0, or the word of the value and 1
+abbrev pub word_or_zero : {A : Type 0} → (A → ℕ) → Option A → ℕ
+word_or_zero word None = 0
+word_or_zero word (Some v) = (word v + 1) % 2 ^ 32
 
--- and back: the low bits of a word that is too wide (such words are no station's and no record's: `same_words` below)
-abbrev pub opt_u8 : ℕ → OptU8
-opt_u8 zero = OptU8.Absent
-opt_u8 (suc v) = OptU8.Of (v % 256)
+-- and back
+abbrev pub unless_zero : {A : Type 0} → (ℕ → A) → ℕ → Option A
+unless_zero from_word zero = None
+unless_zero from_word (suc w) = Some (from_word w)
 
-abbrev pub opt_u16 : ℕ → OptU16
-opt_u16 zero = OptU16.Absent
-opt_u16 (suc v) = OptU16.Of (v % 65536)
+-- of a number
+abbrev pub opt_word : Option ℕ → ℕ
+opt_word o = word_or_zero itself o
 
-abbrev pub opt_u32 : ℕ → OptU32
-opt_u32 zero = OptU32.Absent
-opt_u32 (suc v) = OptU32.Of v
+-- of one below n
+abbrev pub opt_low : ℕ → ℕ → Option ℕ
+opt_low n w = unless_zero (low n) w
 
 -- "kind (grant, ack, record, waiting, started)"
 abbrev pub kind_word : Kind → ℕ
@@ -106,10 +103,10 @@ time_from ws = record { t = word_at ws 0 % 256; f = word_at ws 1 % 256; m = word
 
 -- 3 words of an entry: the owners of the first half and of the second, the marker
 abbrev pub entry_words : Entry → List ℕ
-entry_words e = word_of32 e.ul1 ∷ word_of32 e.ul2 ∷ word_of8 e.usage_marker ∷ []
+entry_words e = opt_word e.ul1 ∷ opt_word e.ul2 ∷ opt_word e.usage_marker ∷ []
 
 abbrev pub entry_of : ℕ → ℕ → ℕ → Entry
-entry_of a b m = record { ul1 = opt_u32 a; ul2 = opt_u32 b; usage_marker = opt_u8 m }
+entry_of a b m = record { ul1 = unless_zero itself a; ul2 = unless_zero itself b; usage_marker = opt_low 256 m }
 
 abbrev pub entry_from : List ℕ → Entry
 entry_from ws = entry_of (word_at ws 0) (word_at ws 1) (word_at ws 2)
@@ -143,37 +140,40 @@ station_read ws = station_of (uplink_of (time_from ws) (table_from ws) (four_fro
 
 -- ---- a record
 
--- words 11 to 20: 1, then the channel allocation; all 0 if there is none
-abbrev pub alloc_words : OptChanAlloc → List ℕ
-alloc_words OptChanAlloc.Absent = replicate 10 0
-alloc_words (OptChanAlloc.Of c) =
+-- ten words: 1, then the channel allocation; all 0 if there is none
+abbrev pub alloc_words : Option ChanAllocElement → List ℕ
+alloc_words None = replicate 10 0
+alloc_words (Some c) =
     1 ∷ c.alloc_type ∷ c.ts_assigned ∷ c.ul_dl_assigned ∷ c.clch_permission ∷ c.cell_change_flag ∷ c.carrier_num ∷ c.ext_carrier_num_flag
-    ∷ c.mon_pattern ∷ word_of8 c.frame18_mon_pattern ∷ []
+    ∷ c.mon_pattern ∷ opt_word c.frame18_mon_pattern ∷ []
 
 abbrev pub alloc_fields : List ℕ → ChanAllocElement
 alloc_fields ws =
     record {
-      alloc_type = word_at ws 12 % 256;
-      ts_assigned = word_at ws 13 % 256;
-      ul_dl_assigned = word_at ws 14 % 256;
-      clch_permission = word_at ws 15 % 256;
-      cell_change_flag = word_at ws 16 % 256;
-      carrier_num = word_at ws 17 % 65536;
-      ext_carrier_num_flag = word_at ws 18 % 256;
-      mon_pattern = word_at ws 19 % 256;
-      frame18_mon_pattern = opt_u8 (word_at ws 20);
+      alloc_type = word_at ws 1 % 256;
+      ts_assigned = word_at ws 2 % 256;
+      ul_dl_assigned = word_at ws 3 % 256;
+      clch_permission = word_at ws 4 % 256;
+      cell_change_flag = word_at ws 5 % 256;
+      carrier_num = word_at ws 6 % 65536;
+      ext_carrier_num_flag = word_at ws 7 % 256;
+      mon_pattern = word_at ws 8 % 256;
+      frame18_mon_pattern = opt_low 256 (word_at ws 9);
     }
 
--- by word 11
-abbrev pub alloc_from : ℕ → List ℕ → OptChanAlloc
-alloc_from zero ws = OptChanAlloc.Absent
-alloc_from (suc n) ws = OptChanAlloc.Of (alloc_fields ws)
+-- by the first of them
+abbrev pub alloc_by : ℕ → List ℕ → Option ChanAllocElement
+alloc_by zero ws = None
+alloc_by (suc n) ws = Some (alloc_fields ws)
+
+abbrev pub alloc_from : List ℕ → Option ChanAllocElement
+alloc_from ws = alloc_by (word_at ws 0) ws
 
 -- word 3: the tag; 4 to 10: the header but for the allocation; 11 to 20: that
-abbrev pub queued_header_words : OptU16 → QueuedHeader → List ℕ
+abbrev pub queued_header_words : Option ℕ → QueuedHeader → List ℕ
 queued_header_words tag h =
-    word_of16 tag ∷ h.pos_of_grant ∷ h.encryption_mode ∷ h.random_access_flag ∷ word_of16 h.event_label ∷ word_of8 h.usage_marker
-    ∷ word_of8 h.power_control_element ∷ word_of8 h.slot_granting_element ∷ alloc_words h.chan_alloc_element
+    opt_word tag ∷ h.pos_of_grant ∷ h.encryption_mode ∷ h.random_access_flag ∷ opt_word h.event_label ∷ opt_word h.usage_marker
+    ∷ opt_word h.power_control_element ∷ opt_word h.slot_granting_element ∷ alloc_words h.chan_alloc_element
 
 -- words 0 to 2: kind, address kind, number; 3 to 20: tag and header; 21 and 22: bits, sent
 unfoldable pub record_words : Record → List ℕ
@@ -185,11 +185,11 @@ header_from ws =
       pos_of_grant = word_at ws 4 % 256;
       encryption_mode = word_at ws 5 % 256;
       random_access_flag = word_at ws 6 % 256;
-      event_label = opt_u16 (word_at ws 7);
-      usage_marker = opt_u8 (word_at ws 8);
-      power_control_element = opt_u8 (word_at ws 9);
-      slot_granting_element = opt_u8 (word_at ws 10);
-      chan_alloc_element = alloc_from (word_at ws 11) ws;
+      event_label = opt_low 65536 (word_at ws 7);
+      usage_marker = opt_low 256 (word_at ws 8);
+      power_control_element = opt_low 256 (word_at ws 9);
+      slot_granting_element = opt_low 256 (word_at ws 10);
+      chan_alloc_element = alloc_from (drop 11 ws);
     }
 
 unfoldable pub record_read : List ℕ → Record
@@ -198,7 +198,7 @@ record_read ws =
       kind = kind_from (word_at ws 0);
       address_kind = word_at ws 1 % 256;
       number = word_at ws 2;
-      tag = opt_u16 (word_at ws 3);
+      tag = opt_low 65536 (word_at ws 3);
       header = header_from ws;
       bits = word_at ws 21 % 65536;
       sent = word_at ws 22 % 65536;
@@ -226,7 +226,7 @@ no_station = station_of (uplink_of (record { t = 0; f = 0; m = 0; h = 0 }) empty
 
 -- a record that no place may hold: its kind of address is none
 abbrev pub no_record : Record
-no_record = record { kind = Kind.Grant; address_kind = 255; number = 0; tag = OptU16.Absent; header = empty_header; bits = 0; sent = 0 }
+no_record = record { kind = Kind.Grant; address_kind = 255; number = 0; tag = None; header = empty_header; bits = 0; sent = 0 }
 
 -- the station that words stand for: words that are no station's stand for one that is refused
 unfoldable pub station_from : List ℕ → Station
@@ -248,7 +248,7 @@ saturated most w = cond (nat_le w most) w most
 
 -- are words 3 to 20 those of the tag and the header that are read from them
 abbrev pub header_fits : List ℕ → Bool
-header_fits ws = begins (queued_header_words (opt_u16 (word_at ws 3)) (header_from ws)) (drop 3 ws)
+header_fits ws = begins (queued_header_words (opt_low 65536 (word_at ws 3)) (header_from ws)) (drop 3 ws)
 
 -- "6. Header legal? Every field within its width; encryption 0 with an address": a header that is refused
 abbrev pub illegal_header : QueuedHeader
@@ -257,11 +257,11 @@ illegal_header =
       pos_of_grant = 0;
       encryption_mode = 255;
       random_access_flag = 0;
-      event_label = OptU16.Absent;
-      usage_marker = OptU8.Absent;
-      power_control_element = OptU8.Absent;
-      slot_granting_element = OptU8.Absent;
-      chan_alloc_element = OptChanAlloc.Absent;
+      event_label = None;
+      usage_marker = None;
+      power_control_element = None;
+      slot_granting_element = None;
+      chan_alloc_element = None;
     }
 
 -- Words that no header has get 6. Document 01 has no question for a tag of over 16 bits: it goes with the fields of the header.
@@ -271,4 +271,4 @@ offered_header ws = cond (header_fits ws) (header_from ws) illegal_header
 -- An address kind above 255 gets 5, like 255, and bits above 65,535 get 7, like 65,535.
 unfoldable pub offered_from : List ℕ → Record
 offered_from ws =
-    offered_record (saturated 255 (word_at ws 1)) (word_at ws 2) (opt_u16 (word_at ws 3)) (offered_header ws) (saturated 65535 (word_at ws 21))
+    offered_record (saturated 255 (word_at ws 1)) (word_at ws 2) (opt_low 65536 (word_at ws 3)) (offered_header ws) (saturated 65535 (word_at ws 21))

@@ -4,68 +4,54 @@ ghost use Rattle.std.proofs.lemmas.List.Edits.{sets};
 ghost use Rattle.sizes.specs.Sizes.{per_timeslot, queue_places, store_octets};
 ghost use Rattle.dl_record.specs.Record.{empty_record};
 ghost use Rattle.dl_queue.specs.Questions.{sound_place, sound_queue};
-ghost use Rattle.sched_words.specs.Words.{record_word_count, queue_word_count, same_words, word_at, alloc_words, alloc_from, header_from, record_words};
+ghost use Rattle.sched_words.specs.Words.{record_word_count, queue_word_count, same_words, alloc_words, alloc_from, header_from, record_words};
 ghost use Rattle.sched_words.specs.Words.{record_read, queue_words, records_read, queue_from, header_fits, illegal_header, offered_header, offered_from};
 ghost use Rattle.sched_words.specs.Front.{begins};
 
-use crate::{RECORD_WORDS, word};
-use dl_record::{QueuedHeader, Record};
-use mac_pdus::{ChanAllocElement, OptChanAlloc};
-use optional::{OptU8, OptU16};
+use crate::RECORD_WORDS;
+use crate::word::{self, Field};
+use dl_record::{Kind, QueuedHeader, Record};
+use mac_pdus::ChanAllocElement;
 use sizes::{CELL_OCTETS, PER_TIMESLOT, TIMESLOTS};
 
-pub fn alloc_words(o: OptChanAlloc) -> [u32; 10]
+pub fn alloc_words(o: Option<ChanAllocElement>) -> [u32; 10]
     ensures { result ≡ alloc_words o }
 {
-    let OptChanAlloc::Of(c) = o else {
+    let Some(c) = o else {
         return [0; 10];
     };
-    let frame18 = c.frame18_mon_pattern;
-    let last = word::word_of_8(frame18);
     [
         1,
-        c.alloc_type as u32,
-        c.ts_assigned as u32,
-        c.ul_dl_assigned as u32,
-        c.clch_permission as u32,
-        c.cell_change_flag as u32,
-        c.carrier_num as u32,
-        c.ext_carrier_num_flag as u32,
-        c.mon_pattern as u32,
-        last,
+        c.alloc_type.word(),
+        c.ts_assigned.word(),
+        c.ul_dl_assigned.word(),
+        c.clch_permission.word(),
+        c.cell_change_flag.word(),
+        c.carrier_num.word(),
+        c.ext_carrier_num_flag.word(),
+        c.mon_pattern.word(),
+        c.frame18_mon_pattern.word(),
     ]
 }
 
+// Kept: the words are spelled out, since a copy of the allocation's ten into an array of zeros would write the others one by one too.
 fn record_words(r: Record) -> [u32; RECORD_WORDS]
     ensures { result ≡ record_words r }
 {
-    let header = r.header;
-    let kind = r.kind;
-    let tag = r.tag;
-    let event_label = header.event_label;
-    let usage_marker = header.usage_marker;
-    let power = header.power_control_element;
-    let grant = header.slot_granting_element;
-    let alloc = header.chan_alloc_element;
-    let k = word::kind_word(kind);
-    let t = word::word_of_16(tag);
-    let l = word::word_of_16(event_label);
-    let m = word::word_of_8(usage_marker);
-    let p = word::word_of_8(power);
-    let g = word::word_of_8(grant);
-    let a = alloc_words(alloc);
+    let h = r.header;
+    let a = alloc_words(h.chan_alloc_element);
     [
-        k,
-        r.address_kind as u32,
+        r.kind.word(),
+        r.address_kind.word(),
         r.number,
-        t,
-        header.pos_of_grant as u32,
-        header.encryption_mode as u32,
-        header.random_access_flag as u32,
-        l,
-        m,
-        p,
-        g,
+        r.tag.word(),
+        h.pos_of_grant.word(),
+        h.encryption_mode.word(),
+        h.random_access_flag.word(),
+        h.event_label.word(),
+        h.usage_marker.word(),
+        h.power_control_element.word(),
+        h.slot_granting_element.word(),
         a[0],
         a[1],
         a[2],
@@ -76,37 +62,29 @@ fn record_words(r: Record) -> [u32; RECORD_WORDS]
         a[7],
         a[8],
         a[9],
-        r.bits as u32,
-        r.sent as u32,
+        r.bits.word(),
+        r.sent.word(),
     ]
 }
 
-fn alloc_from(words: &[u32]) -> OptChanAlloc
-    requires { record_word_count ≤ length words.now }
-    ensures { result ≡ alloc_from (word_at words.now 11) words.now }
+// The channel allocation of the words that begin with it.
+pub fn alloc_from(words: &[u32]) -> Option<ChanAllocElement>
+    requires { 10 ≤ length words.now }
+    ensures { result ≡ alloc_from words.now }
 {
-    if words[11] == 0 {
-        return OptChanAlloc::Absent;
+    if words[0] == 0 {
+        return None;
     }
-    let alloc_type = word::low8(words[12]);
-    let ts_assigned = word::low8(words[13]);
-    let ul_dl_assigned = word::low8(words[14]);
-    let clch_permission = word::low8(words[15]);
-    let cell_change_flag = word::low8(words[16]);
-    let carrier_num = word::low16(words[17]);
-    let ext_carrier_num_flag = word::low8(words[18]);
-    let mon_pattern = word::low8(words[19]);
-    let frame18_mon_pattern = word::opt_u8(words[20]);
-    OptChanAlloc::Of(ChanAllocElement {
-        alloc_type: alloc_type,
-        ts_assigned: ts_assigned,
-        ul_dl_assigned: ul_dl_assigned,
-        clch_permission: clch_permission,
-        cell_change_flag: cell_change_flag,
-        carrier_num: carrier_num,
-        ext_carrier_num_flag: ext_carrier_num_flag,
-        mon_pattern: mon_pattern,
-        frame18_mon_pattern: frame18_mon_pattern,
+    Some(ChanAllocElement {
+        alloc_type: Field::from_word(words[1]),
+        ts_assigned: Field::from_word(words[2]),
+        ul_dl_assigned: Field::from_word(words[3]),
+        clch_permission: Field::from_word(words[4]),
+        cell_change_flag: Field::from_word(words[5]),
+        carrier_num: Field::from_word(words[6]),
+        ext_carrier_num_flag: Field::from_word(words[7]),
+        mon_pattern: Field::from_word(words[8]),
+        frame18_mon_pattern: Field::from_word(words[9]),
     })
 }
 
@@ -114,23 +92,15 @@ fn header_from(words: &[u32]) -> QueuedHeader
     requires { record_word_count ≤ length words.now }
     ensures { result ≡ header_from words.now }
 {
-    let pos_of_grant = word::low8(words[4]);
-    let encryption_mode = word::low8(words[5]);
-    let random_access_flag = word::low8(words[6]);
-    let event_label = word::opt_u16(words[7]);
-    let usage_marker = word::opt_u8(words[8]);
-    let power_control_element = word::opt_u8(words[9]);
-    let slot_granting_element = word::opt_u8(words[10]);
-    let chan_alloc_element = alloc_from(words);
     QueuedHeader {
-        pos_of_grant: pos_of_grant,
-        encryption_mode: encryption_mode,
-        random_access_flag: random_access_flag,
-        event_label: event_label,
-        usage_marker: usage_marker,
-        power_control_element: power_control_element,
-        slot_granting_element: slot_granting_element,
-        chan_alloc_element: chan_alloc_element,
+        pos_of_grant: Field::from_word(words[4]),
+        encryption_mode: Field::from_word(words[5]),
+        random_access_flag: Field::from_word(words[6]),
+        event_label: Field::from_word(words[7]),
+        usage_marker: Field::from_word(words[8]),
+        power_control_element: Field::from_word(words[9]),
+        slot_granting_element: Field::from_word(words[10]),
+        chan_alloc_element: alloc_from(&words[11..]),
     }
 }
 
@@ -138,21 +108,14 @@ fn record_read(words: &[u32]) -> Record
     requires { record_word_count ≤ length words.now }
     ensures { result ≡ record_read words.now }
 {
-    let kind = word::kind_of(words[0]);
-    let address_kind = word::low8(words[1]);
-    let number = words[2];
-    let tag = word::opt_u16(words[3]);
-    let header = header_from(words);
-    let bits = word::low16(words[21]);
-    let sent = word::low16(words[22]);
     Record {
-        kind: kind,
-        address_kind: address_kind,
-        number: number,
-        tag: tag,
-        header: header,
-        bits: bits,
-        sent: sent,
+        kind: Field::from_word(words[0]),
+        address_kind: Field::from_word(words[1]),
+        number: words[2],
+        tag: Field::from_word(words[3]),
+        header: header_from(words),
+        bits: Field::from_word(words[21]),
+        sent: Field::from_word(words[22]),
     }
 }
 
@@ -161,34 +124,34 @@ pub fn records_read(words: &[u32], first: usize, n: usize) -> [Record; PER_TIMES
     requires { (first + per_timeslot ≤ queue_places) × (length words.now ≡ queue_word_count) × (n ≤ per_timeslot) }
     ensures { result ≡ take n (take per_timeslot (drop first (records_read words.now))) ++ drop n (replicate per_timeslot empty_record) }
 {
+    // Kept: `iter_mut` with `chunks_exact` is no plainer than the index, and a proof knows no element after `iter_mut`.
     let mut records = [Record::EMPTY; PER_TIMESLOT];
     for k in 0..n {
-        let at = RECORD_WORDS * (first + k);
-        let r = record_read(&words[at..]);
-        records[k] = r;
+        records[k] = record_read(&words[RECORD_WORDS * (first + k)..]);
     }
     records
 }
 
 // ---- words that are a record's: each fits its field
 
+// Are ten words those of the channel allocation that is read from them?
 fn alloc_fits(words: &[u32]) -> bool
-    requires { length words.now ≡ record_word_count }
-    ensures { result ≡ begins (alloc_words (alloc_from (word_at words.now 11) words.now)) (drop 11 words.now) }
+    requires { 10 ≤ length words.now }
+    ensures { result ≡ begins (alloc_words (alloc_from words.now)) words.now }
 {
-    if words[11] == 0 {
-        return word::all_zero(&words[12..21]);
+    if words[0] == 0 {
+        return word::all_zero(&words[1..10]);
     }
-    (words[11] == 1)
-        & (words[12] < 256)
-        & (words[13] < 256)
-        & (words[14] < 256)
-        & (words[15] < 256)
-        & (words[16] < 256)
-        & (words[17] < 65536)
-        & (words[18] < 256)
-        & (words[19] < 256)
-        & (words[20] <= 256)
+    (words[0] == 1)
+        & word::fits::<u8>(words[1])
+        & word::fits::<u8>(words[2])
+        & word::fits::<u8>(words[3])
+        & word::fits::<u8>(words[4])
+        & word::fits::<u8>(words[5])
+        & word::fits::<u16>(words[6])
+        & word::fits::<u8>(words[7])
+        & word::fits::<u8>(words[8])
+        & word::fits::<Option<u8>>(words[9])
 }
 
 // Are words 3 to 20 those of the tag and the header that are read from them?
@@ -196,15 +159,15 @@ fn header_fits(words: &[u32]) -> bool
     requires { length words.now ≡ record_word_count }
     ensures { result ≡ header_fits words.now }
 {
-    (words[3] <= 65536)
-        & (words[4] < 256)
-        & (words[5] < 256)
-        & (words[6] < 256)
-        & (words[7] <= 65536)
-        & (words[8] <= 256)
-        & (words[9] <= 256)
-        & (words[10] <= 256)
-        & alloc_fits(words)
+    word::fits::<Option<u16>>(words[3])
+        & word::fits::<u8>(words[4])
+        & word::fits::<u8>(words[5])
+        & word::fits::<u8>(words[6])
+        & word::fits::<Option<u16>>(words[7])
+        & word::fits::<Option<u8>>(words[8])
+        & word::fits::<Option<u8>>(words[9])
+        & word::fits::<Option<u8>>(words[10])
+        & alloc_fits(&words[11..])
 }
 
 // Are the words those of the record that is read from them? For a number any word will do.
@@ -212,11 +175,11 @@ fn record_fits(words: &[u32]) -> bool
     requires { length words.now ≡ record_word_count }
     ensures { result ≡ same_words (record_words (record_read words.now)) words.now }
 {
-    (words[0] < 5)
-        & (words[1] < 256)
+    word::fits::<Kind>(words[0])
+        & word::fits::<u8>(words[1])
         & header_fits(words)
-        & (words[21] < 65536)
-        & (words[22] < 65536)
+        & word::fits::<u16>(words[21])
+        & word::fits::<u16>(words[22])
 }
 
 // ---- a record that is offered
@@ -226,14 +189,8 @@ fn no_header() -> QueuedHeader
     ensures { result ≡ illegal_header }
 {
     QueuedHeader {
-        pos_of_grant: 0,
         encryption_mode: 255,
-        random_access_flag: 0,
-        event_label: OptU16::Absent,
-        usage_marker: OptU8::Absent,
-        power_control_element: OptU8::Absent,
-        slot_granting_element: OptU8::Absent,
-        chan_alloc_element: OptChanAlloc::Absent,
+        ..QueuedHeader::EMPTY
     }
 }
 
@@ -253,11 +210,13 @@ pub fn offered_from(words: &[u32]) -> Record
     requires { length words.now ≡ record_word_count }
     ensures { result ≡ offered_from words.now }
 {
-    let address_kind = word::saturated8(words[1]);
-    let tag = word::opt_u16(words[3]);
-    let header = offered_header(words);
-    let bits = word::saturated16(words[21]);
-    dl_record::offered_record(address_kind, words[2], tag, header, bits)
+    Record::offered(
+        word::saturated(words[1]),
+        words[2],
+        Field::from_word(words[3]),
+        offered_header(words),
+        word::saturated(words[21]),
+    )
 }
 
 // ---- question 1 for the words of the queue and the cells
@@ -284,6 +243,7 @@ fn unfilled_is_sound(words: &[u32], cell: &[u8]) -> bool
 }
 
 // The filled places of a timeslot and the others in two loops, each with one test.
+// Kept: words and cells of a place stand in two slices of other steps, so that two zips of `chunks_exact`, cut at n, are no plainer.
 pub fn queue_is_sound(counts: [u8; TIMESLOTS], words: &[u32], store: &[u8]) -> bool
     requires { (length words.now ≡ queue_word_count) × (length store.now ≡ store_octets) }
     ensures { result ≡ sound_queue counts (queue_from words.now) store.now }
@@ -322,8 +282,8 @@ pub fn put_record(words: &mut [u32], place: usize, r: Record)
     requires { (place < queue_places) × (length words.old ≡ queue_word_count) }
     ensures { words.new ≡ sets words.old (record_word_count * place) (record_words r) }
 {
-    let w = record_words(r);
-    word::put(words, RECORD_WORDS * place, &w);
+    let at = RECORD_WORDS * place;
+    words[at..at + RECORD_WORDS].copy_from_slice(&record_words(r));
 }
 
 // Stores the words of the first n records of a timeslot, the first of them at `first`.
@@ -331,8 +291,7 @@ pub fn put_records(words: &mut [u32], first: usize, n: usize, records: [Record; 
     requires { (first + per_timeslot ≤ queue_places) × (length words.old ≡ queue_word_count) × (n ≤ per_timeslot) }
     ensures { words.new ≡ sets words.old (record_word_count * first) (queue_words (take n records)) }
 {
-    for j in 0..n {
-        let r = records[j];
-        put_record(words, first + j, r);
+    for (j, r) in records[..n].iter().enumerate() {
+        put_record(words, first + j, *r);
     }
 }

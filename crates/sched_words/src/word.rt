@@ -1,128 +1,168 @@
-// Single words, and runs of words compared and stored.
-ghost use Rattle.std.specs.Prelude.{◌≡◌, ◌+◌, ◌%◌, ◌≤◌, length};
-ghost use Rattle.std.proofs.lemmas.List.Edits.{sets};
+// Single words, and the fields that stand in them.
+ghost use Rattle.std.specs.Prelude.{◌≡◌, ℕ, ◌+◌, ◌==◌, min};
 ghost use Rattle.dl_sdu_store.specs.Cells.{all_zero};
-ghost use Rattle.sched_words.specs.Words.{word_of8, word_of16, word_of32, opt_u8, opt_u16, opt_u32, kind_word, kind_from, saturated};
+ghost use Rattle.sched_words.specs.Words.{low, itself, word_or_zero, unless_zero, kind_word, kind_from, saturated};
+ghost use Rattle.sched_words.specs.FieldLaws.{FieldLaws, low_laws, whole_laws, option_laws, kind_laws};
 
-use dl_record::{Kind, Record};
-use optional::{OptU8, OptU16, OptU32};
+use dl_record::Kind;
 
-// The low 8 bits of a word.
-pub fn low8(w: u32) -> u8
-    ensures { result ≡ w % 256 }
-{
-    (w % 256) as u8
+// A field of a record, an entry or a header, and the word that it stands in.
+pub trait Field: Copy {
+    ghost from_word: { ℕ → Self };
+
+    ghost word: { Self → ℕ };
+
+    ghost most: { ℕ };
+
+    // A word that is too wide stands for its low bits.
+    fn from_word(w: u32) -> Self
+        ensures { result ≡ from_word w };
+
+    fn word(self) -> u32
+        ensures { result ≡ word self };
+
+    // The greatest word of a field.
+    fn most() -> u32
+        ensures { result ≡ most };
+
+    ghost laws: { FieldLaws from_word word most };
 }
 
-// The low 16 bits of a word.
-pub fn low16(w: u32) -> u16
-    ensures { result ≡ w % 65536 }
-{
-    (w % 65536) as u16
+impl Field for u8 {
+    ghost from_word = { low 256 };
+
+    ghost word = { itself };
+
+    ghost most = { 255 };
+
+    fn from_word(w: u32) -> u8 {
+        (w % 256) as u8
+    }
+
+    fn word(self) -> u32 {
+        self as u32
+    }
+
+    fn most() -> u32 {
+        255
+    }
+
+    ghost laws = { low_laws 255 };
 }
 
-// A word, or the greatest number of 8 bits.
-pub fn saturated8(w: u32) -> u8
-    ensures { result ≡ saturated 255 w }
-{
-    if 255 < w {
-        return 255;
+impl Field for u16 {
+    ghost from_word = { low 65536 };
+
+    ghost word = { itself };
+
+    ghost most = { 65535 };
+
+    fn from_word(w: u32) -> u16 {
+        (w % 65536) as u16
     }
-    w as u8
+
+    fn word(self) -> u32 {
+        self as u32
+    }
+
+    fn most() -> u32 {
+        65535
+    }
+
+    ghost laws = { low_laws 65535 };
 }
 
-// A word, or the greatest number of 16 bits.
-pub fn saturated16(w: u32) -> u16
-    ensures { result ≡ saturated 65535 w }
-{
-    if 65535 < w {
-        return 65535;
+impl Field for u32 {
+    ghost from_word = { itself };
+
+    ghost word = { itself };
+
+    ghost most = { 4294967295 };
+
+    fn from_word(w: u32) -> u32 {
+        w
     }
-    w as u16
+
+    fn word(self) -> u32 {
+        self
+    }
+
+    fn most() -> u32 {
+        u32::MAX
+    }
+
+    ghost laws = { whole_laws };
 }
 
-pub fn opt_u8(w: u32) -> OptU8
-    ensures { result ≡ opt_u8 w }
-{
-    if w == 0 {
-        return OptU8::Absent;
+// A field that may be absent: 0, or the word of the field and 1.
+impl<T: Field> Field for Option<T> {
+    ghost from_word = { unless_zero T.from_word };
+
+    ghost word = { word_or_zero T.word };
+
+    ghost most = { min 4294967295 (T.most + 1) };
+
+    fn from_word(w: u32) -> Option<T> {
+        Some(T::from_word(w.checked_sub(1)?))
     }
-    OptU8::Of(low8(w - 1))
+
+    fn word(self) -> u32 {
+        self.map_or(0, |field| field.word().wrapping_add(1))
+    }
+
+    fn most() -> u32 {
+        T::most().saturating_add(1)
+    }
+
+    ghost laws = { option_laws T.from_word T.word T.most T.laws };
 }
 
-pub fn opt_u16(w: u32) -> OptU16
-    ensures { result ≡ opt_u16 w }
-{
-    if w == 0 {
-        return OptU16::Absent;
+impl Field for Kind {
+    ghost from_word = { kind_from };
+
+    ghost word = { kind_word };
+
+    ghost most = { 4 };
+
+    fn from_word(w: u32) -> Kind {
+        match w {
+            0 => Kind::Grant,
+            1 => Kind::Ack,
+            2 => Kind::Record,
+            3 => Kind::Waiting,
+            _ => Kind::Started,
+        }
     }
-    OptU16::Of(low16(w - 1))
+
+    fn word(self) -> u32 {
+        match self {
+            Kind::Grant => 0,
+            Kind::Ack => 1,
+            Kind::Record => 2,
+            Kind::Waiting => 3,
+            Kind::Started => 4,
+        }
+    }
+
+    fn most() -> u32 {
+        4
+    }
+
+    ghost laws = { kind_laws };
 }
 
-pub fn opt_u32(w: u32) -> OptU32
-    ensures { result ≡ opt_u32 w }
+// Is a word that of the field that it stands for?
+pub fn fits<T: Field>(w: u32) -> bool
+    ensures { result ≡ (T.word (T.from_word w) == w) }
 {
-    if w == 0 {
-        return OptU32::Absent;
-    }
-    OptU32::Of(w - 1)
+    w <= T::most()
 }
 
-pub fn word_of_8(o: OptU8) -> u32
-    ensures { result ≡ word_of8 o }
+// The field of a word, or the one of the greatest word.
+pub fn saturated<T: Field>(w: u32) -> T
+    ensures { T.word result ≡ saturated T.most w }
 {
-    match o {
-        OptU8::Absent => 0,
-        OptU8::Of(v) => v as u32 + 1,
-    }
-}
-
-pub fn word_of_16(o: OptU16) -> u32
-    ensures { result ≡ word_of16 o }
-{
-    match o {
-        OptU16::Absent => 0,
-        OptU16::Of(v) => v as u32 + 1,
-    }
-}
-
-pub fn word_of_32(o: OptU32) -> u32
-    ensures { result ≡ word_of32 o }
-{
-    match o {
-        OptU32::Absent => 0,
-        OptU32::Of(v) => std::num::wrapping_add_u32(v, 1),
-    }
-}
-
-pub fn kind_word(k: Kind) -> u32
-    ensures { result ≡ kind_word k }
-{
-    match k {
-        Kind::Grant => 0,
-        Kind::Ack => 1,
-        Kind::Record => 2,
-        Kind::Waiting => 3,
-        Kind::Started => 4,
-    }
-}
-
-pub fn kind_of(w: u32) -> Kind
-    ensures { result ≡ kind_from w }
-{
-    if w == 0 {
-        return Kind::Grant;
-    }
-    if w == 1 {
-        return Kind::Ack;
-    }
-    if w == 2 {
-        return Kind::Record;
-    }
-    if w == 3 {
-        return Kind::Waiting;
-    }
-    Kind::Started
+    T::from_word(w.min(T::most()))
 }
 
 // ---- words
@@ -131,21 +171,5 @@ pub fn kind_of(w: u32) -> Kind
 pub fn all_zero(words: &[u32]) -> bool
     ensures { result ≡ all_zero words.now }
 {
-    let mut acc: u32 = 0;
-    for i in 0..words.len() {
-        acc = acc | words[i];
-    }
-    acc == 0
-}
-
-// Stores the words of src from at on.
-pub fn put(words: &mut [u32], at: usize, src: &[u32])
-    requires { at + length src.now ≤ length words.old }
-    ensures { words.new ≡ sets words.old at src.now }
-{
-    let mut i = 0;
-    while i < src.len() {
-        words[at + i] = src[i];
-        i += 1;
-    }
+    words.iter().fold(0, |seen, word| seen | word) == 0
 }

@@ -1,6 +1,7 @@
 // Words and numbers on standard output, for the programs that show results.
 #![tactic(auto)]
 
+use std::fmt::Display;
 use std::io;
 
 // A word, as it is.
@@ -9,8 +10,16 @@ pub fn word(rt: &impl Print, text: &[u8]) -> io::Result<()> {
 }
 
 // A number in decimal, after a space.
-pub fn number(rt: &impl Print, n: u64) -> io::Result<()> {
+pub fn number(rt: &impl Print, n: impl Display + Copy) -> io::Result<()> {
     print!(rt; " {n}")
+}
+
+// A number after a space, or - for none.
+pub fn or_dash(rt: &impl Print, o: Option<impl Display + Copy>) -> io::Result<()> {
+    match o {
+        Some(n) => number(rt, n),
+        None => word(rt, b" -"),
+    }
 }
 
 // An octet in hexadecimal, after nothing.

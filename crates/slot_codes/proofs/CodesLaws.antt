@@ -1,34 +1,22 @@
 -- Laws of the codes as numbers: what is granted is what was asked for, and the octet holds its halves. Assumes nothing.
 use mathlib.Core.Path.{◌≡◌, refl, sym, ap, ◌∙◌}
-use mathlib.Core.Bool.{Bool, true, false, cond, ◌&&◌, and-eq-true_iff}
-use mathlib.Core.List.{List, [], ◌∷◌, map}
-use Prim.Native.Nat.{ℕ, zero, suc, ◌-◌, ◌≤◌, ◌<◌}
+use Rattle.std.proofs.Common.{Result, Ok, Err}
+use mathlib.Core.Bool.{Bool, true, false, cond}
+use mathlib.Core.List.{[], ◌∷◌, map}
+use Prim.Native.Nat.{ℕ, zero, suc, ◌+◌, ◌≤◌, ◌<◌}
 use native.Mathlib.Nat.{le_of_suc-le-suc, not-suc-le-zero, min-eq_left, min-eq_right}
 use native.Mathlib.Omega.{arith}
 use lib.Dec.{leb, ltb, lit<, eqb-suc-zero}
-use lib.ListN.{length, get_or, take, get_or-eq_default}
-use borrow.Author.Tests.{ltb-true, ltb-false, leb-true, le-ltb, lt-ltb, le-leb, eq-eqb}
-use Rattle.lists.proofs.Lists.{get_d_any}
-use Rattle.slot_codes.specs.Codes.{slot_counts, slots_wanted, slots_granted, capacity_for, first_holding, code_for, grant_octet, capacity_of, delay_of}
+use lib.ListN.{get_or-eq_default}
+use borrow.Author.Tests.{leb-true, ltb-true, ltb-false, le-leb, eq-eqb}
+use Rattle.slot_codes.specs.Codes.{slot_counts, slots_of, slots_wanted, slots_granted, capacity_for, first_holding, code_for, code_read, grant_octet, capacity_of, delay_of}
+use Rattle.slot_codes.specs.declared.UnknownCode.{UnknownCode}
 use Rattle.slot_codes.proofs.TableLaws.{agree-below}
 
--- the table of codes 0 to 14 gives the slots wanted and the slots granted
-pub wanted-in-table : (code : ℕ) → code < 15 → get_or (1 ∷ slot_counts) code 0 ≡ slots_wanted code
-wanted-in-table zero h = refl
-wanted-in-table (suc c) h = get_d_any slot_counts c 0 68 (le_of_suc-le-suc h)
-
-pub granted-in-table : (code : ℕ) → code < 15 → get_or (1 ∷ slot_counts) code 0 ≡ slots_granted code
-granted-in-table zero h = refl
-granted-in-table (suc c) h = get_d_any slot_counts c 0 1 (le_of_suc-le-suc h)
-
 -- past the table: over 68 is taken as 68, and the second half counts as one slot
-pub wanted-past-table : (code : ℕ) → 15 ≤ code → slots_wanted code ≡ 68
-wanted-past-table zero h = absurd (not-suc-le-zero h)
-wanted-past-table (suc c) h = get_or-eq_default slot_counts 68 (le_of_suc-le-suc h)
-
-pub granted-past-table : (code : ℕ) → 15 ≤ code → slots_granted code ≡ 1
-granted-past-table zero h = absurd (not-suc-le-zero h)
-granted-past-table (suc c) h = get_or-eq_default slot_counts 1 (le_of_suc-le-suc h)
+pub slots-past-table : (past code : ℕ) → 15 ≤ code → slots_of past code ≡ past
+slots-past-table past zero h = absurd (not-suc-le-zero h)
+slots-past-table past (suc c) h = get_or-eq_default slot_counts past (le_of_suc-le-suc h)
 
 -- the capacity that answers a requirement: the halves, the counts below 68, and 68
 pub capacity-of-half : (code : ℕ) (second : Bool) → code ≡ 0 → capacity_for code second ≡ cond second 15 0
@@ -42,28 +30,10 @@ pub capacity-of-68 : (code : ℕ) (second : Bool) → 14 ≤ code → capacity_f
 capacity-of-68 zero second h = absurd (not-suc-le-zero h)
 capacity-of-68 (suc c) second h = rw (eqb-suc-zero c) (min-eq_right h)
 
--- no number of a list is above a bound
-abbrev pub at_most : ℕ → List ℕ → Bool
-at_most low [] = true
-at_most low (x ∷ xs) = leb x low && at_most low xs
-
--- the first number that holds n stands at place k: those before it are below n, and it is not
-pub held_at : (xs : List ℕ) (k low n : ℕ) → at_most low (take k xs) ≡ true → k ≤ length xs → low < n → n ≤ get_or xs k n → first_holding xs n ≡ k
-held_at [] zero low n t l h g = refl
-held_at (x ∷ xs) zero low n t l h g = rw (le-ltb _ _ g)
-held_at [] (suc k) low n t l h g = absurd (not-suc-le-zero l)
-held_at (x ∷ xs) (suc k) low n t l h g =
-    let below : x < n = omega (arith, leb-true x low ((and-eq-true_iff (leb x low) (at_most low (take k xs))).0 t).0) in
-    rw (lt-ltb _ _ below) (ap suc (held_at xs k low n ((and-eq-true_iff (leb x low) (at_most low (take k xs))).0 t).1 (le_of_suc-le-suc l) h g))
-
--- the code of a need of n slots: place k of the counts is the first that holds them
-pub code_at : (k low n : ℕ) → at_most low (take k slot_counts) ≡ true → k ≤ 14 → low < n → n ≤ get_or slot_counts k n → code_for n ≡ suc k
-code_at k low zero t l h g = absurd (not-suc-le-zero h)
-code_at k low (suc n) t l h g = ap suc (held_at slot_counts k low (suc n) t l h g)
-
--- up to six slots the code is the count
-pub code-of-few : (n : ℕ) → n ≤ 6 → code_for n ≡ n
-code-of-few n h = agree-below code_for (λ k. k) 7 refl n (omega arith)
+-- the code of a need: one past the place of the first count that holds it
+pub code-of-some : (n : ℕ) → (n ≡ 0 → ⊥) → 1 + first_holding slot_counts n ≡ code_for n
+code-of-some zero h = absurd (h refl)
+code-of-some (suc n) h = refl
 
 -- document 01's list, in one table: the slots that codes 0 to 15 ask for, and that capacities 0 to 15 grant
 pub wanted-table :
@@ -88,7 +58,7 @@ grants-what-was-wanted code second = go (ltb code 15) refl
     go true e = wanted-in-range second code (ltb-true _ _ e)
     go false e =
         let past : 15 ≤ code = ltb-false _ _ e in
-        ap slots_granted (capacity-of-68 code second (omega arith)) ∙ sym (wanted-past-table code past)
+        ap slots_granted (capacity-of-68 code second (omega arith)) ∙ sym (slots-past-table 68 code past)
 
 -- a capacity has four bits
 pub capacity-below-16 : (code : ℕ) (second : Bool) → capacity_for code second < 16
@@ -96,9 +66,29 @@ capacity-below-16 zero true = lit< tt
 capacity-below-16 zero false = lit< tt
 capacity-below-16 (suc c) second = rw (eqb-suc-zero c) (omega arith)
 
--- a number is a code exactly up to 15, of any kind of case
-pub numbers-read : {C R : Type 0} (of : C → R) (unknown : R) (case : ℕ → C) (x : ℕ) → x < 16 → cond (leb x 15) (of (case x)) unknown ≡ of (case x)
-numbers-read of unknown case x h = rw (le-leb x 15 (omega arith))
+-- reading a code, where each number below 16 is the code of its case
+module _ {C : Type 0} (case : ℕ → C) (code : C → ℕ) where
+  -- what was coded is read back
+  pub code-read-back : (c : C) → code c < 16 → case (code c) ≡ c → code_read case (code c) ≡ Ok c
+  code-read-back c low same = rw (le-leb (code c) 15 (omega arith)) (ap Ok same)
+
+  -- a number that is read as a case is a code, that of the case; one that is not is none
+  pub code-reads : ((x : ℕ) → x < 16 → code (case x) ≡ x) → (x : ℕ) (c : C) → code_read case x ≡ Ok c → (leb x 15 ≡ true) × (code c ≡ x)
+  code-reads coded x c e = go (leb x 15) refl e
+    where
+      go : (b : Bool) → leb x 15 ≡ b → cond {A = Result C UnknownCode} b (Ok (case x)) (Err (record { 0 = x })) ≡ Ok c → (leb x 15 ≡ true) × (code c ≡ x)
+      go true h e =
+          let same : case x ≡ c = cc in
+          let low : x ≤ 15 = leb-true x 15 h in
+          (h, ap code (sym same) ∙ coded x (omega arith))
+      go false h e = absurd (let z : ◌≡◌ {A = ℕ} 0 1 = cc in omega arith)
+
+  pub code-unread : (x : ℕ) (u : UnknownCode) → code_read case x ≡ Err u → leb x 15 ≡ false
+  code-unread x u e = go (leb x 15) refl e
+    where
+      go : (b : Bool) → leb x 15 ≡ b → cond {A = Result C UnknownCode} b (Ok (case x)) (Err (record { 0 = x })) ≡ Err u → leb x 15 ≡ false
+      go true h e = absurd (let z : ◌≡◌ {A = ℕ} 0 1 = cc in omega arith)
+      go false h e = h
 
 -- the octet holds its halves, and every octet is that of its halves
 pub capacity-in-octet : (c d : ℕ) → d < 16 → capacity_of (grant_octet c d) ≡ c

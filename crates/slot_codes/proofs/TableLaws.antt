@@ -4,7 +4,6 @@ use mathlib.Core.Bool.{Bool, true, ◌&&◌, and-eq-true_iff}
 use mathlib.Core.List.{List, [], ◌∷◌, ◌++◌}
 use Prim.Native.Nat.{ℕ, zero, suc, ◌≤◌, ◌<◌}
 use native.Mathlib.Nat.{le_of_suc-le-suc, not-suc-le-zero}
-use native.Mathlib.Omega.{arith}
 use lib.Dec.{eqb}
 use lib.ListN.{length, get_or}
 use borrow.Author.Tests.{eqb-true}
@@ -30,14 +29,3 @@ at_each f (suc n) t (suc k) h = at_each (λ k. f (suc k)) n ((and-eq-true_iff (f
 -- two functions agree below n
 pub agree-below : (f g : ℕ → ℕ) (n : ℕ) → every (λ k. eqb (f k) (g k)) n ≡ true → (k : ℕ) → k < n → f k ≡ g k
 agree-below f g n t k h = eqb-true _ _ (at_each (λ k. eqb (f k) (g k)) n t k h)
-
--- n is none of the numbers below k, as a `match` with an arm for each leaves it
-abbrev pub Untaken : ℕ → ℕ → Type 0
-Untaken n zero = Unit {0}
-Untaken n (suc k) = Untaken n k × (n ≡ k → ⊥)
-
-pub past-untaken : (k n : ℕ) → Untaken n k → k ≤ n
-past-untaken zero n u = omega arith
-past-untaken (suc k) n u =
-    let from : k ≤ n = past-untaken k n u.0 in
-    omega (arith, u.1)

@@ -1,22 +1,27 @@
 -- What a turn of the program leaves. Assumes nothing.
 use Rattle.std.specs.Prelude.{◌≡◌, Bool, true, false, ◌&&◌, not, List, [], ◌∷◌, ◌++◌, ℕ, ◌≤◌, length, take}
 use Rattle.bitbuffer.specs.Bits.{Wrote}
-use Rattle.sched_core.specs.Questions.{memory}
-use Rattle.interpreter.specs.Slotrun.{Session, session}
+use Rattle.interpreter.specs.declared.session.Session.{Session}
+use Rattle.interpreter.specs.Slotrun.{start}
 use Rattle.interpreter.specs.Turns.{whole_commands, turns, begun, is_unknown}
-use Rattle.slotrun.specs.declared.Turn.{Turn}
+use Rattle.slotrun.specs.declared.Program.{Program}
 
--- From the session s the turn `x` has done the whole commands at the front of the octets. What they print is at the front of `out'`, and what is
--- left of the octets at the front of `input'`. `more`: the read has brought octets.
-pub record Turned (s : Session) (octets : List ℕ) (more : Bool) (x : Turn) (store' stage' input' out out' : List ℕ) : Type 0 where
-  pub session-after : session (memory x.station x.queue store') stage' ≡ (whole_commands s octets).session
+-- before the first turn no octet is held
+pub record Begins (p : Program) : Type 0 where
+  pub session : p.session ≡ start
+  pub held : p.held ≡ 0
+
+-- A turn of the program p has done the whole commands at the front of the octets, and leaves p'. What they print is at the front of `out`, and what
+-- is left of the octets at the front of `input`. `more`: the read has brought octets; `on`: it reads on.
+pub record Turned (p : Program) (octets : List ℕ) (more on : Bool) (p' : Program) : Type 0 where
+  pub session-after : p'.session ≡ (whole_commands p.session octets).session
   -- how many octets are printed, and which
   pub count : ℕ
-  pub printed : Wrote out 0 out' count (whole_commands s octets).printed
-  pub left : take x.held input' ≡ (whole_commands s octets).left
-  pub inside : x.held ≤ length input'
+  pub printed : Wrote p.out 0 p'.out count (whole_commands p.session octets).printed
+  pub left : take p'.held p'.input ≡ (whole_commands p.session octets).left
+  pub inside : p'.held ≤ length p'.input
   -- "An unknown or cut command prints E and ends.": it reads on where the read has brought octets and no unknown command is next
-  pub reads_on : x.goes_on ≡ more && not (is_unknown (whole_commands s octets).left)
+  pub reads_on : on ≡ more && not (is_unknown (whole_commands p.session octets).left)
 
 -- are there octets?
 abbrev pub is_some : List ℕ → Bool
@@ -24,9 +29,9 @@ is_some [] = false
 is_some (c ∷ l) = true
 
 -- A turn with a read before it: the octets `next`, of which the contract of `read` says nothing, are put behind those that are held.
-pub record ReadTurn (s : Session) (held : List ℕ) (x : Turn) (store' stage' input' out out' : List ℕ) : Type 0 where
+pub record ReadTurn (p : Program) (on : Bool) (p' : Program) : Type 0 where
   pub next : List ℕ
-  pub turned : Turned s (held ++ next) (is_some next) x store' stage' input' out out'
+  pub turned : Turned p (take p.held p.input ++ next) (is_some next) on p'
 
 -- Some parts lead there: over them, turn by turn from the start, the program comes to the session s with the octets `held` left.
 pub record Reached (s : Session) (held : List ℕ) : Type 0 where

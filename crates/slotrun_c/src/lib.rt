@@ -3,6 +3,8 @@
 
 ghost use Rattle.slotrun_c.specs.Whole.{Whole};
 
+use interpreter::session::Session;
+
 // Does the commands at the front of the input, as many as are whole, and answers how many octets they print, which stand at the front
 // of `out`. Where `out` has not 173 octets for each of the input it answers the greatest number, and leaves `out`.
 #[unsafe(no_mangle)]
@@ -12,10 +14,6 @@ pub extern "C" fn slotrun_run(input: &[u8], out: &mut [u8]) -> u64
     if out.len() / 173 < input.len() {
         return u64::MAX;
     }
-    let station = interpreter::begin::first_station();
-    let queue = interpreter::begin::empty_queue();
-    let mut store = interpreter::begin::empty_store();
-    let mut stage = interpreter::begin::empty_stage();
-    let r = interpreter::run(station, queue, &mut store, &mut stage, input, out);
-    r.count as u64
+    let mut session = Session::start();
+    session.run(input, out).count as u64
 }

@@ -2,10 +2,9 @@
 -- Assumes nothing.
 use mathlib.Core.Path.{◌≡◌, refl, sym, ap, ◌∙◌}
 use mathlib.Core.Logic.{◌≢◌}
-use mathlib.Core.Bool.{true, ◌&&◌, and-eq-true_iff, and-true}
+use mathlib.Core.Bool.{true, and-eq-true_iff}
 use Prim.Native.Nat.{ℕ, ◌+◌, ◌-◌, ◌*◌, ◌/◌, ◌%◌, ◌≤◌, ◌<◌}
 use native.Mathlib.Omega.{arith}
-use lib.Dec.{leb}
 use borrow.Author.Tests.{le-leb, leb-true}
 use Rattle.tdma_time.specs.declared.TdmaTime.{TdmaTime}
 use Rattle.tdma_time.specs.Time.{Valid, valid, cycle, slot_of, timeslot, frame, multiframe, hyperframe, time_of, clock, first_of, next_time, four_earlier}
@@ -46,11 +45,6 @@ true-valid x e =
       m-high = leb-true _ _ f.1;
       h-high = leb-true _ _ g.1;
     }
-
--- where the hyperframe is that of a u16, the test looks at the other parts only
-pub valid-parts : (x : TdmaTime) → x.h ≤ 65535 → leb 1 x.t && leb x.t 4 && leb 1 x.f && leb x.f 18 && leb 1 x.m && leb x.m 60 ≡ valid x
-unfolding valid
-valid-parts x h = rw (le-leb _ _ h) (sym (and-true _))
 
 -- ---- a time and its number
 
@@ -107,13 +101,6 @@ time-at x n v e = sym (time_of-slot_of x v) ∙ ap time_of e ∙ time_of-clock n
 -- a valid time is the one that the slot of its number shows
 pub time-is : (x : TdmaTime) (n : ℕ) → Valid x → slot_of x ≡ n → x ≡ time_of n
 time-is x n v e = sym (time_of-slot_of x v) ∙ ap time_of e
-
--- a valid time is the one that the slot a whole cycle after its number shows
-pub time-round : (x : TdmaTime) (n : ℕ) → Valid x → slot_of x + cycle ≡ n → x ≡ time_of n
-time-round x n v e = time-at x n v (round (slot_of x) n (slot_of-below x v) e)
-  where
-    round : (a b : ℕ) → a < cycle → a + cycle ≡ b → a ≡ clock b
-    round a b h k = omega arith
 
 -- ---- the first slot of a timeslot at or after a time
 

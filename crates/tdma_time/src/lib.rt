@@ -14,16 +14,12 @@ pub struct TdmaTime {
 }
 
 impl TdmaTime {
-    // Is each field in its range?
+    // Is each field in its range? Every u16 is a hyperframe.
+    #[tactic(auto, unfolding(crate::specs::Time::valid))]
     pub fn is_valid(self) -> bool
         ensures { result ≡ valid self }
     {
-        (1 <= self.t)
-            & (self.t <= 4)
-            & (1 <= self.f)
-            & (self.f <= 18)
-            & (1 <= self.m)
-            & (self.m <= 60)
+        (1..=4).contains(&self.t) && (1..=18).contains(&self.f) && (1..=60).contains(&self.m)
     }
 
     // Is this a slot that signalling may use?
@@ -41,33 +37,24 @@ impl TdmaTime {
     {
         if self.f < 18 {
             return TdmaTime {
-                t: t,
+                t,
                 f: self.f + 1,
-                m: self.m,
-                h: self.h,
+                ..self
             };
         }
         if self.m < 60 {
             return TdmaTime {
-                t: t,
+                t,
                 f: 1,
                 m: self.m + 1,
-                h: self.h,
-            };
-        }
-        if self.h < 65535 {
-            return TdmaTime {
-                t: t,
-                f: 1,
-                m: 1,
-                h: self.h + 1,
+                ..self
             };
         }
         TdmaTime {
-            t: t,
+            t,
             f: 1,
             m: 1,
-            h: 0,
+            h: self.h.wrapping_add(1),
         }
     }
 
@@ -79,9 +66,7 @@ impl TdmaTime {
         if self.t < 4 {
             return TdmaTime {
                 t: self.t + 1,
-                f: self.f,
-                m: self.m,
-                h: self.h,
+                ..self
             };
         }
         self.in_next_frame(1)
@@ -94,33 +79,22 @@ impl TdmaTime {
     {
         if 1 < self.f {
             return TdmaTime {
-                t: self.t,
                 f: self.f - 1,
-                m: self.m,
-                h: self.h,
+                ..self
             };
         }
         if 1 < self.m {
             return TdmaTime {
-                t: self.t,
                 f: 18,
                 m: self.m - 1,
-                h: self.h,
-            };
-        }
-        if 0 < self.h {
-            return TdmaTime {
-                t: self.t,
-                f: 18,
-                m: 60,
-                h: self.h - 1,
+                ..self
             };
         }
         TdmaTime {
-            t: self.t,
             f: 18,
             m: 60,
-            h: 65535,
+            h: self.h.wrapping_sub(1),
+            ..self
         }
     }
 
@@ -131,12 +105,7 @@ impl TdmaTime {
         ensures { (result ≡ forward_time self ts) × Valid result }
     {
         if self.t <= ts {
-            return TdmaTime {
-                t: ts,
-                f: self.f,
-                m: self.m,
-                h: self.h,
-            };
+            return TdmaTime { t: ts, ..self };
         }
         self.in_next_frame(ts)
     }

@@ -1,174 +1,115 @@
 // A request for capacity on the uplink: the usage marker drawn, the run that the search found reserved, and the answer.
 #![tactic(auto)]
 
-ghost use Rattle.std.specs.Prelude.{◌≡◌, true, cond, ◌+◌, ◌-◌, ◌*◌, ◌<◌, ◌≤◌, leb, get_or};
-ghost use Rattle.optional.specs.declared.OptU8.{OptU8};
+ghost use Rattle.std.specs.Prelude.{◌≡◌, true, cond, ◌+◌, ◌-◌, ◌*◌, ◌<◌, ◌≤◌, leb, get_or, Some, None, Ok};
 ghost use Rattle.sizes.specs.Sizes.{timeslots, frames_searched, latest_delay};
 ghost use Rattle.tdma_time.specs.Time.{Valid, slot_of, usable, first_of};
 ghost use Rattle.reservation_requirement.specs.Requirement.{requirement_code};
-ghost use Rattle.uplink.specs.Uplink.{uplink_of};
-ghost use Rattle.uplink.specs.Request.{next_marker, drawn, answer};
+ghost use Rattle.uplink.specs.Request.{Request, next_marker, drawn, answer};
 ghost use Rattle.uplink.specs.Functions.{block_taken, granted_at};
 
-use optional::OptU8;
+use questions::Refusal;
 use reservation_requirement::ReservationRequirement;
-use sizes::LATEST_DELAY;
-use tdma_time::TdmaTime;
-use uplink::{CapAnswer, CapReply, Entry, Opportunity, PhyBlockNum, Uplink};
-
-// The usage marker of a grant, and the counters after it.
-#[derive(Clone, Copy)]
-struct MarkerDrawn {
-    pub usage_marker: OptU8,
-    pub next_usage_marker: [u8; sizes::TIMESLOTS],
-}
+use sizes::{LATEST_DELAY, TIMESLOTS};
+use uplink::{Entry, Grant, Opportunity, PhyBlockNum, Uplink};
 
 // The counter after a marker: 4 to 62 and round again.
+#[tactic(auto, unfolding(uplink::specs::Request::next_marker))]
 fn next_marker(marker: u8) -> u8
     ensures { result ≡ next_marker marker }
 {
-    if 62 <= marker {
-        return 4;
-    }
-    marker + 1
+    if 62 <= marker { 4 } else { marker + 1 }
 }
 
 // Two or more slots draw a fresh usage marker from their timeslot's counter, one slot or half a slot none.
 fn alloc_usage_marker(
-    next_usage_marker: [u8; sizes::TIMESLOTS],
+    next_usage_marker: &mut [u8; TIMESLOTS],
     timeslot: u8,
     num_slots: usize,
-) -> MarkerDrawn
+) -> Option<u8>
     requires { (1 ≤ timeslot) × (timeslot ≤ timeslots) }
-    ensures usage_marker_value { result.usage_marker ≡ cond (leb 2 num_slots) (OptU8.Of (get_or next_usage_marker (timeslot - 1) 0)) OptU8.Absent }
-    ensures next_usage_marker_value { result.next_usage_marker ≡ cond (leb 2 num_slots) (drawn next_usage_marker timeslot) next_usage_marker }
+    ensures usage_marker_value { result ≡ cond (leb 2 num_slots) (Some (get_or next_usage_marker.old (timeslot - 1) 0)) None }
+    ensures next_usage_marker_value { next_usage_marker.new ≡ cond (leb 2 num_slots) (drawn next_usage_marker.old timeslot) next_usage_marker.old }
 {
     if num_slots < 2 {
-        return MarkerDrawn {
-            usage_marker: OptU8::Absent,
-            next_usage_marker: next_usage_marker,
-        };
+        return None;
     }
-    let idx = (timeslot - 1) as usize;
-    let marker = next_usage_marker[idx];
-    let mut next = next_usage_marker;
-    next[idx] = next_marker(marker);
-    MarkerDrawn {
-        usage_marker: OptU8::Of(marker),
-        next_usage_marker: next,
-    }
+    let index = (timeslot - 1) as usize;
+    let marker = next_usage_marker[index];
+    next_usage_marker[index] = next_marker(marker);
+    Some(marker)
 }
 
 // Which halves of a slot a request takes: both, or for half a slot the first if it is free, else the second.
 fn free_block(e: Entry, is_halfslot: bool) -> PhyBlockNum
     ensures { result ≡ block_taken is_halfslot e.ul1 }
 {
-    let ul1 = e.ul1;
-    if is_halfslot {
-        if uplink::is_vacant(ul1) {
-            return PhyBlockNum::Block1;
-        }
-        return PhyBlockNum::Block2;
+    if !is_halfslot {
+        PhyBlockNum::Both
+    } else if e.ul1.is_none() {
+        PhyBlockNum::Block1
+    } else {
+        PhyBlockNum::Block2
     }
-    PhyBlockNum::Both
 }
 
-// The run that begins `start` frames after the first opportunity is granted.
-fn grant(
-    now: TdmaTime,
-    table: [[Entry; 18]; sizes::TIMESLOTS],
-    next_usage_marker: [u8; sizes::TIMESLOTS],
+// The run that was found is granted.
+fn granted(
+    u: &mut Uplink,
     timeslot: u8,
     requirement: ReservationRequirement,
     number: u32,
-    start: usize,
-    skips: usize,
-) -> CapAnswer
-    requires valid { Valid now }
-    requires le_timeslot { (1 ≤ timeslot) × (timeslot ≤ timeslots) × (start < frames_searched) × (skips ≤ latest_delay) }
-    requires timeslots_value { usable (first_of timeslot (slot_of now) + start * timeslots) ≡ true }
-    ensures { result ≡ granted_at (uplink_of now table next_usage_marker)
-        (record { timeslot = timeslot; code = requirement_code requirement; number = number }) start skips }
+    found: Opportunity,
+) -> Grant
+    requires valid { Valid u.old.time }
+    requires le_timeslot { (1 ≤ timeslot) × (timeslot ≤ timeslots) × (found.start < frames_searched) × (found.skips ≤ latest_delay) }
+    requires timeslots_value { usable (first_of timeslot (slot_of u.old.time) + found.start * timeslots) ≡ true }
+    ensures { let r : Request = record { timeslot = timeslot; code = requirement_code requirement; number = number } in
+        record { reply = Ok result; uplink = u.new } ≡ granted_at u.old r found.start found.skips }
 {
-    let code = requirement.into_raw();
+    let code = u8::from(requirement);
     let num_slots = requirement.to_req_slotcount();
-    let first_opportunity = now.forward_to_timeslot(timeslot);
-    let row = (timeslot - 1) as usize;
-    let index = ((first_opportunity.f - 1) as usize + start) % 18;
-    let e = table[row][index];
-    let ul1 = e.ul1;
-    let block = free_block(e, code == 0);
-    let capacity = slot_codes::capacity_for(code, !uplink::is_vacant(ul1));
-    let delay = skips as u8;
-    let drawn = alloc_usage_marker(next_usage_marker, timeslot, num_slots);
-    let usage_marker = drawn.usage_marker;
-    let counters = drawn.next_usage_marker;
-    let out = ul_reserve::ul_reserve_grant(
-        table,
-        now,
+    let first_opportunity = u.time.forward_to_timeslot(timeslot);
+    let index = ((first_opportunity.f - 1) as usize + found.start) % 18;
+    let e = u.rows[(timeslot - 1) as usize][index];
+    let usage_marker = alloc_usage_marker(&mut u.next_usage_marker, timeslot, num_slots);
+    ul_reserve::ul_reserve_grant(
+        u,
         timeslot,
-        start,
+        found.start,
         num_slots,
         number,
-        block,
+        free_block(e, code == 0),
         usage_marker,
     );
-    let after = uplink::uplink_of(now, out, counters);
-    CapAnswer {
-        reply: CapReply::Granted {
-            capacity: capacity,
-            delay: delay,
-            usage_marker: usage_marker,
-        },
-        uplink: after,
+    Grant {
+        capacity: slot_codes::capacity_for(code, e.ul1.is_some()),
+        delay: found.skips as u8,
+        usage_marker,
     }
 }
 
-// The answer to a request for capacity that questions 1 to 8 let pass.
+// The answer to a request for capacity that questions 1 to 8 let pass; a refusal leaves the uplink.
+// Kept: a timeslot as a number, as the entries give it; the type that carries its bounds is `Room` of sched_enqueue, which stands above
+// this crate.
+// Kept: timeslot, requirement and number one by one, since a struct of them would be made at the one call to be taken apart here.
 pub fn ul_process_cap_req(
-    u: Uplink,
+    u: &mut Uplink,
     timeslot: u8,
     requirement: ReservationRequirement,
     number: u32,
-) -> CapAnswer
-    requires valid { Valid u.time }
+) -> Result<Grant, Refusal>
+    requires valid { Valid u.old.time }
     requires le_timeslot { (1 ≤ timeslot) × (timeslot ≤ timeslots) }
-    ensures { result ≡ answer u (record { timeslot = timeslot; code = requirement_code requirement; number = number }) }
+    ensures { let r : Request = record { timeslot = timeslot; code = requirement_code requirement; number = number } in
+        record { reply = result; uplink = u.new } ≡ answer u.old r }
 {
-    let now = u.time;
-    let table = uplink::table_of(u);
     let num_slots = requirement.to_req_slotcount();
-    let is_halfslot = requirement.into_raw() == 0;
-    let grant_op = ul_search::ul_find_grant_opportunity(
-        table,
-        now,
-        timeslot,
-        num_slots,
-        is_halfslot,
-    );
+    let is_halfslot = u8::from(requirement) == 0;
+    let grant_op = ul_search::ul_find_grant_opportunity(u, timeslot, num_slots, is_halfslot);
     match grant_op {
-        Opportunity::Nothing => CapAnswer {
-            reply: CapReply::NoRun,
-            uplink: u,
-        },
-        Opportunity::At(start, skips) => {
-            if LATEST_DELAY < skips {
-                return CapAnswer {
-                    reply: CapReply::TooLate,
-                    uplink: u,
-                };
-            }
-            let counters = u.next_usage_marker;
-            grant(
-                now,
-                table,
-                counters,
-                timeslot,
-                requirement,
-                number,
-                start,
-                skips,
-            )
-        }
+        None => Err(Refusal::NoRun),
+        Some(found) if LATEST_DELAY < found.skips => Err(Refusal::TooLate),
+        Some(found) => Ok(granted(u, timeslot, requirement, number, found)),
     }
 }

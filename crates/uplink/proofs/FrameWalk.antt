@@ -1,22 +1,19 @@
--- The two loops over the frames of a timeslot, as they stand at the head of a turn: the search (`Looking`) and the reservation (`Filling`).
+-- The two loops over the frames of a timeslot, as they stand at the head of a turn: the search (`Looking`) and the reservation (`fill`).
 -- Assumes nothing.
+use Rattle.std.proofs.Common.{Option, Some, None}
 use mathlib.Core.Path.{◌≡◌, refl, sym, ap, ◌∙◌}
 use mathlib.Core.Logic.{◌≢◌}
 use mathlib.Core.Bool.{Bool, true, false}
-use mathlib.Core.Option.{none, some}
 use mathlib.Core.List.{List, [], ◌∷◌, ◌++◌}
 use Prim.Native.Nat.{ℕ, zero, suc, ◌+◌, ◌-◌, ◌*◌, ◌/◌, ◌%◌, ◌≤◌, ◌<◌}
 use native.Mathlib.Omega.{arith}
-use native.Mathlib.Nat.{add-zero}
 use lib.ListN.{length, get_or, set, take, length-append}
 use borrow.Author.Tests.{eq-eqb}
 use Rattle.sizes.specs.Sizes.{frames_searched, timeslots}
-use Rattle.optional.specs.declared.OptU8.{OptU8}
 use Rattle.tdma_time.specs.declared.TdmaTime.{TdmaTime}
 use Rattle.tdma_time.specs.Time.{usable, first_of, frames_on, usable_of, frame, slot_of, forward_time}
 use Rattle.tdma_time.proofs.SlotLaws.{frame-usable, first_slot, usable_of-keeps, usable_of-leaves}
 use Rattle.uplink.specs.declared.Entry.{Entry}
-use Rattle.uplink.specs.declared.Opportunity.{Opportunity}
 use Rattle.uplink.specs.HalfSlot.{Half, free_for}
 use Rattle.uplink.specs.Search.{walk}
 use Rattle.uplink.specs.UplinkEntry.{Table, empty_entry, entry_at, store, table_view, with_marker, with_halves, reserve}
@@ -102,18 +99,6 @@ pub record Looking (tb : Table) (half : Bool) (n row first start held skips d : 
   pub place : first < 18
   pub along : (u : ℕ) → At u row first → Along (slot_fits half (table_view tb)) n u skips held start d
 
-pub looking-begin : (tb : Table) (half : Bool) (n row first : ℕ) → 0 < n → row < timeslots → first < 18 → Looking tb half n row first 0 0 0 0
-looking-begin tb half n row first h r f =
-    record {
-      searched = omega arith;
-      short = h;
-      few = omega arith;
-      begun = omega arith;
-      line = r;
-      place = f;
-      along = λ u a. record { run = []; len = refl; head = λ k. absurd (omega arith); same = rw add-zero };
-    }
-
 module _ (tb : Table) (half : Bool) (n row first start held skips d : ℕ) (l : Looking tb half n row first start held skips d) where
   abbrev p : ℕ → Bool
   p = slot_fits half (table_view tb)
@@ -121,7 +106,7 @@ module _ (tb : Table) (half : Bool) (n row first start held skips d : ℕ) (l : 
   abbrev e : Entry
   e = get_or (get_or tb row []) ((first + d) % 18) empty_entry
 
-  pub looking-none : (u : ℕ) → At u row first → d ≡ frames_searched → walk p n 0 [] (frames_on u frames_searched) ≡ none
+  pub looking-none : (u : ℕ) → At u row first → d ≡ frames_searched → walk p n 0 [] (frames_on u frames_searched) ≡ None
   unfolding walk
   looking-none u a z = let k = l.along u a in k.same ∙ ap (walk p n skips k.run) (rest-none u d z)
 
@@ -155,7 +140,7 @@ module _ (tb : Table) (half : Bool) (n row first start held skips d : ℕ) (l : 
       test : (b : Bool) → free_for half e.ul1 e.ul2 ≡ b → (u : ℕ) → At u row first → p (u + d * 4) ≡ b
       test b q u a = rw (← on-entry tb u row first d a) q
 
-      pub looking-block : free_for half e.ul1 e.ul2 ≡ false → Looking tb half n row first start 0 (skips + held + 1) (d + 1)
+      pub looking-block : free_for half e.ul1 e.ul2 ≡ false → Looking tb half n row first start 0 (skips + (held + 1)) (d + 1)
       looking-block q =
           record {
             searched = omega arith;
@@ -166,7 +151,7 @@ module _ (tb : Table) (half : Bool) (n row first start held skips d : ℕ) (l : 
             place = l.place;
             along = λ u a.
                 let k = l.along u a in
-                let s : skips + (length k.run + 1) ≡ skips + held + 1 = omega (arith, k.len) in
+                let s : skips + (length k.run + 1) ≡ skips + (held + 1) = ap (λ (j : ℕ). skips + (j + 1)) k.len in
                 record {
                   run = [];
                   len = refl;
@@ -205,13 +190,13 @@ module _ (tb : Table) (half : Bool) (n row first start held skips d : ℕ) (l : 
                   };
             }
 
-        pub looking-end : held + 1 ≡ n → (u : ℕ) → At u row first → Opportunity.At s skips ≡ as_opportunity u (walk p n 0 [] (frames_on u frames_searched))
+        pub looking-end : held + 1 ≡ n → (u : ℕ) → At u row first → Some (record { start = s; skips = skips }) ≡ as_opportunity u (walk p n 0 [] (frames_on u frames_searched))
         looking-end o u a =
             let k = l.along u a in
-            let w : walk p n 0 [] (frames_on u frames_searched) ≡ some (record { delay = skips; slots = k.run ++ (u + d * 4) ∷ [] }) =
+            let w : walk p n 0 [] (frames_on u frames_searched) ≡ Some (record { delay = skips; slots = k.run ++ (u + d * 4) ∷ [] }) =
             turned u a ∙ walk_end p n skips k.run _ _ (on-usable u first d a.place h) (test true q u a) (longer u a ∙ o) in
             let v : (get_or (k.run ++ (u + d * 4) ∷ []) 0 0 - u) / 4 ≡ s = omega (arith, headed u a) in
-            sym (ap (as_opportunity u) w ∙ ap (λ (j : ℕ). Opportunity.At j skips) v)
+            sym (ap (as_opportunity u) w ∙ ap (λ (j : ℕ). Some (record { start = j; skips = skips })) v)
 
 -- the loop is the declarative search
 pub walk-opportunity : (tb : Table) (now : TdmaTime) (t n : ℕ) (half : Bool) → 0 < n
@@ -224,10 +209,10 @@ walk-opportunity tb now t n half h =
 -- ---- the reservation
 
 -- `left` usable slots from d frames after slot u on are still to be reserved
-unfoldable pub fill : List Half → ℕ → OptU8 → ℕ → ℕ → ℕ → Table → Table
+unfoldable pub fill : List Half → ℕ → Option ℕ → ℕ → ℕ → ℕ → Table → Table
 fill hs who m left u d tb = reserve tb hs who m (take left (usable_of (rest u d)))
 
-module _ (hs : List Half) (who : ℕ) (m : OptU8) (left u d : ℕ) (tb : Table) where
+module _ (hs : List Half) (who : ℕ) (m : Option ℕ) (left u d : ℕ) (tb : Table) where
   pub fill_none : left ≡ 0 → fill hs who m left u d tb ≡ tb
   unfolding fill reserve
   fill_none e = rw e
@@ -262,7 +247,7 @@ module _ (hs : List Half) (who : ℕ) (m : OptU8) (left u d : ℕ) (tb : Table) 
         (ap (λ (j : ℕ). reserve tb hs who m (take j ((u + d * 4) ∷ usable_of (rest u (d + 1))))) s)
 
 -- from the first opportunity on
-pub fill-from : (hs : List Half) (who : ℕ) (m : OptU8) (tb : Table) (now : TdmaTime) (t start n : ℕ)
+pub fill-from : (hs : List Half) (who : ℕ) (m : Option ℕ) (tb : Table) (now : TdmaTime) (t start n : ℕ)
     → fill hs who m n (first_of t (slot_of now)) start tb ≡ reserve tb hs who m (slots_from now t start n)
 unfolding fill slots_from
 fill-from hs who m tb now t start n = refl

@@ -1,9 +1,10 @@
 -- The theorem of demand 2 for requests: `granted-exactly`. Assumes nothing.
+use Rattle.std.proofs.lemmas.Bool.{and_parts}
+use Rattle.std.proofs.Common.{Option, Some, None, Result, Ok, Err}
 use mathlib.Core.Path.{◌≡◌, refl, sym, ap, ◌∙◌}
 use mathlib.Core.Logic.{◌≢◌, ◌↔◌, ⊎_elim}
 use mathlib.Core.Bool.{Bool, true, false, not, cond}
 use mathlib.Core.List.{List, [], ◌∷◌}
-use mathlib.Core.Option.{Option, none, some}
 use Prim.Native.Nat.{ℕ, zero, suc, ◌-◌, ◌%◌, ◌≤◌, ◌<◌, min}
 use native.Mathlib.Omega.{arith}
 use lib.ListN.{length, get_or, take, drop, length-drop}
@@ -12,17 +13,15 @@ use lib.Dec.{leb}
 use borrow.Author.Tests.{eqb-true, eqb-false, le-leb, lt-leb, leb-true, leb-false}
 use Rattle.tdma_time.proofs.TimeLaws.{cell_parts}
 use Rattle.sizes.specs.Sizes.{latest_delay}
+use Rattle.questions.specs.declared.Refusal.{Refusal}
 use Rattle.lists.proofs.Every.{All}
-use Rattle.optional.specs.declared.OptU8.{OptU8}
-use Rattle.optional.specs.declared.OptU32.{OptU32}
-use Rattle.optional.proofs.Tests.{and_left}
 use Rattle.tdma_time.specs.declared.TdmaTime.{TdmaTime}
 use Rattle.tdma_time.specs.Time.{slot_of}
 use Rattle.tdma_time.proofs.Basics.{either}
 use Rattle.slot_codes.specs.Codes.{slots_wanted, wants_half, capacity_for}
 use Rattle.uplink.specs.declared.CapAnswer.{CapAnswer}
-use Rattle.uplink.specs.declared.CapReply.{CapReply}
 use Rattle.uplink.specs.declared.Entry.{Entry}
+use Rattle.uplink.specs.declared.Grant.{Grant}
 use Rattle.uplink.specs.declared.Uplink.{Uplink}
 use Rattle.uplink.specs.HalfSlot.{Half, first_half, second_half, vacant, free_for}
 use Rattle.uplink.specs.Search.{Run, earliest, found, run_at}
@@ -30,7 +29,7 @@ use Rattle.uplink.specs.UplinkEntry.{Table, empty_entry, SameEntry, entry_at, ta
 use Rattle.uplink.specs.UplinkEntry.{sound_counter, sound_marker}
 use Rattle.uplink.specs.Uplink.{sound_uplink}
 use Rattle.uplink.specs.Request.{Request, candidates, slot_fits, earliest_run, no_run, too_late, grant, settle, verdict, capacity, halves_of, draws, drawn}
-use Rattle.uplink.specs.Request.{marker_of, markers_after, reply_to, cap_number, table_after, counters_after, given, answer}
+use Rattle.uplink.specs.Request.{marker_of, markers_after, granted_reply, reply_to, cap_number, table_after, counters_after, given, answer}
 use Rattle.uplink.specs.GrantedExactly.{FreeFrom, EarliestFrom, slot_of_run, Reserved, Proper, Demand2}
 use Rattle.uplink.proofs.Everywhere.{all-at}
 use Rattle.uplink.proofs.RequestLaws.{wanted-pos, whole-halves}
@@ -58,14 +57,14 @@ slots-halves code b h = let z : code ≢ 0 = eqb-false _ _ h in rw h (whole-halv
 -- ---- entries
 
 -- an empty entry with both halves taken
-both-taken : (m : OptU8) (w : ℕ)
-    → with_halves (with_marker empty_entry m) (first_half ∷ second_half ∷ []) w ≡ record { ul1 = OptU32.Of w; ul2 = OptU32.Of w; usage_marker = m }
+both-taken : (m : Option ℕ) (w : ℕ)
+    → with_halves (with_marker empty_entry m) (first_half ∷ second_half ∷ []) w ≡ record { ul1 = Some w; ul2 = Some w; usage_marker = m }
 unfolding with_halves
-both-taken OptU8.Absent w = refl
-both-taken (OptU8.Of m) w = refl
+both-taken None w = refl
+both-taken (Some m) w = refl
 
-free-first : (a b : OptU32) → free_for false a b ≡ true → vacant a ≡ true
-free-first a b h = and_left (vacant a) (vacant b) h
+free-first : (a b : Option ℕ) → free_for false a b ≡ true → vacant a ≡ true
+free-first a b h = (and_parts (vacant a) (vacant b) h).0
 
 all-places : (P : ℕ → Type 0) (cs : List ℕ) → ((j : ℕ) → j < length cs → P (get_or cs j 0)) → All P cs
 all-places P [] h = tt
@@ -97,7 +96,7 @@ module _ (u : Uplink) (r : Request) (q : Proper u r) where
   abbrev run : ℕ → Run
   run i = record { delay = i; slots = take n (drop i cs) }
 
-  earliest-at : (i : ℕ) → (earliest p n cs ≡ some i) ↔ EarliestFrom u r i
+  earliest-at : (i : ℕ) → (earliest p n cs ≡ Some i) ↔ EarliestFrom u r i
   earliest-at i = earliest-iff p n (wanted-pos r.code) cs i
 
   -- ---- the three verdicts
@@ -107,28 +106,28 @@ module _ (u : Uplink) (r : Request) (q : Proper u r) where
     found-late : (i : ℕ) → EarliestFrom u r i → latest_delay < i → answer u r ≡ given u r too_late → Outcome
     found-run : (i : ℕ) → EarliestFrom u r i → i ≤ latest_delay → answer u r ≡ given u r (grant (run i)) → Outcome
 
-  if_none : earliest p n cs ≡ none → answer u r ≡ given u r no_run
+  if_none : earliest p n cs ≡ None → answer u r ≡ given u r no_run
   unfolding answer verdict earliest_run found run_at settle
   if_none e = rw e
 
-  if-late : (i : ℕ) → earliest p n cs ≡ some i → latest_delay < i → answer u r ≡ given u r too_late
+  if-late : (i : ℕ) → earliest p n cs ≡ Some i → latest_delay < i → answer u r ≡ given u r too_late
   unfolding answer verdict earliest_run found run_at settle
   if-late i e h = rw (e, lt-leb i latest_delay h)
 
-  if-run : (i : ℕ) → earliest p n cs ≡ some i → i ≤ latest_delay → answer u r ≡ given u r (grant (run i))
+  if-run : (i : ℕ) → earliest p n cs ≡ Some i → i ≤ latest_delay → answer u r ≡ given u r (grant (run i))
   unfolding answer verdict earliest_run found run_at settle
   if-run i e h = rw (e, le-leb i latest_delay h)
 
   outcome : Outcome
   outcome = go (earliest p n cs) refl
     where
-      some_at : (i : ℕ) → earliest p n cs ≡ some i → (b : Bool) → leb i latest_delay ≡ b → Outcome
+      some_at : (i : ℕ) → earliest p n cs ≡ Some i → (b : Bool) → leb i latest_delay ≡ b → Outcome
       some_at i e true h = found-run i ((earliest-at i).0 e) (leb-true i latest_delay h) (if-run i e (leb-true i latest_delay h))
       some_at i e false h = found-late i ((earliest-at i).0 e) (leb-false i latest_delay h) (if-late i e (leb-false i latest_delay h))
 
       go : (o : Option ℕ) → earliest p n cs ≡ o → Outcome
-      go none e = found_none ((none-iff p n (wanted-pos r.code) cs).0 e) (if_none e)
-      go (some i) e = some_at i e (leb i latest_delay) refl
+      go None e = found_none ((none-iff p n (wanted-pos r.code) cs).0 e) (if_none e)
+      go (Some i) e = some_at i e (leb i latest_delay) refl
 
   -- ---- a grant
 
@@ -139,7 +138,7 @@ module _ (u : Uplink) (r : Request) (q : Proper u r) where
     abbrev hs : List Half
     hs = halves_of (capacity (table_view tb) r.code slots)
 
-    abbrev m : OptU8
+    abbrev m : Option ℕ
     m = marker_of ms r
 
     abbrev after : Table
@@ -152,7 +151,7 @@ module _ (u : Uplink) (r : Request) (q : Proper u r) where
     unfolding given table_after
     table_is = ap (λ (a : CapAnswer). a.uplink.rows) is-given
 
-    reply-is : (answer u r).reply ≡ CapReply.Granted (capacity (table_view tb) r.code slots) i m
+    reply-is : (answer u r).reply ≡ granted_reply (capacity (table_view tb) r.code slots) i m
     unfolding given reply_to
     reply-is = ap (λ (a : CapAnswer). a.reply) is-given
 
@@ -179,7 +178,7 @@ module _ (u : Uplink) (r : Request) (q : Proper u r) where
     first_slot = sym (slot_at 0 (wanted-pos r.code))
 
     whole_is : wants_half r.code ≡ false → (j : ℕ) → j < n
-        → entry_at (answer u r).uplink.rows (slot_of_run u r i j) ≡ record { ul1 = OptU32.Of r.number; ul2 = OptU32.Of r.number; usage_marker = m }
+        → entry_at (answer u r).uplink.rows (slot_of_run u r i j) ≡ record { ul1 = Some r.number; ul2 = Some r.number; usage_marker = m }
     unfolding capacity
     whole_is h j l =
         let free : vacant (entry_at tb (slot_of_run u r i j)).ul1 ≡ true =
@@ -190,12 +189,12 @@ module _ (u : Uplink) (r : Request) (q : Proper u r) where
         (slots-halves r.code (not (vacant (table_view tb (get_or slots 0 0) first_half))) h)
         ∙ both-taken m r.number
 
-    whole-reply : wants_half r.code ≡ false → (answer u r).reply ≡ CapReply.Granted (min r.code 14) i m
+    whole-reply : wants_half r.code ≡ false → (answer u r).reply ≡ granted_reply (min r.code 14) i m
     unfolding capacity
-    whole-reply h = reply-is ∙ ap (λ (k : ℕ). CapReply.Granted k i m) (slots-capacity r.code (not (vacant (table_view tb (get_or slots 0 0) first_half))) h)
+    whole-reply h = reply-is ∙ ap (λ (k : ℕ). granted_reply k i m) (slots-capacity r.code (not (vacant (table_view tb (get_or slots 0 0) first_half))) h)
 
     module _ (h : wants_half r.code ≡ true) where
-      unmarked-half : m ≡ OptU8.Absent
+      unmarked-half : m ≡ None
       unmarked-half = (marker-none ms r (rw (half-one r.code h) (omega arith))).0
 
       cap-is : (b : Bool) → vacant (table_view tb (slot_of_run u r i 0) first_half) ≡ b → capacity (table_view tb) r.code slots ≡ cond (not b) 15 0
@@ -203,28 +202,28 @@ module _ (u : Uplink) (r : Request) (q : Proper u r) where
       cap-is b v = rw (← first_slot, v) (half-capacity r.code (not b) h)
 
       half_is : (b : Bool) → vacant (table_view tb (slot_of_run u r i 0) first_half) ≡ b
-          → ((answer u r).reply ≡ CapReply.Granted (cond (not b) 15 0) i OptU8.Absent)
+          → ((answer u r).reply ≡ granted_reply (cond (not b) 15 0) i None)
           × (entry_at (answer u r).uplink.rows (slot_of_run u r i 0) ≡ with_halves (entry_at tb (slot_of_run u r i 0)) (halves_of (cond (not b) 15 0)) r.number)
       half_is b v =
           (reply-is ∙ rw (cap-is b v, unmarked-half), taken_at 0 (wanted-pos r.code) ∙ rw (cap-is b v, unmarked-half))
 
       first-is : vacant (table_view tb (slot_of_run u r i 0) first_half) ≡ true
-          → ((answer u r).reply ≡ CapReply.Granted 0 i OptU8.Absent)
+          → ((answer u r).reply ≡ granted_reply 0 i None)
           × (entry_at (answer u r).uplink.rows (slot_of_run u r i 0) ≡ record {
-            ul1 = OptU32.Of
+            ul1 = Some
                 r.number;
-            ul2 = OptU32.Absent;
-            usage_marker = OptU8.Absent;
+            ul2 = None;
+            usage_marker = None;
           })
       unfolding halves_of with_halves
       first-is v = let k = half_is true v in (k.0, k.1 ∙ ap (λ (e : Entry). with_halves e (first_half ∷ []) r.number) ((parts (slot_of_run u r i 0)).alone v))
 
       second_is : vacant (table_view tb (slot_of_run u r i 0) first_half) ≡ false
           → let before = entry_at tb (slot_of_run u r i 0) in
-          ((answer u r).reply ≡ CapReply.Granted 15 i OptU8.Absent)
+          ((answer u r).reply ≡ granted_reply 15 i None)
           × (entry_at (answer u r).uplink.rows (slot_of_run u r i 0) ≡ record {
             ul1 = before.ul1;
-            ul2 = OptU32.Of
+            ul2 = Some
                 r.number;
             usage_marker = before.usage_marker;
           })
@@ -264,7 +263,7 @@ module _ (u : Uplink) (r : Request) (q : Proper u r) where
     unfolding marker_of
     marker-sound = go (draws r.code)
       where
-        go : (b : Bool) → sound_marker (cond b (OptU8.Of (get_or ms (r.timeslot - 1) 0)) OptU8.Absent) ≡ true
+        go : (b : Bool) → sound_marker (cond b (Some (get_or ms (r.timeslot - 1) 0)) None) ≡ true
         go true = all-at sound_counter ms (r.timeslot - 1) 0 (omega (arith, q.four, q.timeslot-low, q.timeslot-high)) sound.counters
         go false = refl
 
@@ -301,28 +300,22 @@ module _ (u : Uplink) (r : Request) (q : Proper u r) where
 
   -- ---- the whole claim
 
-  late-reply : answer u r ≡ given u r too_late → (answer u r).reply ≡ CapReply.TooLate
+  late-reply : answer u r ≡ given u r too_late → (answer u r).reply ≡ Err Refusal.TooLate
   unfolding given reply_to
   late-reply e = ap (λ (a : CapAnswer). a.reply) e
 
-  none-reply : answer u r ≡ given u r no_run → (answer u r).reply ≡ CapReply.NoRun
+  none-reply : answer u r ≡ given u r no_run → (answer u r).reply ≡ Err Refusal.NoRun
   unfolding given reply_to
   none-reply e = ap (λ (a : CapAnswer). a.reply) e
 
-  abbrev kind : CapReply → ℕ
-  kind (CapReply.Granted cap delay k) = 0
-  kind CapReply.NoRun = 1
-  kind CapReply.TooLate = 2
+  abbrev delay_in : Result Grant Refusal → ℕ
+  delay_in (Ok g) = g.delay
+  delay_in (Err k) = 0
 
-  abbrev delay_in : CapReply → ℕ
-  delay_in (CapReply.Granted cap delay k) = delay
-  delay_in CapReply.NoRun = 0
-  delay_in CapReply.TooLate = 0
+  clash {ℓ} : {X : Type ℓ} (a b : Result Grant Refusal) → (answer u r).reply ≡ a → (answer u r).reply ≡ b → cap_number a ≢ cap_number b → X
+  clash a b e f h = absurd (h (ap cap_number (sym e ∙ f)))
 
-  clash {ℓ} : {X : Type ℓ} (a b : CapReply) → (answer u r).reply ≡ a → (answer u r).reply ≡ b → kind a ≢ kind b → X
-  clash a b e f h = absurd (h (ap kind (sym e ∙ f)))
-
-  only_then : (cap delay : ℕ) (k : OptU8) → (answer u r).reply ≡ CapReply.Granted cap delay k → EarliestFrom u r delay × (delay ≤ latest_delay)
+  only_then : (cap delay : ℕ) (k : Option ℕ) → (answer u r).reply ≡ granted_reply cap delay k → EarliestFrom u r delay × (delay ≤ latest_delay)
   only_then cap delay k e = go outcome
     where
       go : Outcome → EarliestFrom u r delay × (delay ≤ latest_delay)
@@ -330,18 +323,18 @@ module _ (u : Uplink) (r : Request) (q : Proper u r) where
       go (found-late i h l f) = clash _ _ (late-reply f) e (omega arith)
       go (found-run i h l f) = let same : i ≡ delay = ap delay_in (sym (reply-is i h l) ∙ e) in (rw (← same) h, rw (← same) l)
 
-  no-run : ((answer u r).reply ≡ CapReply.NoRun) ↔ ((i : ℕ) → FreeFrom u r i → ⊥)
+  no-run : ((answer u r).reply ≡ Err Refusal.NoRun) ↔ ((i : ℕ) → FreeFrom u r i → ⊥)
   no-run = (there outcome, λ h. none-reply (if_none ((none-iff p n (wanted-pos r.code) cs).1 h)))
     where
-      there : Outcome → (answer u r).reply ≡ CapReply.NoRun → (i : ℕ) → FreeFrom u r i → ⊥
+      there : Outcome → (answer u r).reply ≡ Err Refusal.NoRun → (i : ℕ) → FreeFrom u r i → ⊥
       there (found_none h f) e = h
       there (found-late i h l f) e = clash _ _ (late-reply f) e (omega arith)
       there (found-run i h l f) e = clash _ _ (reply-is i h l) e (omega arith)
 
-  too-late : ((answer u r).reply ≡ CapReply.TooLate) ↔ ((i : ℕ) × EarliestFrom u r i × (latest_delay < i))
+  too-late : ((answer u r).reply ≡ Err Refusal.TooLate) ↔ ((i : ℕ) × EarliestFrom u r i × (latest_delay < i))
   too-late = (there outcome, λ x. late-reply (if-late x.0 ((earliest-at x.0).1 x.1) x.2))
     where
-      there : Outcome → (answer u r).reply ≡ CapReply.TooLate → (i : ℕ) × EarliestFrom u r i × (latest_delay < i)
+      there : Outcome → (answer u r).reply ≡ Err Refusal.TooLate → (i : ℕ) × EarliestFrom u r i × (latest_delay < i)
       there (found_none h f) e = clash _ _ (none-reply f) e (omega arith)
       there (found-late i h l f) e = (i, h, l)
       there (found-run i h l f) e = clash _ _ (reply-is i h l) e (omega arith)

@@ -9,7 +9,6 @@ pub mod ReserveLaws
 pub mod SoundLaws
 pub mod StretchLaws
 pub mod GrantedExactly
-pub mod RowsField
 pub mod VerdictLaws
 pub mod MsLaws
 pub mod RowLaws

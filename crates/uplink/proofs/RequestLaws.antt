@@ -1,9 +1,9 @@
 -- What a verdict rests on, and the slots of a run. Assumes nothing.
+use Rattle.std.proofs.Common.{Option, Some, None}
 use mathlib.Core.Path.{◌≡◌, refl, ap, ◌∙◌}
 use mathlib.Core.Logic.{◌≢◌}
 use mathlib.Core.Bool.{Bool, true, false, not, cond}
 use mathlib.Core.List.{List, [], ◌∷◌}
-use mathlib.Core.Option.{Option, none, some}
 use Prim.Native.Nat.{ℕ, zero, suc, ◌+◌, ◌-◌, ◌*◌, ◌≤◌, ◌<◌, min}
 use native.Mathlib.Omega.{arith}
 use native.Mathlib.Nat.{add-zero, not-suc-le-zero}
@@ -12,7 +12,6 @@ use lib.Seq.{get_or-drop}
 use borrow.Author.Tests.{ne_eqb}
 use Rattle.sizes.specs.Sizes.{frames_searched}
 use Rattle.lists.proofs.Every.{All}
-use Rattle.optional.specs.declared.OptU32.{OptU32}
 use Rattle.tdma_time.specs.Time.{usable, first_of, frames_on, usable_of}
 use Rattle.tdma_time.proofs.SlotLaws.{usable_of-keeps, usable_of-leaves}
 use Rattle.slot_codes.specs.Codes.{slot_counts, slots_wanted, wants_half, capacity_for}
@@ -23,8 +22,8 @@ use Rattle.uplink.specs.Request.{candidates, slot_fits, earliest_run, loop_run, 
 use Rattle.uplink.specs.Functions.{block_taken, block_halves}
 use Rattle.uplink.proofs.SearchLaws.{earliest-some, runs-length, walk-found}
 
-none≢some {ℓ} : {X : Type ℓ} (g : Run) → ◌≡◌ {A = Option Run} none (some g) → X
-none≢some g e = absurd (let z : ◌≡◌ {A = ℕ} 0 1 = cc in omega arith)
+None≢Some {ℓ} : {X : Type ℓ} (g : Run) → ◌≡◌ {A = Option Run} None (Some g) → X
+None≢Some g e = absurd (let z : ◌≡◌ {A = ℕ} 0 1 = cc in omega arith)
 
 -- every code asks for a slot at least
 pub wanted-pos : (code : ℕ) → 0 < slots_wanted code
@@ -45,16 +44,16 @@ loop-is-declarative v now t n half h = walk-found (slot_fits half v) n (frames_o
 
 -- ---- the slots of a run
 
-pub found_some : (p : ℕ → Bool) (n : ℕ) (cs : List ℕ) (g : Run) → found p n cs ≡ some g
-    → (earliest p n cs ≡ some g.delay) × (g.slots ≡ take n (drop g.delay cs))
+pub found_some : (p : ℕ → Bool) (n : ℕ) (cs : List ℕ) (g : Run) → found p n cs ≡ Some g
+    → (earliest p n cs ≡ Some g.delay) × (g.slots ≡ take n (drop g.delay cs))
 unfolding found run_at
 found_some p n cs g h = go (earliest p n cs) refl h
   where
-    go : (o : Option ℕ) → earliest p n cs ≡ o → run_at n cs o ≡ some g → (earliest p n cs ≡ some g.delay) × (g.slots ≡ take n (drop g.delay cs))
-    go none e k = none≢some g k
-    go (some i) e k =
+    go : (o : Option ℕ) → earliest p n cs ≡ o → run_at n cs o ≡ Some g → (earliest p n cs ≡ Some g.delay) × (g.slots ≡ take n (drop g.delay cs))
+    go None e k = None≢Some g k
+    go (Some i) e k =
         let same : record { delay = i; slots = take n (drop i cs) } ≡ g = cc in
-        (e ∙ ap (λ (r : Run). some r.delay) same, rw (← same))
+        (e ∙ ap (λ (r : Run). Some r.delay) same, rw (← same))
 
 -- the i-th usable slot of k frames from slot u on stands d frames after u, and the usable ones from it on are those of the frames left
 pub record Stands (u k i : ℕ) : Type 0 where
@@ -120,7 +119,7 @@ pub record Begins (u n : ℕ) (g : Run) : Type 0 where
   pub can : usable (u + start * 4) ≡ true
   pub slots : g.slots ≡ take n (usable_of (frames_on (u + start * 4) (frames_searched - start)))
 
-pub begins : (p : ℕ → Bool) (n u : ℕ) (g : Run) → 0 < n → found p n (usable_of (frames_on u frames_searched)) ≡ some g → Begins u n g
+pub begins : (p : ℕ → Bool) (n u : ℕ) (g : Run) → 0 < n → found p n (usable_of (frames_on u frames_searched)) ≡ Some g → Begins u n g
 begins p n u g pos h =
     let f = found_some p n _ g h in
     let r : n ≤ length (drop g.delay (usable_of (frames_on u frames_searched))) = runs-length p n _ (earliest-some p n _ g.delay f.0).0 in
@@ -143,7 +142,7 @@ unfolding halves_of
 whole-halves cap a b = rw (ne_eqb _ _ a, ne_eqb _ _ b)
 
 -- the halves named by the capacity are those of the block taken
-pub capacity-halves : (code : ℕ) (o : OptU32) → halves_of (capacity_for code (not (vacant o))) ≡ block_halves (block_taken (wants_half code) o)
+pub capacity-halves : (code : ℕ) (o : Option ℕ) → halves_of (capacity_for code (not (vacant o))) ≡ block_halves (block_taken (wants_half code) o)
 unfolding halves_of
 capacity-halves zero o = go (vacant o)
   where

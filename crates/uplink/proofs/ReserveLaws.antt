@@ -1,4 +1,6 @@
 -- What a reservation alters: the entries of its slots, and no other. Assumes nothing.
+use Rattle.std.proofs.Common.{Option, Some, None}
+use Rattle.std.specs.Option.{option_or}
 use mathlib.Core.Path.{◌≡◌, refl, sym, ap, ◌∙◌}
 use mathlib.Core.Logic.{◌≢◌}
 use mathlib.Core.List.{List, [], ◌∷◌}
@@ -8,7 +10,6 @@ use native.Mathlib.Nat.{not-suc-le-zero, le_of_suc-le-suc}
 use lib.ListN.{length, get_or, take, drop}
 use Rattle.sizes.specs.Sizes.{frames_searched, timeslots}
 use Rattle.lists.proofs.Every.{All, all_take, all_drop, all-weaken}
-use Rattle.optional.specs.declared.OptU8.{OptU8}
 use Rattle.tdma_time.specs.Time.{first_of, frames_on, usable_of}
 use Rattle.tdma_time.proofs.Basics.{RisingFrom, rising-earlier}
 use Rattle.tdma_time.proofs.SlotLaws.{usable_of-all, frames_on-window}
@@ -51,7 +52,12 @@ apart n c (d ∷ cs) low high h k =
     off : (n c d : ℕ) → n ≤ c → c + 1 ≤ d → d < n + 72 → c % 72 ≡ d % 72 → ⊥
     off n c d low h k e = omega arith
 
-module _ (hs : List Half) (who : ℕ) (m : OptU8) where
+-- a new marker, or the one that was there
+pub with_marker-or : (e : Entry) (m : Option ℕ) → record { ul1 = e.ul1; ul2 = e.ul2; usage_marker = option_or m e.usage_marker } ≡ with_marker e m
+with_marker-or e None = refl
+with_marker-or e (Some k) = refl
+
+module _ (hs : List Half) (who : ℕ) (m : Option ℕ) where
   -- the entry of a slot once reserved
   abbrev taken : Entry → Entry
   taken e = with_halves (with_marker e m) hs who

@@ -1,5 +1,7 @@
 -- A request looks at the row of its timeslot and at no other, and alters no other: on an uplink with that row alone (`row_alone`) it is
 -- answered the same, and what it leaves there is what it leaves of that row and the counters (`answer-by-row`). Assumes nothing.
+use Rattle.std.proofs.Common.{Option, Result, Err}
+use Rattle.std.proofs.lemmas.Bool.{and_parts}
 use mathlib.Core.Path.{◌≡◌, refl, sym, ap, ◌∙◌}
 use mathlib.Core.Bool.{true}
 use mathlib.Core.List.{List, [], ◌∷◌}
@@ -8,17 +10,16 @@ use native.Mathlib.Omega.{arith}
 use lib.ListN.{get_or, set, get_or-replicate}
 use lib.Seq.{set-get_or, set-set}
 use Rattle.sizes.specs.Sizes.{timeslots, frames_searched}
+use Rattle.questions.specs.declared.Refusal.{Refusal}
 use Rattle.lists.proofs.Every.{All, all-weaken}
-use Rattle.optional.specs.declared.OptU8.{OptU8}
-use Rattle.optional.proofs.Tests.{and_left, and_right}
 use Rattle.tdma_time.specs.Time.{slot_of, first_of, frames_on}
 use Rattle.tdma_time.proofs.SlotLaws.{first_slot, frames_on-near, usable_of-all}
 use Rattle.uplink.specs.declared.CapAnswer.{CapAnswer}
-use Rattle.uplink.specs.declared.CapReply.{CapReply}
 use Rattle.uplink.specs.declared.Entry.{Entry}
+use Rattle.uplink.specs.declared.Grant.{Grant}
 use Rattle.uplink.specs.declared.Uplink.{Uplink}
 use Rattle.uplink.specs.HalfSlot.{Half}
-use Rattle.uplink.specs.UplinkEntry.{Table, entry_at, store, holder, table_view, with_halves, with_marker, reserve, all, sound_row, sound_table}
+use Rattle.uplink.specs.UplinkEntry.{Table, entry_at, store, holder, table_view, with_halves, with_marker, reserve, sound_row, sound_table}
 use Rattle.uplink.specs.Uplink.{sound_uplink}
 use Rattle.uplink.specs.Request.{Request, candidates, Verdict, no_run, too_late, grant, verdict, capacity, marker_of, reply_to, table_after}
 use Rattle.uplink.specs.Request.{counters_after, given, answer}
@@ -31,14 +32,12 @@ use Rattle.uplink.proofs.VerdictLaws.{Granted, verdict-grant, granted-all, grant
 
 -- each row of a sound table is sound, and so is the empty one past them
 row-sound : (tb : Table) (i : ℕ) → sound_table tb ≡ true → sound_row (get_or tb i []) ≡ true
-unfolding all
 row-sound [] i h = refl
-row-sound (x ∷ tb) zero h = and_left (sound_row x) _ h
-row-sound (x ∷ tb) (suc i) h = row-sound tb i (and_right (sound_row x) _ h)
+row-sound (x ∷ tb) zero h = (and_parts (sound_row x) _ h).0
+row-sound (x ∷ tb) (suc i) h = row-sound tb i ((and_parts (sound_row x) _ h).1)
 
 -- a sound uplink is sound with one of its rows in the place of all four
 pub row-alone-sound : (u : Uplink) (i : ℕ) → sound_uplink u ≡ true → sound_uplink (row_alone u i) ≡ true
-unfolding all
 row-alone-sound u i h =
     let p = uplink-parts u h in
     parts-uplink (row_alone u i) (record { time = p.time; table = rw (row-sound u.rows i p.table); counters = p.counters })
@@ -69,7 +68,7 @@ stored_row zero (r ∷ tb) k x = refl
 stored_row (suc i) (r ∷ tb) k x = stored_row i tb k x
 
 -- a reservation of slots of one row alters that row, and as it would in any other table that has the row
-reserve-row : (hs : List Half) (who : ℕ) (m : OptU8) (i : ℕ) (cs : List ℕ) → All (λ c. c % 4 ≡ i) cs → (a b : Table) → get_or a i [] ≡ get_or b i []
+reserve-row : (hs : List Half) (who : ℕ) (m : Option ℕ) (i : ℕ) (cs : List ℕ) → All (λ c. c % 4 ≡ i) cs → (a b : Table) → get_or a i [] ≡ get_or b i []
     → reserve a hs who m cs ≡ set a i (get_or (reserve b hs who m cs) i [])
 unfolding reserve store
 reserve-row hs who m i [] h a b e = rw (← e) (sym (set-get_or a i []))
@@ -102,14 +101,14 @@ module _ (u : Uplink) (r : Request) (low : 1 ≤ r.timeslot) (high : r.timeslot 
   put a = record { reply = a.reply; uplink = with_row_of u i a.uplink }
 
   -- a refusal leaves both uplinks
-  unaltered : (x : CapReply) → record { reply = x; uplink = u } ≡ put (record { reply = x; uplink = v })
+  unaltered : (x : Result Grant Refusal) → record { reply = x; uplink = u } ≡ put (record { reply = x; uplink = v })
   unaltered x = ap (λ (w : Uplink). record { reply = x; uplink = w }) (sym (with-row-alone u i (omega arith)))
 
   -- each verdict is given alike
   given-row : (w : Verdict) → verdict (table_view u.rows) (slot_of u.time) r ≡ w → given u r w ≡ put (given v r w)
   unfolding given reply_to table_after counters_after
-  given-row no_run e = unaltered CapReply.NoRun
-  given-row too_late e = unaltered CapReply.TooLate
+  given-row no_run e = unaltered (Err Refusal.NoRun)
+  given-row too_late e = unaltered (Err Refusal.TooLate)
   given-row (grant g) e =
       let k : Granted (table_view u.rows) (slot_of u.time) r g = verdict-grant _ _ r g e in
       let row : All (λ c. c % 4 ≡ i) g.slots = granted-all _ _ r g k _ (candidates-row r.timeslot (slot_of u.time) low high) in

@@ -1,9 +1,11 @@
 -- The definition of the search is what it says (`earliest-some`, `earliest-none`), and the Rust's loop is that definition (`walk-found`).
 -- Assumes nothing.
+use Rattle.std.proofs.Common.{Option, Some, None}
+use Rattle.std.proofs.lemmas.Bool.{and_parts}
+use Rattle.std.specs.Cmp.Derive.{both_true}
 use mathlib.Core.Path.{◌≡◌, refl, sym, ap, ◌∙◌}
 use mathlib.Core.Logic.{⊎_elim}
 use mathlib.Core.Bool.{Bool, true, false, cond, and-false}
-use mathlib.Core.Option.{Option, none, some}
 use mathlib.Core.List.{List, [], ◌∷◌, ◌++◌, append-nil}
 use Prim.Native.Nat.{ℕ, zero, suc, ◌+◌, ◌≤◌, ◌<◌, zero-le, suc-le-suc}
 use native.Mathlib.Omega.{arith}
@@ -14,7 +16,6 @@ use lib.Seq.{take_at, drop-append-add, append_snoc, drop-nil}
 use lib.Dec.{eqb}
 use borrow.Author.Tests.{eqb-true, eqb-false, eq-eqb, ne_eqb}
 use Rattle.lists.proofs.Every.{All}
-use Rattle.optional.proofs.Tests.{and_left, and_right, and_intro}
 use Rattle.tdma_time.proofs.Basics.{either}
 use Rattle.uplink.proofs.Basics.{not-both}
 use Rattle.tdma_time.specs.Time.{usable, usable_of}
@@ -40,18 +41,18 @@ runs_block p (suc n) (x ∷ held) c cs h e = rw (runs_block p n held c cs (le_of
 pub runs-front : (p : ℕ → Bool) (held cs : List ℕ) → runs p (length held) held ≡ true → runs p (length held) (held ++ cs) ≡ true
 unfolding runs
 runs-front p [] cs h = refl
-runs-front p (x ∷ held) cs h = and_intro _ _ (and_left (p x) _ h) (runs-front p held cs (and_right (p x) _ h))
+runs-front p (x ∷ held) cs h = both_true (and_parts (p x) _ h).0 (runs-front p held cs (and_parts (p x) _ h).1)
 
 -- a run with one more
 pub runs-more : (p : ℕ → Bool) (held : List ℕ) (c : ℕ) → runs p (length held) held ≡ true → p c ≡ true
     → runs p (length (held ++ c ∷ [])) (held ++ c ∷ []) ≡ true
 unfolding runs
 runs-more p [] c h e = rw e
-runs-more p (x ∷ held) c h e = and_intro _ _ (and_left (p x) _ h) (runs-more p held c (and_right (p x) _ h) e)
+runs-more p (x ∷ held) c h e = both_true (and_parts (p x) _ h).0 (runs-more p held c (and_parts (p x) _ h).1 e)
 
 -- ---- earliest
 
-pub earliest-here : (p : ℕ → Bool) (n : ℕ) (cs : List ℕ) → runs p n cs ≡ true → earliest p n cs ≡ some 0
+pub earliest-here : (p : ℕ → Bool) (n : ℕ) (cs : List ℕ) → runs p n cs ≡ true → earliest p n cs ≡ Some 0
 unfolding earliest
 earliest-here p n [] h = rw h
 earliest-here p n (c ∷ cs) h = rw h
@@ -60,19 +61,19 @@ pub earliest-later : (p : ℕ → Bool) (n : ℕ) (c : ℕ) (cs : List ℕ) → 
 unfolding earliest
 earliest-later p n c cs h = rw h
 
-pub earliest-short : (p : ℕ → Bool) (n : ℕ) (cs : List ℕ) → length cs < n → earliest p n cs ≡ none
+pub earliest-short : (p : ℕ → Bool) (n : ℕ) (cs : List ℕ) → length cs < n → earliest p n cs ≡ None
 unfolding earliest one_past
 earliest-short p n [] h = rw (runs-short p n [] h)
 earliest-short p n (c ∷ cs) h = rw (runs-short p n (c ∷ cs) h, earliest-short p n cs (omega arith))
 
 past : ℕ → Option ℕ → Option ℕ
-past k none = none
-past k (some i) = some (k + i)
+past k None = None
+past k (Some i) = Some (k + i)
 
 one_past-past : (k : ℕ) (o : Option ℕ) → one_past (past k o) ≡ past (suc k) o
 unfolding one_past past
-one_past-past k none = refl
-one_past-past k (some i) = ap some (sym (suc-add k i))
+one_past-past k None = refl
+one_past-past k (Some i) = ap Some (sym (suc-add k i))
 
 -- behind one that fails the search begins anew
 earliest-block : (p : ℕ → Bool) (n : ℕ) (held : List ℕ) (c : ℕ) (cs : List ℕ) → length held < n → p c ≡ false
@@ -81,8 +82,8 @@ unfolding one_past past
 earliest-block p n [] c cs h e = earliest-later p n c cs (runs_block p n [] c cs h e) ∙ go (earliest p n cs)
   where
     go : (o : Option ℕ) → one_past o ≡ past 1 o
-    go none = refl
-    go (some i) = ap some (omega arith)
+    go None = refl
+    go (Some i) = ap Some (omega arith)
 earliest-block p n (x ∷ held) c cs h e =
     earliest-later p n x (held ++ c ∷ cs) (runs_block p n (x ∷ held) c cs h e)
     ∙ ap one_past (earliest-block p n held c cs (omega arith) e)
@@ -100,7 +101,7 @@ module _ (p : ℕ → Bool) (n skips : ℕ) (held : List ℕ) (c : ℕ) (cs : Li
   walk_block u e = rw (u, e)
 
   pub walk_end : usable c ≡ true → p c ≡ true → length (held ++ c ∷ []) ≡ n
-      → walk p n skips held (c ∷ cs) ≡ some (record { delay = skips; slots = held ++ c ∷ [] })
+      → walk p n skips held (c ∷ cs) ≡ Some (record { delay = skips; slots = held ++ c ∷ [] })
   unfolding walk
   walk_end u e l = rw (u, e, eq-eqb _ _ l)
 
@@ -110,15 +111,15 @@ module _ (p : ℕ → Bool) (n skips : ℕ) (held : List ℕ) (c : ℕ) (cs : Li
 
 -- what the loop comes to: the run at `o`, and the skips so far added to its delay
 arrive : ℕ → ℕ → List ℕ → Option ℕ → Option Run
-arrive n skips cs none = none
-arrive n skips cs (some i) = some (record { delay = skips + i; slots = take n (drop i cs) })
+arrive n skips cs None = None
+arrive n skips cs (Some i) = Some (record { delay = skips + i; slots = take n (drop i cs) })
 
 -- the same, where the search stands behind one that fails
 arrive-past : (n skips : ℕ) (held : List ℕ) (c : ℕ) (cs : List ℕ) (o : Option ℕ)
     → arrive n (skips + (length held + 1)) cs o ≡ arrive n skips (held ++ c ∷ cs) (past (suc (length held)) o)
 unfolding arrive past
-arrive-past n skips held c cs none = refl
-arrive-past n skips held c cs (some i) =
+arrive-past n skips held c cs None = refl
+arrive-past n skips held c cs (Some i) =
     let there : suc (length held) + i ≡ length held + suc i = omega arith in
     let delays : skips + (length held + 1) + i ≡ skips + (suc (length held) + i) = omega arith in
     let rest : drop (suc (length held) + i) (held ++ c ∷ cs) ≡ drop i cs = rw there (drop-append-add held (c ∷ cs) (suc i)) in
@@ -185,36 +186,36 @@ unfolding Arrives found arrive run_at runs
 walk-found p n cs h = arrives p n cs 0 [] h (refl) ∙ go (earliest p n (usable_of cs))
   where
     go : (o : Option ℕ) → arrive n 0 (usable_of cs) o ≡ run_at n (usable_of cs) o
-    go none = refl
-    go (some i) = rw zero-add
+    go None = refl
+    go (Some i) = rw zero-add
 
 -- ---- what `earliest` means
 
 -- a run of n stands i from the front, and none before it; or there is none
 abbrev pub Means : (ℕ → Bool) → ℕ → List ℕ → Option ℕ → Type 0
-Means p n cs none = (j : ℕ) → runs p n (drop j cs) ≡ false
-Means p n cs (some i) = (runs p n (drop i cs) ≡ true) × ((j : ℕ) → j < i → runs p n (drop j cs) ≡ false)
+Means p n cs None = (j : ℕ) → runs p n (drop j cs) ≡ false
+Means p n cs (Some i) = (runs p n (drop i cs) ≡ true) × ((j : ℕ) → j < i → runs p n (drop j cs) ≡ false)
 
 module _ (p : ℕ → Bool) (n : ℕ) where
-  means-nil : (b : Bool) → runs p n [] ≡ b → Means p n [] (cond b (some 0) none)
+  means-nil : (b : Bool) → runs p n [] ≡ b → Means p n [] (cond b (Some 0) None)
   means-nil true e = (e, λ j h. absurd (not-suc-le-zero h))
   means-nil false e = λ j. rw (drop-nil {A = ℕ} j) e
 
   means-past : (c : ℕ) (cs : List ℕ) → runs p n (c ∷ cs) ≡ false → (o : Option ℕ) → Means p n cs o → Means p n (c ∷ cs) (one_past o)
   unfolding one_past
-  means-past c cs e none m = each
+  means-past c cs e None m = each
     where
       each : (j : ℕ) → runs p n (drop j (c ∷ cs)) ≡ false
       each zero = e
       each (suc j) = m j
-  means-past c cs e (some i) m = (m.0, before)
+  means-past c cs e (Some i) m = (m.0, before)
     where
       before : (j : ℕ) → j < suc i → runs p n (drop j (c ∷ cs)) ≡ false
       before zero h = e
       before (suc j) h = m.1 j (le_of_suc-le-suc h)
 
   means-cons : (c : ℕ) (cs : List ℕ) → Means p n cs (earliest p n cs) → (b : Bool) → runs p n (c ∷ cs) ≡ b
-      → Means p n (c ∷ cs) (cond b (some 0) (one_past (earliest p n cs)))
+      → Means p n (c ∷ cs) (cond b (Some 0) (one_past (earliest p n cs)))
   means-cons c cs m true e = (e, λ j h. absurd (not-suc-le-zero h))
   means-cons c cs m false e = means-past c cs e (earliest p n cs) m
 
@@ -223,13 +224,13 @@ module _ (p : ℕ → Bool) (n : ℕ) where
   earliest-means [] = means-nil (runs p n []) refl
   earliest-means (c ∷ cs) = means-cons c cs (earliest-means cs) (runs p n (c ∷ cs)) refl
 
-  pub earliest-some : (cs : List ℕ) (i : ℕ) → earliest p n cs ≡ some i → Means p n cs (some i)
+  pub earliest-some : (cs : List ℕ) (i : ℕ) → earliest p n cs ≡ Some i → Means p n cs (Some i)
   earliest-some cs i h = rw h at (earliest-means cs)
 
-  pub earliest-none : (cs : List ℕ) → earliest p n cs ≡ none → Means p n cs none
+  pub earliest-none : (cs : List ℕ) → earliest p n cs ≡ None → Means p n cs None
   earliest-none cs h = rw h at (earliest-means cs)
 
-  pub some-earliest : 0 < n → (cs : List ℕ) (i : ℕ) → Means p n cs (some i) → earliest p n cs ≡ some i
+  pub some-earliest : 0 < n → (cs : List ℕ) (i : ℕ) → Means p n cs (Some i) → earliest p n cs ≡ Some i
   unfolding one_past
   some-earliest k [] zero m = earliest-here p n [] m.0
   some-earliest k [] (suc i) m = not-both _ m.0 (runs-short p n [] k)
@@ -237,7 +238,7 @@ module _ (p : ℕ → Bool) (n : ℕ) where
   some-earliest k (c ∷ cs) (suc i) m =
       earliest-later p n c cs (m.1 0 (omega arith)) ∙ ap one_past (some-earliest k cs i (m.0, λ j l. m.1 (suc j) (omega arith)))
 
-  pub none-earliest : (cs : List ℕ) → Means p n cs none → earliest p n cs ≡ none
+  pub none-earliest : (cs : List ℕ) → Means p n cs None → earliest p n cs ≡ None
   unfolding earliest one_past
   none-earliest [] g = rw (g 0)
   none-earliest (c ∷ cs) g = rw (g 0, none-earliest cs (λ j. g (suc j)))
@@ -264,10 +265,10 @@ pub runs-all : (p : ℕ → Bool) (n : ℕ) (cs : List ℕ) → runs p n cs ≡ 
 unfolding runs
 runs-all p zero cs h = tt
 runs-all p (suc n) [] h = tt
-runs-all p (suc n) (c ∷ cs) h = (and_left (p c) _ h, runs-all p n cs (and_right (p c) _ h))
+runs-all p (suc n) (c ∷ cs) h = ((and_parts (p c) _ h).0, runs-all p n cs (and_parts (p c) _ h).1)
 
 pub runs-length : (p : ℕ → Bool) (n : ℕ) (cs : List ℕ) → runs p n cs ≡ true → n ≤ length cs
 unfolding runs
 runs-length p zero cs h = zero-le
 runs-length p (suc n) [] h = not-both false h refl
-runs-length p (suc n) (c ∷ cs) h = suc-le-suc (runs-length p n cs (and_right (p c) _ h))
+runs-length p (suc n) (c ∷ cs) h = suc-le-suc (runs-length p n cs (and_parts (p c) _ h).1)

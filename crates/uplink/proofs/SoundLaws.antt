@@ -1,4 +1,7 @@
 -- Reservation, clearing and drawing a marker keep the table and the counters sound. Assumes nothing.
+use Rattle.std.proofs.lemmas.Bool.{and_parts}
+use Rattle.std.specs.Cmp.Derive.{both_true}
+use Rattle.std.proofs.Common.{Option, Some, None}
 use mathlib.Core.Path.{◌≡◌, refl, ap, ◌∙◌}
 use mathlib.Core.Bool.{Bool, true, false, ◌&&◌, cond}
 use mathlib.Core.List.{List, [], ◌∷◌}
@@ -9,9 +12,6 @@ use lib.ListN.{length, get_or, set}
 use lib.Dec.{leb, ltb}
 use borrow.Author.Tests.{leb-true, leb-false, le-leb, lt-ltb}
 use Rattle.sizes.specs.Sizes.{timeslots}
-use Rattle.optional.specs.declared.OptU8.{OptU8}
-use Rattle.optional.specs.declared.OptU32.{OptU32}
-use Rattle.optional.proofs.Tests.{and_left, and_right, and_intro}
 use Rattle.tdma_time.specs.declared.TdmaTime.{TdmaTime}
 use Rattle.tdma_time.specs.Time.{Valid, valid, slot_of, next_time}
 use Rattle.tdma_time.proofs.TimeLaws.{true-valid, valid-true, time_of-valid}
@@ -19,7 +19,7 @@ use Rattle.uplink.specs.declared.Entry.{Entry}
 use Rattle.uplink.specs.declared.Uplink.{Uplink}
 use Rattle.uplink.specs.HalfSlot.{Half, first_half, second_half, vacant}
 use Rattle.uplink.specs.UplinkEntry.{empty_entry, Table, FourRowsOfEighteen, entry_at, store, with_halves, with_marker, reserve, cleared, all, sound_owner}
-use Rattle.uplink.specs.UplinkEntry.{sound_counter, sound_marker, unmarked, sound_entry, sound_row, sound_table, sound_counters}
+use Rattle.uplink.specs.UplinkEntry.{sound_counter, sound_marker, sound_entry, sound_row, sound_table, sound_counters}
 use Rattle.uplink.specs.Uplink.{new_uplink, advanced_uplink, sound_uplink}
 use Rattle.uplink.specs.Request.{next_marker, drawn}
 use Rattle.uplink.proofs.Basics.{not-both}
@@ -27,19 +27,6 @@ use Rattle.uplink.proofs.TableLaws.{store-shape, store_same, store_other}
 use Rattle.uplink.proofs.Everywhere.{all-at, at_all}
 
 -- ---- an entry
-
--- with no first half the second and the marker decide
-pub sound-vacant : (a b : OptU32) (m : OptU8) → vacant a ≡ true → vacant b && unmarked m ≡ sound_entry (record { ul1 = a; ul2 = b; usage_marker = m })
-sound-vacant OptU32.Absent OptU32.Absent OptU8.Absent h = refl
-sound-vacant OptU32.Absent OptU32.Absent (OptU8.Of m) h = refl
-sound-vacant OptU32.Absent (OptU32.Of w) m h = refl
-sound-vacant (OptU32.Of w) b m h = not-both false h refl
-
--- with one the ranges decide
-pub sound-taken : (a b : OptU32) (m : OptU8) → vacant a ≡ false
-    → sound_owner a && sound_owner b && sound_marker m ≡ sound_entry (record { ul1 = a; ul2 = b; usage_marker = m })
-sound-taken OptU32.Absent b m h = not-both true refl h
-sound-taken (OptU32.Of w) b m h = refl
 
 -- a sound entry's parts
 pub record EntryParts (e : Entry) : Type 0 where
@@ -51,37 +38,37 @@ pub record EntryParts (e : Entry) : Type 0 where
 pub entry-parts : (e : Entry) → sound_entry e ≡ true → EntryParts e
 entry-parts e h = go e.ul1 e.ul2 e.usage_marker h
   where
-    go : (a b : OptU32) (m : OptU8) → sound_entry (record { ul1 = a; ul2 = b; usage_marker = m }) ≡ true
+    go : (a b : Option ℕ) (m : Option ℕ) → sound_entry (record { ul1 = a; ul2 = b; usage_marker = m }) ≡ true
         → EntryParts (record { ul1 = a; ul2 = b; usage_marker = m })
-    go OptU32.Absent OptU32.Absent OptU8.Absent h = record { first = refl; second = refl; marker = refl; alone = λ k. refl }
-    go OptU32.Absent OptU32.Absent (OptU8.Of m) h = not-both false h refl
-    go OptU32.Absent (OptU32.Of w) m h = not-both false h refl
-    go (OptU32.Of w) b m h =
-        let k : ltb w (2 ^ 24) && sound_owner b ≡ true = and_left _ (sound_marker m) h in
+    go None None None h = record { first = refl; second = refl; marker = refl; alone = λ k. refl }
+    go None None (Some m) h = not-both false h refl
+    go None (Some w) m h = not-both false h refl
+    go (Some w) b m h =
+        let k : ltb w (2 ^ 24) && sound_owner b ≡ true = (and_parts _ (sound_marker m) h).0 in
         record {
-          first = and_left _ (sound_owner b) k;
-          second = and_right (ltb w (2 ^ 24)) _ k;
-          marker = and_right (ltb w (2 ^ 24) && sound_owner b) _ h;
+          first = (and_parts _ (sound_owner b) k).0;
+          second = (and_parts (ltb w (2 ^ 24)) _ k).1;
+          marker = (and_parts (ltb w (2 ^ 24) && sound_owner b) _ h).1;
           alone = λ v. not-both false v refl;
         }
 
-taken-sound : (w : ℕ) (b : OptU32) (m : OptU8) → w < 2 ^ 24 → sound_owner b ≡ true → sound_marker m ≡ true
-    → sound_entry (record { ul1 = OptU32.Of w; ul2 = b; usage_marker = m }) ≡ true
+taken-sound : (w : ℕ) (b : Option ℕ) (m : Option ℕ) → w < 2 ^ 24 → sound_owner b ≡ true → sound_marker m ≡ true
+    → sound_entry (record { ul1 = Some w; ul2 = b; usage_marker = m }) ≡ true
 taken-sound w b m h g k = rw (lt-ltb _ _ h, g, k)
 
-marked : (e : Entry) (m : OptU8) → sound_marker e.usage_marker ≡ true → sound_marker m ≡ true → sound_marker (with_marker e m).usage_marker ≡ true
-marked e OptU8.Absent h k = h
-marked e (OptU8.Of m) h k = k
+marked : (e : Entry) (m : Option ℕ) → sound_marker e.usage_marker ≡ true → sound_marker m ≡ true → sound_marker (with_marker e m).usage_marker ≡ true
+marked e None h k = h
+marked e (Some m) h k = k
 
-same_first : (e : Entry) (m : OptU8) → (with_marker e m).ul1 ≡ e.ul1
-same_first e OptU8.Absent = refl
-same_first e (OptU8.Of m) = refl
+same_first : (e : Entry) (m : Option ℕ) → (with_marker e m).ul1 ≡ e.ul1
+same_first e None = refl
+same_first e (Some m) = refl
 
-same_second : (e : Entry) (m : OptU8) → (with_marker e m).ul2 ≡ e.ul2
-same_second e OptU8.Absent = refl
-same_second e (OptU8.Of m) = refl
+same_second : (e : Entry) (m : Option ℕ) → (with_marker e m).ul2 ≡ e.ul2
+same_second e None = refl
+same_second e (Some m) = refl
 
-module _ (e : Entry) (m : OptU8) (w : ℕ) (h : sound_entry e ≡ true) (k : sound_marker m ≡ true) (g : w < 2 ^ 24) where
+module _ (e : Entry) (m : Option ℕ) (w : ℕ) (h : sound_entry e ≡ true) (k : sound_marker m ≡ true) (g : w < 2 ^ 24) where
   abbrev p : EntryParts e
   p = entry-parts e h
 
@@ -91,16 +78,16 @@ module _ (e : Entry) (m : OptU8) (w : ℕ) (h : sound_entry e ≡ true) (k : sou
 
   pub both-sound : sound_entry (with_halves (with_marker e m) (first_half ∷ second_half ∷ []) w) ≡ true
   unfolding with_halves
-  both-sound = taken-sound w (OptU32.Of w) (with_marker e m).usage_marker g (lt-ltb _ _ g) (marked e m p.marker k)
+  both-sound = taken-sound w (Some w) (with_marker e m).usage_marker g (lt-ltb _ _ g) (marked e m p.marker k)
 
   pub second-sound : vacant e.ul1 ≡ false → sound_entry (with_halves (with_marker e m) (second_half ∷ []) w) ≡ true
   unfolding with_halves
   second-sound v = rw (same_first e m) (go e.ul1 p.first v)
     where
-      go : (o : OptU32) → sound_owner o ≡ true → vacant o ≡ false
-          → sound_entry (record { ul1 = o; ul2 = OptU32.Of w; usage_marker = (with_marker e m).usage_marker }) ≡ true
-      go OptU32.Absent f v = not-both true refl v
-      go (OptU32.Of x) f v = and_intro _ _ (and_intro _ _ (and_intro _ _ refl f) (lt-ltb _ _ g)) (marked e m p.marker k)
+      go : (o : Option ℕ) → sound_owner o ≡ true → vacant o ≡ false
+          → sound_entry (record { ul1 = o; ul2 = Some w; usage_marker = (with_marker e m).usage_marker }) ≡ true
+      go None f v = not-both true refl v
+      go (Some x) f v = both_true (both_true (both_true refl f) (lt-ltb _ _ g)) (marked e m p.marker k)
 
 -- ---- a table
 
@@ -145,7 +132,7 @@ store-whole tb c e h w = record { shape = store-shape tb c e w.shape; entries = 
       | no p ↦ ap sound_entry (store_other tb c e w.shape x p) ∙ w.entries x
     ]
 
-pub reserve-whole : (hs : List Half) (who : ℕ) (m : OptU8) → ((e : Entry) → sound_entry e ≡ true → sound_entry (with_halves (with_marker e m) hs who) ≡ true)
+pub reserve-whole : (hs : List Half) (who : ℕ) (m : Option ℕ) → ((e : Entry) → sound_entry e ≡ true → sound_entry (with_halves (with_marker e m) hs who) ≡ true)
     → (cs : List ℕ) (tb : Table) → SoundEntries tb → SoundEntries (reserve tb hs who m cs)
 unfolding reserve
 reserve-whole hs who m f [] tb w = w
@@ -158,10 +145,9 @@ cleared-sound tb x s h = whole-sound _ (store-whole tb _ empty_entry refl (sound
 -- ---- the counters
 
 all_set : {A : Type 0} (p : A → Bool) (l : List A) (i : ℕ) (a : A) → all p l ≡ true → p a ≡ true → all p (set l i a) ≡ true
-unfolding all
 all_set p [] i a h g = refl
-all_set p (x ∷ l) zero a h g = and_intro (p a) _ g (and_right (p x) _ h)
-all_set p (x ∷ l) (suc i) a h g = and_intro (p x) _ (and_left (p x) _ h) (all_set p l i a (and_right (p x) _ h) g)
+all_set p (x ∷ l) zero a h g = both_true g ((and_parts (p x) _ h).1)
+all_set p (x ∷ l) (suc i) a h g = both_true ((and_parts (p x) _ h).0) (all_set p l i a ((and_parts (p x) _ h).1) g)
 
 pub next-sound : (m : ℕ) → sound_counter m ≡ true → sound_counter (next_marker m) ≡ true
 unfolding next_marker
@@ -169,7 +155,7 @@ next-sound m h = go (leb 62 m) refl
   where
     go : (b : Bool) → leb 62 m ≡ b → sound_counter (cond b 4 (m + 1)) ≡ true
     go true e = refl
-    go false e = and_intro _ _ (le-leb 4 (m + 1) (omega (arith, leb-true 4 m (and_left _ _ h)))) (le-leb (m + 1) 62 (omega (arith, leb-false 62 m e)))
+    go false e = both_true (le-leb 4 (m + 1) (omega (arith, leb-true 4 m ((and_parts _ _ h).0)))) (le-leb (m + 1) 62 (omega (arith, leb-false 62 m e)))
 
 pub drawn-sound : (ms : List ℕ) (t : ℕ) → length ms ≡ timeslots → sound_counters ms ≡ true → 1 ≤ t → t ≤ timeslots → sound_counters (drawn ms t) ≡ true
 drawn-sound ms t l h a b = all_set sound_counter ms (t - 1) _ h (next-sound _ (all-at sound_counter ms (t - 1) 0 (omega (arith, l)) h))
@@ -184,11 +170,11 @@ pub record SoundUplink (u : Uplink) : Type 0 where
 pub uplink-parts : (u : Uplink) → sound_uplink u ≡ true → SoundUplink u
 unfolding sound_uplink
 uplink-parts u h =
-    let ab = and_left (valid u.time && sound_table u.rows) (sound_counters u.next_usage_marker) h in
+    let ab = (and_parts (valid u.time && sound_table u.rows) (sound_counters u.next_usage_marker) h).0 in
     record {
-      time = true-valid u.time (and_left (valid u.time) (sound_table u.rows) ab);
-      table = and_right (valid u.time) (sound_table u.rows) ab;
-      counters = and_right (valid u.time && sound_table u.rows) (sound_counters u.next_usage_marker) h;
+      time = true-valid u.time ((and_parts (valid u.time) (sound_table u.rows) ab).0);
+      table = (and_parts (valid u.time) (sound_table u.rows) ab).1;
+      counters = (and_parts (valid u.time && sound_table u.rows) (sound_counters u.next_usage_marker) h).1;
     }
 
 pub parts-uplink : (u : Uplink) → SoundUplink u → sound_uplink u ≡ true
@@ -196,7 +182,7 @@ unfolding sound_uplink
 parts-uplink u p = rw (valid-true u.time p.time, p.table, p.counters)
 
 pub new-uplink-sound : (x : TdmaTime) → Valid x → sound_uplink (new_uplink x) ≡ true
-unfolding sound_uplink all
+unfolding sound_uplink
 new-uplink-sound x v = rw (valid-true x v)
 
 pub advanced-sound : (u : Uplink) → FourRowsOfEighteen u.rows → sound_uplink u ≡ true → sound_uplink (advanced_uplink u) ≡ true

@@ -1,8 +1,8 @@
 -- What a grant rests on (`verdict-grant`), and that two views that agree on the slots looked at give one verdict. Assumes nothing.
+use Rattle.std.proofs.Common.{Option, Some, None}
 use mathlib.Core.Path.{◌≡◌, refl, ap}
 use mathlib.Core.Bool.{Bool, true, false, cond}
 use mathlib.Core.List.{List, [], ◌∷◌}
-use mathlib.Core.Option.{Option, none, some}
 use Prim.Native.Nat.{ℕ, ◌+◌, ◌≤◌, ◌<◌, ◌*◌}
 use native.Mathlib.Omega.{arith}
 use native.Mathlib.Nat.{not-suc-le-zero}
@@ -44,16 +44,16 @@ candidates-near t n =
 
 pub record Granted (v : View) (n : ℕ) (r : Request) (g : Run) : Type 0 where
   pub low : g.delay ≤ latest_delay
-  pub place : earliest (slot_fits (wants_half r.code) v) (slots_wanted r.code) (candidates r.timeslot n) ≡ some g.delay
+  pub place : earliest (slot_fits (wants_half r.code) v) (slots_wanted r.code) (candidates r.timeslot n) ≡ Some g.delay
   pub slots : g.slots ≡ take (slots_wanted r.code) (drop g.delay (candidates r.timeslot n))
 
-settle-grant : (o : Option Run) (g : Run) → settle o ≡ grant g → (o ≡ some g) × (g.delay ≤ latest_delay)
+settle-grant : (o : Option Run) (g : Run) → settle o ≡ grant g → (o ≡ Some g) × (g.delay ≤ latest_delay)
 unfolding settle
-settle-grant none g h = no_run≢grant g h
-settle-grant (some r) g h = go (leb r.delay latest_delay) refl h
+settle-grant None g h = no_run≢grant g h
+settle-grant (Some r) g h = go (leb r.delay latest_delay) refl h
   where
-    go : (b : Bool) → leb r.delay latest_delay ≡ b → cond b (grant r) too_late ≡ grant g → (some r ≡ some g) × (g.delay ≤ latest_delay)
-    go true e k = let same : r ≡ g = cc in (ap some same, rw same at (leb-true r.delay latest_delay e))
+    go : (b : Bool) → leb r.delay latest_delay ≡ b → cond b (grant r) too_late ≡ grant g → (Some r ≡ Some g) × (g.delay ≤ latest_delay)
+    go true e k = let same : r ≡ g = cc in (ap Some same, rw same at (leb-true r.delay latest_delay e))
     go false e k = too_late≢grant g k
 
 pub verdict-grant : (v : View) (n : ℕ) (r : Request) (g : Run) → verdict v n r ≡ grant g → Granted v n r g

@@ -1,8 +1,6 @@
 -- The promises of the functions, over the definitions of document 01's sections. Assumes nothing.
-use Rattle.std.specs.Prelude.{Bool, cond, List, [], ◌∷◌, ℕ, ◌+◌, ◌-◌, ◌*◌, ◌/◌, ◌<◌, take, get_or, set, replicate}
-use Rattle.std.proofs.Math.Option.{Option, none, some}
+use Rattle.std.specs.Prelude.{Bool, cond, List, [], ◌∷◌, ℕ, ◌+◌, ◌-◌, ◌*◌, ◌/◌, ◌<◌, take, get_or, set, replicate, Option, Some, None}
 use Rattle.sizes.specs.Sizes.{timeslots, frames_searched}
-use Rattle.optional.specs.declared.OptU32.{OptU32}
 use Rattle.tdma_time.specs.declared.TdmaTime.{TdmaTime}
 use Rattle.tdma_time.specs.Time.{slot_of, first_of, frames_on, usable_of}
 use Rattle.slot_codes.specs.Codes.{slots_wanted}
@@ -17,24 +15,24 @@ use Rattle.uplink.specs.Uplink.{uplink_of}
 use Rattle.uplink.specs.Request.{Request, earliest_run, grant, given}
 
 -- a run as the search answers it: its start, in frames after the first slot, and the slots passed over
-abbrev pub as_opportunity : ℕ → Option Run → Opportunity
-as_opportunity first none = Opportunity.Nothing
-as_opportunity first (some r) = Opportunity.At ((get_or r.slots 0 0 - first) / timeslots) r.delay
+abbrev pub as_opportunity : ℕ → Option Run → Option Opportunity
+as_opportunity first None = None
+as_opportunity first (Some r) = Some (record { start = (get_or r.slots 0 0 - first) / timeslots; skips = r.delay })
 
-unfoldable pub opportunity : Table → TdmaTime → ℕ → ℕ → Bool → Opportunity
+unfoldable pub opportunity : Table → TdmaTime → ℕ → ℕ → Bool → Option Opportunity
 opportunity tb now t n half = as_opportunity (first_of t (slot_of now)) (earliest_run (table_view tb) (slot_of now) t n half)
 
 -- the run begins, and the slots passed over stand, within the 17 frames
-abbrev pub Within : Opportunity → Type 0
-Within Opportunity.Nothing = Unit {0}
-Within (Opportunity.At start skips) = (start < frames_searched) × (skips < frames_searched)
+abbrev pub Within : Option Opportunity → Type 0
+Within None = Unit {0}
+Within (Some o) = (o.start < frames_searched) × (o.skips < frames_searched)
 
 -- the n usable slots of timeslot t from `start` frames after the first slot on, within the 17 frames
 unfoldable pub slots_from : TdmaTime → ℕ → ℕ → ℕ → List ℕ
 slots_from now t start n = take n (usable_of (frames_on (first_of t (slot_of now) + start * timeslots) (frames_searched - start)))
 
 -- which halves of a slot a request takes, by the holder of the first: both, or for half a slot the first if it is free, else the second
-abbrev pub block_taken : Bool → OptU32 → PhyBlockNum
+abbrev pub block_taken : Bool → Option ℕ → PhyBlockNum
 block_taken half first = cond half (cond (vacant first) PhyBlockNum.Block1 PhyBlockNum.Block2) PhyBlockNum.Both
 
 abbrev pub block_halves : PhyBlockNum → List Half

@@ -1,6 +1,5 @@
 -- Document 01, "The book": half-slots, and who holds them. Assumes nothing.
-use Rattle.std.specs.Prelude.{Bool, true, false, ◌&&◌, ◌||◌, cond, List, [], ◌∷◌, ◌++◌, ℕ}
-use Rattle.optional.specs.declared.OptU32.{OptU32}
+use Rattle.std.specs.Prelude.{Bool, true, false, ◌&&◌, ◌||◌, cond, List, [], ◌∷◌, ◌++◌, ℕ, Option, Some, None}
 use Rattle.tdma_time.specs.Time.{clock}
 
 pub data Half : Type 0 where
@@ -13,15 +12,15 @@ pub record HalfSlot : Type 0 where
 
 -- "an owner (a 24-bit number) or none for each half": who holds each half of each slot, as table or reference model has it
 abbrev pub View : Type 0
-View = ℕ → Half → OptU32
+View = ℕ → Half → Option ℕ
 
 -- nobody holds it
-abbrev pub vacant : OptU32 → Bool
-vacant OptU32.Absent = true
-vacant (OptU32.Of w) = false
+abbrev pub vacant : Option ℕ → Bool
+vacant None = true
+vacant (Some w) = false
 
 -- "both halves free, or for half a slot [..] a free half": are these holders of a slot's halves no bar to a request
-abbrev pub free_for : Bool → OptU32 → OptU32 → Bool
+abbrev pub free_for : Bool → Option ℕ → Option ℕ → Bool
 free_for half a b = cond half (vacant a || vacant b) (vacant a && vacant b)
 
 -- the given halves of a slot

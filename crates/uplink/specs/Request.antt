@@ -1,13 +1,13 @@
 -- Document 01, "Request and grant": what a request is answered, what it reserves, and what a mobile station derives from a grant.
 -- Assumes nothing.
-use Rattle.std.specs.Prelude.{Bool, not, cond, List, [], ◌∷◌, ℕ, ◌+◌, ◌-◌, take, drop, get_or, set, eqb, leb}
-use Rattle.std.proofs.Math.Option.{Option, none, some}
+use Rattle.std.specs.Prelude.{Bool, not, cond, List, [], ◌∷◌, ℕ, ◌+◌, ◌-◌, take, drop, get_or, set, eqb, leb, Option, Some, None, Result, Ok, Err}
 use Rattle.sizes.specs.Sizes.{frames_searched, latest_delay}
-use Rattle.optional.specs.declared.OptU8.{OptU8}
+use Rattle.questions.specs.declared.Refusal.{Refusal}
+use Rattle.questions.specs.Questions.{refusal_number}
 use Rattle.tdma_time.specs.Time.{slot_of, first_of, frames_on, usable_of, usables}
 use Rattle.slot_codes.specs.Codes.{slots_wanted, wants_half, slots_granted, capacity_for}
 use Rattle.uplink.specs.declared.CapAnswer.{CapAnswer}
-use Rattle.uplink.specs.declared.CapReply.{CapReply}
+use Rattle.uplink.specs.declared.Grant.{Grant}
 use Rattle.uplink.specs.declared.Uplink.{Uplink}
 use Rattle.uplink.specs.HalfSlot.{Half, first_half, second_half, HalfSlot, View, vacant, free_for, halves_of_slots}
 use Rattle.uplink.specs.Search.{Run, found, walk}
@@ -46,8 +46,8 @@ pub data Verdict : Type 0 where
 
 -- "Does the run exist? No: 9." "At most 13 before it? No: 10."
 unfoldable pub settle : Option Run → Verdict
-settle none = no_run
-settle (some r) = cond (leb r.delay latest_delay) (grant r) too_late
+settle None = no_run
+settle (Some r) = cond (leb r.delay latest_delay) (grant r) too_late
 
 -- the answer to a request at slot `now`, where v says who holds what
 unfoldable pub verdict : View → ℕ → Request → Verdict
@@ -90,25 +90,28 @@ abbrev pub drawn : List ℕ → ℕ → List ℕ
 drawn ms t = set ms (t - 1) (next_marker (get_or ms (t - 1) 0))
 
 -- the marker of a request that is granted, and the counters after it
-unfoldable pub marker_of : List ℕ → Request → OptU8
-marker_of ms r = cond (draws r.code) (OptU8.Of (get_or ms (r.timeslot - 1) 0)) OptU8.Absent
+unfoldable pub marker_of : List ℕ → Request → Option ℕ
+marker_of ms r = cond (draws r.code) (Some (get_or ms (r.timeslot - 1) 0)) None
 
 unfoldable pub markers_after : List ℕ → Request → List ℕ
 markers_after ms r = cond (draws r.code) (drawn ms r.timeslot) ms
 
 -- ---- the answer
 
+-- the reply to a request that is granted
+abbrev pub granted_reply : ℕ → ℕ → Option ℕ → Result Grant Refusal
+granted_reply cap delay m = Ok (record { capacity = cap; delay = delay; usage_marker = m })
+
 -- "for R capacity, delay, marker or 0"; a refusal is its number
-unfoldable pub reply_to : View → List ℕ → Request → Verdict → CapReply
-reply_to v ms r no_run = CapReply.NoRun
-reply_to v ms r too_late = CapReply.TooLate
-reply_to v ms r (grant g) = CapReply.Granted (capacity v r.code g.slots) g.delay (marker_of ms r)
+unfoldable pub reply_to : View → List ℕ → Request → Verdict → Result Grant Refusal
+reply_to v ms r no_run = Err Refusal.NoRun
+reply_to v ms r too_late = Err Refusal.TooLate
+reply_to v ms r (grant g) = granted_reply (capacity v r.code g.slots) g.delay (marker_of ms r)
 
 -- "number (0 done)", "Does the run exist? No: 9.", "At most 13 before it? No: 10."
-abbrev pub cap_number : CapReply → ℕ
-cap_number (CapReply.Granted cap delay m) = 0
-cap_number CapReply.NoRun = 9
-cap_number CapReply.TooLate = 10
+abbrev pub cap_number : Result Grant Refusal → ℕ
+cap_number (Ok g) = 0
+cap_number (Err r) = refusal_number r
 
 -- "a refusal draws none": only a grant alters table and counters
 unfoldable pub table_after : Table → List ℕ → Request → Verdict → Table

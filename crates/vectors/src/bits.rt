@@ -8,9 +8,7 @@ fn eleven_bits(rt: &impl Print) -> io::Result<()> {
     bitbuffer::write_bits(&mut s, 5, 11, 0x2a5);
     show::word(rt, b"11 bits 2a5 at 5:")?;
     show::octets(rt, &s)?;
-    show::word(rt, b" read")?;
-    show::number(rt, bitbuffer::read_bits(&s, 5, 11))?;
-    show::end(rt)
+    println!(rt; " read {}", bitbuffer::read_bits(&s, 5, 11))
 }
 
 // The widest field, off an octet.
@@ -19,9 +17,7 @@ fn sixty_four_bits(rt: &impl Print) -> io::Result<()> {
     bitbuffer::write_bits(&mut s, 3, 64, 0xfedcba9876543210);
     show::word(rt, b"64 bits fedcba9876543210 at 3:")?;
     show::octets(rt, &s)?;
-    show::word(rt, b" read")?;
-    show::number(rt, bitbuffer::read_bits(&s, 3, 64))?;
-    show::end(rt)
+    println!(rt; " read {}", bitbuffer::read_bits(&s, 3, 64))
 }
 
 // A field of no bits leaves all bits, and only the low bits of a value are written.

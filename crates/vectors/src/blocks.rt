@@ -12,11 +12,7 @@ fn behind(rt: &impl Print, end: u8, x: &[u8]) -> io::Result<()>
     block[0] = 0x60 + end / 8;
     block[1] = end % 8 * 32;
     let at = end as usize;
-    let mut i = 0;
-    while i < x.len() {
-        block[at + i] = x[i];
-        i += 1;
-    }
+    block[at..at + x.len()].copy_from_slice(x);
     pdus::read(rt, &block)
 }
 

@@ -2,26 +2,22 @@
 // may not start fragments.
 ghost use Rattle.std.specs.Prelude.{◌≡◌, ◌≤◌};
 
-use dl_record::Record;
-use optional::{OptU8, OptU16};
+use dl_record::{QueuedHeader, Record};
 use std::io;
 
 // A record without SDU whose header has an SSI, a usage marker and a grant: 57 bits.
 fn with_marker_and_grant() -> Record
     ensures { (result.bits ≡ 0) × (result.sent ≡ 0) }
 {
-    let granted = dl_record::grant_record(0, 1, 0x10, OptU8::Of(4));
-    let header = granted.header;
-    dl_record::offered_record(0, 1, OptU16::Absent, header, 0)
+    let granted = Record::grant(0, 1, 0x10, Some(4));
+    Record::offered(0, 1, None, granted.header, 0)
 }
 
 // A record with so many SDU bits, all zero: its header has 43 bits.
 fn with_sdu(bits: u16) -> Record
     ensures { (result.bits ≡ bits) × (result.sent ≡ 0) }
 {
-    let plain = Record::EMPTY;
-    let header = plain.header;
-    dl_record::offered_record(0, 1, OptU16::Absent, header, bits)
+    Record::offered(0, 1, None, QueuedHeader::EMPTY, bits)
 }
 
 // Where its PDU ends, in the last 60 bits of a block: at 208 if there is none.
@@ -29,24 +25,20 @@ fn in_60_bits(rt: &impl Print, bits: u16, may_start: bool) -> io::Result<()>
     requires { bits ≤ 2048 }
 {
     let r = with_sdu(bits);
-    if !dl_record::header_is_legal(r) {
+    if !r.header_is_legal() {
         return Ok(());
     }
     let store = [0u8; 256];
     let mut block = [0u8; 34];
     let chunk = bs_frag_chunk::get_next_chunk(&mut block, 208, 268, &store, 0, r, may_start);
-    show::word(rt, b" to")?;
-    show::number(rt, chunk.next as u64)
+    print!(rt; " to {}", chunk.next)
 }
 
 fn may_start(rt: &impl Print) -> io::Result<()> {
-    show::word(
-        rt,
-        b"header 43, 60 bits left, 17 and 18 bits of SDU, may start:",
-    )?;
+    print!(rt; "header 43, 60 bits left, 17 and 18 bits of SDU, may start:")?;
     in_60_bits(rt, 17, true)?;
     in_60_bits(rt, 18, true)?;
-    show::word(rt, b" may not:")?;
+    print!(rt; " may not:")?;
     in_60_bits(rt, 17, false)?;
     in_60_bits(rt, 18, false)?;
     show::end(rt)
@@ -55,19 +47,19 @@ fn may_start(rt: &impl Print) -> io::Result<()> {
 // The PDU of a record with marker and grant.
 fn header_57(rt: &impl Print) -> io::Result<()> {
     let r = with_marker_and_grant();
-    if !dl_record::header_is_legal(r) {
+    if !r.header_is_legal() {
         return Ok(());
     }
     let store = [0u8; 256];
     let mut block = [0u8; 34];
     let chunk = bs_frag_chunk::get_next_chunk(&mut block, 208, 268, &store, 0, r, true);
-    show::word(rt, b"header 57, 60 bits left:")?;
+    print!(rt; "header 57, 60 bits left:")?;
     show::octets(rt, &block)?;
-    show::word(rt, b" to")?;
-    show::number(rt, chunk.next as u64)?;
-    show::word(rt, b" length")?;
-    show::number(rt, bitbuffer::read_bits(&block, 215, 6))?;
-    show::end(rt)
+    println!(rt;
+        " to {} length {}",
+        chunk.next,
+        bitbuffer::read_bits(&block, 215, 6)
+    )
 }
 
 pub(crate) fn run(rt: &impl Print) -> io::Result<()> {

@@ -1,222 +1,80 @@
 // Document 01, "Time": a time is printed as h m f t.
-ghost use Rattle.std.specs.Prelude.{◌≤◌};
+ghost use Rattle.std.specs.Prelude.{◌≡◌, ◌≤◌};
 ghost use Rattle.tdma_time.specs.Time.{Valid};
 
-use std::io;
+use std::{fmt, io};
 use tdma_time::TdmaTime;
 
-fn time(rt: &impl Print, x: TdmaTime) -> io::Result<()> {
-    show::number(rt, x.h as u64)?;
-    show::number(rt, x.m as u64)?;
-    show::number(rt, x.f as u64)?;
-    show::number(rt, x.t as u64)
+#[derive(Clone, Copy)]
+struct Shown(TdmaTime);
+
+impl fmt::Display for Shown {
+    fn fmt<W: fmt::Write>(&self, f: &mut fmt::Formatter<W>) -> fmt::Result {
+        let x = self.0;
+        write!(f, "{} {} {} {}", x.h, x.m, x.f, x.t)
+    }
+}
+
+// The time that is printed so.
+pub(crate) fn at(h: u16, m: u8, f: u8, t: u8) -> TdmaTime
+    ensures { (result.h ≡ h) × (result.m ≡ m) × (result.f ≡ f) × (result.t ≡ t) }
+{
+    TdmaTime { t, f, m, h }
 }
 
 fn next(rt: &impl Print, x: TdmaTime) -> io::Result<()>
     requires { Valid x }
 {
-    show::word(rt, b"next of")?;
-    time(rt, x)?;
-    show::word(rt, b" is")?;
-    time(rt, x.next())?;
-    show::end(rt)
+    println!(rt; "next of {} is {}", Shown(x), Shown(x.next()))
 }
 
 fn four_earlier(rt: &impl Print, x: TdmaTime) -> io::Result<()>
     requires { Valid x }
 {
-    show::word(rt, b"four slots before")?;
-    time(rt, x)?;
-    show::word(rt, b" is")?;
-    time(rt, x.four_earlier())?;
-    show::end(rt)
+    println!(rt;
+        "four slots before {} is {}",
+        Shown(x),
+        Shown(x.four_earlier())
+    )
 }
 
 fn forward(rt: &impl Print, x: TdmaTime, ts: u8) -> io::Result<()>
     requires valid { Valid x }
     requires le_ts { (1 ≤ ts) × (ts ≤ 4) }
 {
-    show::word(rt, b"timeslot")?;
-    show::number(rt, ts as u64)?;
-    show::word(rt, b" at or after")?;
-    time(rt, x)?;
-    show::word(rt, b" is")?;
-    time(rt, x.forward_to_timeslot(ts))?;
-    show::end(rt)
+    println!(rt;
+        "timeslot {ts} at or after {} is {}",
+        Shown(x),
+        Shown(x.forward_to_timeslot(ts))
+    )
 }
 
 fn usable(rt: &impl Print, x: TdmaTime) -> io::Result<()> {
-    show::word(rt, b"time")?;
-    time(rt, x)?;
-    if x.is_valid() {
-        show::word(rt, b" is valid,")?;
+    let valid = if x.is_valid() { "valid" } else { "not valid" };
+    let usable = if x.is_usable() {
+        "usable"
     } else {
-        show::word(rt, b" is not valid,")?;
-    }
-    if x.is_usable() {
-        show::word(rt, b" usable\n")?;
-    } else {
-        show::word(rt, b" not usable\n")?;
-    }
-    Ok(())
+        "not usable"
+    };
+    println!(rt; "time {} is {valid}, {usable}", Shown(x))
 }
 
 pub(crate) fn run(rt: &impl Print) -> io::Result<()> {
-    next(
-        rt,
-        TdmaTime {
-            t: 1,
-            f: 1,
-            m: 1,
-            h: 0,
-        },
-    )?;
-    next(
-        rt,
-        TdmaTime {
-            t: 4,
-            f: 1,
-            m: 1,
-            h: 0,
-        },
-    )?;
-    next(
-        rt,
-        TdmaTime {
-            t: 4,
-            f: 18,
-            m: 1,
-            h: 0,
-        },
-    )?;
-    next(
-        rt,
-        TdmaTime {
-            t: 4,
-            f: 18,
-            m: 60,
-            h: 0,
-        },
-    )?;
-    next(
-        rt,
-        TdmaTime {
-            t: 4,
-            f: 18,
-            m: 60,
-            h: 65535,
-        },
-    )?;
-    four_earlier(
-        rt,
-        TdmaTime {
-            t: 3,
-            f: 18,
-            m: 7,
-            h: 9,
-        },
-    )?;
-    four_earlier(
-        rt,
-        TdmaTime {
-            t: 3,
-            f: 1,
-            m: 7,
-            h: 9,
-        },
-    )?;
-    four_earlier(
-        rt,
-        TdmaTime {
-            t: 3,
-            f: 1,
-            m: 1,
-            h: 9,
-        },
-    )?;
-    four_earlier(
-        rt,
-        TdmaTime {
-            t: 3,
-            f: 1,
-            m: 1,
-            h: 0,
-        },
-    )?;
-    forward(
-        rt,
-        TdmaTime {
-            t: 1,
-            f: 1,
-            m: 1,
-            h: 0,
-        },
-        1,
-    )?;
-    forward(
-        rt,
-        TdmaTime {
-            t: 2,
-            f: 1,
-            m: 1,
-            h: 0,
-        },
-        1,
-    )?;
-    forward(
-        rt,
-        TdmaTime {
-            t: 4,
-            f: 18,
-            m: 60,
-            h: 0,
-        },
-        3,
-    )?;
-    forward(
-        rt,
-        TdmaTime {
-            t: 4,
-            f: 18,
-            m: 60,
-            h: 65535,
-        },
-        3,
-    )?;
-    usable(
-        rt,
-        TdmaTime {
-            t: 4,
-            f: 17,
-            m: 1,
-            h: 0,
-        },
-    )?;
-    usable(
-        rt,
-        TdmaTime {
-            t: 1,
-            f: 18,
-            m: 1,
-            h: 0,
-        },
-    )?;
-    usable(
-        rt,
-        TdmaTime {
-            t: 1,
-            f: 1,
-            m: 61,
-            h: 0,
-        },
-    )?;
-    usable(
-        rt,
-        TdmaTime {
-            t: 0,
-            f: 1,
-            m: 1,
-            h: 0,
-        },
-    )
+    next(rt, at(0, 1, 1, 1))?;
+    next(rt, at(0, 1, 1, 4))?;
+    next(rt, at(0, 1, 18, 4))?;
+    next(rt, at(0, 60, 18, 4))?;
+    next(rt, at(65535, 60, 18, 4))?;
+    four_earlier(rt, at(9, 7, 18, 3))?;
+    four_earlier(rt, at(9, 7, 1, 3))?;
+    four_earlier(rt, at(9, 1, 1, 3))?;
+    four_earlier(rt, at(0, 1, 1, 3))?;
+    forward(rt, at(0, 1, 1, 1), 1)?;
+    forward(rt, at(0, 1, 1, 2), 1)?;
+    forward(rt, at(0, 60, 18, 4), 3)?;
+    forward(rt, at(65535, 60, 18, 4), 3)?;
+    usable(rt, at(0, 1, 17, 4))?;
+    usable(rt, at(0, 1, 18, 1))?;
+    usable(rt, at(0, 61, 1, 1))?;
+    usable(rt, at(0, 1, 1, 0))
 }

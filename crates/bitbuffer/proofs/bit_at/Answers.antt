@@ -1,8 +1,7 @@
--- `bit_at` meets its contract, by `get_d-place`. Assumes nothing.
-use borrow.Author.Rules.{rules}
+-- `bit_at` meets its contract, by `get_or-place`. Assumes nothing.
 use mathlib.Core.Path.{sym}
-use Rattle.bitbuffer.proofs.Laws.{get_d-place}
+use Rattle.bitbuffer.proofs.Laws.{get_or-place}
 use Rattle.bitbuffer.proofs.bit_at.Goals as goal
 
 pub returns : goal.returns
-returns c = sym (get_d-place c.args.s.now c.args.at c.requires)
+returns c = sym (get_or-place c.args.s.now c.args.at c.requires)

@@ -1,6 +1,7 @@
 -- `bits_at` meets its contract, by `pair-part`. Assumes nothing.
-use mathlib.Core.Path.{◌∙◌}
-use borrow.Author.Rules.{rules}
+use mathlib.Core.Path.{◌≡◌, ◌∙◌}
+use Prim.Native.Nat.{◌+◌, ◌-◌, ◌*◌, ◌/◌}
+use lib.ListN.{get_or}
 use native.Mathlib.Omega.{arith}
 use native.Mathlib.Nat.{mod-lt}
 use lib.Pow.{pow_pos}
@@ -13,11 +14,11 @@ nonzero_rem-result-2 c = let n = c.args.n in rw (one_shl {k = n} 64 (omega arith
 
 pub returns : goal.returns
 returns c =
-    let b = c in
-    let a = b.args in
+    let a = c.args in
     let one = one_shl {k = a.n} 64 (omega arith) in
-    rw (one, c.joined-pair.ensures) (
-      value_bits-mod a.n _ ∙ pair-part a.s.now a.at a.n b.requires.2 b.requires.3 b.requires.0
-          (λ i. (c.shared_slice_known-3-1.given i).fits),
+    let pair : c.from-pair.result ≡ get_or a.s.now (a.at / 8) 0 * 256 + get_or a.s.now ((a.at + a.n - 1) / 8) 0 =
+    omega (arith, c.from-pair.ensures, c.from_be_bytes.ensures) in
+    rw (one, pair) (
+      value_bits-mod a.n _ ∙ pair-part a.s.now a.at a.n c.requires.2 c.requires.3 c.requires.0 (λ i. (c.type_inv.s i).fits),
       mod-lt _ (pow_pos a.n),
     )

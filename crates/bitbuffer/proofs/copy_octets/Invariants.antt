@@ -1,12 +1,8 @@
 -- `copy_octets` meets its contract: after i turns the first i octets are copied. Assumes nothing.
-use mathlib.Core.Path.{◌≡◌, refl, ap, ◌∙◌}
-use Prim.Native.Nat.{ℕ, ◌+◌, ◌-◌, ◌*◌, ◌/◌, ◌≤◌}
-use native.Mathlib.Omega.{arith}
-use borrow.Author.Rules.{rules}
-use lib.ListN.{length, length-set}
-use Rattle.bitbuffer.specs.Bits.{value_bits, bits_of, written, part}
-use Rattle.bitbuffer.proofs.Laws.{part-done}
-use Rattle.bitbuffer.proofs.Chunks.{octet-part, octet-turn}
+use mathlib.Core.Path.{◌≡◌}
+use Prim.Native.Nat.{◌-◌, ◌*◌, ◌≤◌}
+use lib.ListN.{length}
+use Rattle.bitbuffer.specs.Bits.{bits_of, written, part}
 use Rattle.bitbuffer.proofs.copy_octets.Given as goal
 
 abbrev pub invariant-loop-i : goal.invariant-loop-i

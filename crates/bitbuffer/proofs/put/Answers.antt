@@ -1,7 +1,6 @@
 -- `put` meets its contract: what `write_bits` ensures, and the next position. Assumes nothing.
 use mathlib.Core.Path.{refl}
 use Rattle.bitbuffer.proofs.Laws.{wrote_value}
-use borrow.Author.Rules.{rules}
 use Rattle.bitbuffer.proofs.put.Goals as goal
 
 pub returns : goal.returns

@@ -1,9 +1,6 @@
 -- `put_chunk` meets its contract, by `written-place`. Assumes nothing.
-use borrow.Author.Rules.{rules}
 use Rattle.bitbuffer.proofs.Chunks.{written-place}
 use Rattle.bitbuffer.proofs.put_chunk.Goals as goal
 
 pub returns : goal.returns
-returns c =
-    let a = c in
-    written-place a.args.s.now a.args.at a.args.n a.args.v c.with_bits.result a.requires.0 a.requires.1 c.with_bits.ensures
+returns c = written-place c.args.s.now c.args.at c.args.n c.args.v c.with_bits.result c.requires.0 c.requires.1 c.with_bits.ensures

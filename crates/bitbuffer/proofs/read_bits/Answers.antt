@@ -4,7 +4,6 @@ use mathlib.Core.Path.{◌≡◌, refl, sym, ◌∙◌}
 use Prim.Native.Nat.{ℕ, ◌+◌, ◌-◌, ◌*◌, ◌%◌, ◌^◌, ◌<◌}
 use native.Mathlib.Nat.{lt_of_le_of_lt, lt_of_lt_of_le, mod-eq_of_lt}
 use native.Mathlib.Omega.{arith}
-use borrow.Author.Rules.{rules}
 use lib.Pow.{pow_mono}
 use Rattle.bitbuffer.specs.Bits.{bits_value, bits_of, part}
 use Rattle.bitbuffer.proofs.Laws.{value-all, sum-le, part-lt, bits-bits_of, length-bits_of}
@@ -25,11 +24,10 @@ turn : (c : After-bits_at)
     (part (Bits c) (c.loop-left.pos + c.chunk-n.result) (c.loop-left.left - c.chunk-n.result))
     ≡ bits_value (part (Bits c) c.args.at c.args.width)
 turn c =
-    let p = c in
-    number-turn (Bits c) p.loop-left.pos c.chunk-n.result p.loop-left.left p.loop-left.sum c.bits_at.result (omega arith)
+    number-turn (Bits c) c.loop-left.pos c.chunk-n.result c.loop-left.left c.loop-left.sum c.bits_at.result (omega arith)
     (rw length-bits_of (omega arith))
     c.bits_at.ensures.0 c.bits_at.ensures.1
-    ∙ p.loop-left.invariant.1
+    ∙ c.loop-left.invariant.1
 
 next : (c : After-bits_at) → Sum c + c.bits_at.result < 2 ^ 64
 next c =

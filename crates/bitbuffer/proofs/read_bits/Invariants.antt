@@ -1,14 +1,7 @@
 -- `read_bits` meets its contract: the number read so far and the bits left give the number read in all. Assumes nothing.
-use mathlib.Core.List.{List}
-use mathlib.Core.Path.{◌≡◌, refl, sym, ◌∙◌}
-use Prim.Native.Nat.{ℕ, ◌+◌, ◌-◌, ◌*◌, ◌%◌, ◌^◌, ◌<◌}
-use native.Mathlib.Nat.{lt_of_le_of_lt, lt_of_lt_of_le, mod-eq_of_lt}
-use native.Mathlib.Omega.{arith}
-use borrow.Author.Rules.{rules}
-use lib.Pow.{pow_mono}
+use mathlib.Core.Path.{◌≡◌}
+use Prim.Native.Nat.{◌+◌, ◌*◌, ◌^◌}
 use Rattle.bitbuffer.specs.Bits.{bits_value, bits_of, part}
-use Rattle.bitbuffer.proofs.Laws.{value-all, sum-le, part-lt, bits-bits_of, length-bits_of}
-use Rattle.bitbuffer.proofs.Chunks.{number-turn}
 use Rattle.bitbuffer.proofs.read_bits.Given as goal
 
 abbrev pub invariant-loop-left : goal.invariant-loop-left

@@ -1,6 +1,5 @@
 -- `with_bits` meets its contract, by `octet-written`, and by `octet-whole` for a whole octet. Assumes nothing.
 use Prim.Native.Nat.{◌+◌, ◌-◌}
-use borrow.Author.Rules.{rules}
 use native.Mathlib.Omega.{arith}
 use lib.Pow.{pow_pos}
 use Rattle.bitbuffer.proofs.Laws.{one_shl}
@@ -19,6 +18,4 @@ nonzero_rem-behind c =
     rw (one_shl {k = low} 64 (omega arith)) (pow_pos low)
 
 pub returns : goal.returns
-returns c =
-    let b = c in
-    octet-written b.args.x b.args.k b.args.n b.args.v b.ranges.x.fits b.requires.0 b.requires.1
+returns c = rw c.from-old.ensures (octet-written c.args.x c.args.k c.args.n c.args.v c.ranges.x.fits c.requires.0 c.requires.1)

@@ -4,5 +4,4 @@ use native.Mathlib.Omega.{arith}
 use Rattle.bs_frag.proofs.put_end.Goals as goal
 
 pub returns : goal.returns
-returns c =
-    (omega arith, rw (← c.fill_flag.ensures.0) (then c.put_end-a.ensures.1 c.put_body.ensures.1))
+returns c = (omega arith, rw (← c.fill_flag.ensures.0) (then c.put_end-next.ensures.1 c.put.ensures.1))

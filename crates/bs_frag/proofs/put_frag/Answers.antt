@@ -4,5 +4,4 @@ use native.Mathlib.Omega.{arith}
 use Rattle.bs_frag.proofs.put_frag.Goals as goal
 
 pub returns : goal.returns
-returns c =
-    (omega arith, rw (← c.fill_flag.ensures.0) (then c.put_frag-a.ensures.1 c.put_body.ensures.1))
+returns c = (omega arith, rw (← c.fill_flag.ensures.0) (then c.put_frag-next.ensures.1 c.put.ensures.1))

@@ -4,5 +4,4 @@ use native.Mathlib.Omega.{arith}
 use Rattle.bs_frag.proofs.put_resource.Goals as goal
 
 pub returns : goal.returns
-returns c =
-    (omega (arith, c.put_resource-a.ensures.ends), then c.put_resource-a.ensures c.put_body.ensures.1)
+returns c = (omega (arith, c.put_resource-next.ensures.ends), then c.put_resource-next.ensures c.put.ensures.1)

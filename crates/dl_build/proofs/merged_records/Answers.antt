@@ -17,7 +17,7 @@ use Rattle.dl_build.proofs.merged_records.Goals as goal
 pub returns-then-none_to_merge : goal.returns-then-none_to_merge
 returns-then-none_to_merge c =
     let a = c.args in (
-      listed-counted 0 a.n a.records c.own_places-from.result (λ j h. c.own_places-from.ensures j (omega (arith, c.requires)) ∙ sym (zero-add j))
+      listed-counted 0 a.n a.records c.own_places.result (λ j h. c.own_places.ensures j (omega (arith, c.requires)) ∙ sym (zero-add j))
           ∙ sym (merge_none a.n a.records (c.none_to_merge.ensures c.if-none_to_merge.true)),
       c.requires,
     )

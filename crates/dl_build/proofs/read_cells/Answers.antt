@@ -1,13 +1,13 @@
--- A whole array written over.
+-- As many octets as the cells have.
+use mathlib.Core.Path.{◌≡◌, ap, ◌∙◌}
+use Prim.Native.Nat.{ℕ, ◌+◌, ◌-◌, ◌*◌}
+use native.Mathlib.Omega.{arith}
+use lib.ListN.{drop, take}
 use Rattle.sizes.specs.Sizes.{cell_octets, timeslot_octets}
-use Rattle.dl_build.proofs.ArrangeLaws.{read-list}
-use Prim.Native.Nat.{ℕ, ◌*◌}
-use lib.ListN.{drop, replicate, length-replicate}
-use mathlib.Core.Path.{◌∙◌}
 use Rattle.dl_build.proofs.read_cells.Goals as goal
 
 pub returns : goal.returns
 returns c =
     let a = c.args in
-    c.copy_octets.ensures ∙ read-list timeslot_octets (replicate timeslot_octets 0) (drop (cell_octets * a.first) a.store.now)
-    (length-replicate {A = ℕ} timeslot_octets 0)
+    let e : cell_octets * a.first + timeslot_octets - cell_octets * a.first ≡ timeslot_octets = omega arith in
+    c.copy_from_slice.ensures.after ∙ ap (λ (n : ℕ). take n (drop (cell_octets * a.first) a.store.now)) e

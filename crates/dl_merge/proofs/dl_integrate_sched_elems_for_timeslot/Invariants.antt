@@ -1,13 +1,8 @@
--- After j turns the arrays hold what stays, with the grants and acks of the first j records put to it.
+-- After the turns of the first records what stays is held, with the grants and acks among these put to it.
 use mathlib.Core.Path.{◌≡◌}
-use Prim.Native.Nat.{◌≤◌, ◌-◌}
-use lib.ListN.{length}
-use Rattle.sizes.specs.Sizes.{per_timeslot}
-use Rattle.dl_merge.proofs.TurnLaws.{ArraysHold, joins}
+use Rattle.dl_merge.specs.Places.{merged_of}
+use Rattle.dl_merge.proofs.TurnLaws.{joins}
 use Rattle.dl_merge.proofs.dl_integrate_sched_elems_for_timeslot.Given as goal
 
-abbrev pub invariant-loop-j : goal.invariant-loop-j
-invariant-loop-j l = (l.j ≤ l.n) × (length l.records ≡ per_timeslot) × (l.k ≤ l.n) × ArraysHold (joins l.n l.j l.records) l.out l.from l.k
-
-abbrev pub decreases-loop-j : goal.decreases-loop-j
-decreases-loop-j l = l.n - l.j
+abbrev pub invariant-loop-g : goal.invariant-loop-g
+invariant-loop-g l = l.merged ≡ merged_of (joins l.fn.n l.g-index l.fn.records)

@@ -1,41 +1,47 @@
--- After i turns the arrays hold what stays of the first i records.
-use mathlib.Core.Path.{◌≡◌, sym, ◌∙◌, subst}
-use Prim.Native.Nat.{ℕ}
+-- After i turns what stays of the first i records is held.
+use mathlib.Core.Path.{◌≡◌, refl, sym, ap, ◌∙◌}
+use Prim.Native.Nat.{◌<◌}
 use native.Mathlib.Omega.{arith}
-use Rattle.lists.proofs.Lists.{get_d_any}
-use Rattle.dl_record.specs.Record.{empty_record}
-use Rattle.dl_merge.proofs.TurnLaws.{ArraysHold, kept_up_to, kept-start, kept-turn, kept-skip, list_held}
 use borrow.Author.Rules.{rules}
+use lib.ListN.{length, length-take}
+use Rattle.std.proofs.lemmas.List.{get_or-take}
+use Rattle.sizes.specs.Sizes.{per_timeslot}
+use Rattle.dl_record.specs.Record.{empty_record}
+use Rattle.dl_queue.specs.Queue.{records_of}
+use Rattle.dl_merge.specs.Merge.{only}
+use Rattle.dl_merge.specs.Places.{counted, sources_of}
+use Rattle.dl_merge.specs.declared.Merged.{Merged}
+use Rattle.dl_merge.proofs.TurnLaws.{kept-few, kept-pass, kept-fail}
+use Rattle.dl_merge.proofs.dl_take_all_grants_and_acks.Goals.{then-not-is_grant_or_ack, else-not-is_grant_or_ack}
 use Rattle.dl_merge.proofs.dl_take_all_grants_and_acks.Goals as goal
 
 pub loop-i-init : goal.loop-i-init
-loop-i-init c = (omega arith, search rules, omega arith, kept-start _)
+unfolding records_of sources_of only counted
+loop-i-init c = refl
 
-pub loop-i-preserved-then-is_grant_or_ack : goal.loop-i-preserved-then-is_grant_or_ack
-loop-i-preserved-then-is_grant_or_ack c =
-    let a = c.args in
-    let l = c.loop-i in (
-      omega arith,
-      l.invariant.1,
-      omega arith,
-      kept-skip a.records l.i l.out l.from l.k _ (get_d_any a.records l.i _ empty_record (omega arith))
-          (sym c.is_grant_or_ack.ensures ∙ c.if-is_grant_or_ack.true) l.invariant.3,
-    )
+pub push-requires : goal.push-requires
+push-requires c =
+    let l = c.loop-i in
+    omega (arith, ap (λ (m : Merged). m.count) l.invariant, kept-few l.i c.args.records, length-take c.args.n c.args.records, c.loop-i-test.true)
 
 pub loop-i-preserved : goal.loop-i-preserved
 loop-i-preserved c =
     let a = c.args in
-    let l = c.loop-i in (
-      omega arith,
-      l.invariant.1,
-      omega arith,
-      kept-turn a.records l.i l.out l.from l.k _ (get_d_any a.records l.i _ empty_record (omega arith)) (omega arith)
-          (sym c.is_grant_or_ack.ensures ∙ c.if-is_grant_or_ack.false) l.invariant.3,
-    )
+    let l = c.loop-i in
+    let less : l.i < a.n = omega (arith, length-take a.n a.records, c.loop-i-test.true) in
+    let is = get_or-take a.n a.records l.i empty_record less in
+    elim c.if-not-is_grant_or_ack.branch [
+      | then-not-is_grant_or_ack w ↦
+          w.kept-is ∙ w.push.ensures
+          ∙ kept-pass a.records l.i l.kept _ is l.invariant (omega arith) (sym c.is_grant_or_ack.ensures ∙ w.if-not-is_grant_or_ack.true)
+      | else-not-is_grant_or_ack w ↦
+          w.kept-is ∙ kept-fail a.records l.i l.kept _ is l.invariant (sym c.is_grant_or_ack.ensures ∙ w.if-not-is_grant_or_ack.false)
+    ]
 
 pub returns : goal.returns
 returns c =
     let a = c.args in
     let l = c.loop-i in
-    let e : l.i ≡ a.n = omega arith in
-    list_held (kept_up_to a.n a.records) l.out l.from l.k (subst (λ (i : ℕ). ArraysHold (kept_up_to i a.records) l.out l.from l.k) e l.invariant.3)
+    let full : length a.records ≡ per_timeslot = search rules in
+    let e : l.i ≡ a.n = omega (arith, full, length-take a.n a.records, c.loop-i-test.false, l.auto.i-end) in
+    rw (← e) l.invariant

@@ -3,4 +3,4 @@ use Rattle.dl_record.proofs.QuestionLaws.{present-sdu}
 use Rattle.dl_record.proofs.sdu_is_present.Goals as goal
 
 pub returns : goal.returns
-returns c = present-sdu _ _
+returns c = rw c.div_ceil-octets.ensures (present-sdu _ _)

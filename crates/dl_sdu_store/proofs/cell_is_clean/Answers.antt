@@ -16,4 +16,4 @@ returns c =
     let s : List ℕ = c.args.cell.now in
     let n : ℕ = c.args.bits in
     ap (λ (t : Bool). eqb (get_or s (n / 8) 0 * 2 ^ (n % 8) % 2 ^ 8) 0 && t) c.all_zero_from.ensures
-    ∙ clean-split s n (λ i. (c.shared_slice_known-1.given i).fits) c.if-cell-k.false
+    ∙ clean-split s n (λ i. (c.type_inv.cell i).fits) c.if-cell-k.false

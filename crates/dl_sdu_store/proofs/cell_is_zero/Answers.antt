@@ -6,4 +6,4 @@ use Rattle.dl_sdu_store.proofs.cell_is_zero.Goals as goal
 
 pub returns : goal.returns
 unfolding clean_past
-returns c = c.all_zero.ensures ∙ sym (zero-bits_of _ (λ i. (c.shared_slice_known-1.given i).fits))
+returns c = c.all_zero.ensures ∙ sym (zero-bits_of _ (λ i. (c.type_inv.cell i).fits))

@@ -6,4 +6,4 @@ pub returns-then-rest-eq0 : goal.returns-then-rest-eq0
 returns-then-rest-eq0 c = edge_none _ _ c.if-rest-eq0.true
 
 pub returns : goal.returns
-returns c = edge-some _ _ c.if-rest-eq0.false c.requires.1 (c.shared_slice_known-1.given c.args.whole).fits
+returns c = edge-some _ _ c.if-rest-eq0.false c.requires.1 (c.type_inv.sdu c.args.whole).fits

@@ -1,36 +1,27 @@
 -- Whole octets, the octet at the edge, zeros.
-use Prim.Native.Nat.{ℕ, ◌+◌, ◌-◌, ◌/◌}
 use mathlib.Core.List.{List}
 use mathlib.Core.Path.{ap, ◌∙◌}
+use Prim.Native.Nat.{ℕ}
 use lib.Seq.{paste}
-use lib.ListN.{length-set, set, replicate}
 use native.Mathlib.Omega.{arith}
+use Rattle.std.proofs.Common.{rules}
 use Rattle.sizes.specs.Sizes.{cell_octets}
-use Rattle.dl_sdu_store.proofs.CellLaws.{cell_full, cell-written}
+use Rattle.dl_sdu_store.proofs.CellLaws.{cell-put, cell_put-full}
 use Rattle.dl_sdu_store.proofs.CellBits.{cell-octets}
 use Rattle.dl_sdu_store.proofs.write_cell.Goals as goal
 
 pub returns-then-whole-eq-CELL_OCTETS : goal.returns-then-whole-eq-CELL_OCTETS
 returns-then-whole-eq-CELL_OCTETS c =
     let a = c.args in
-    c.copy_octets.ensures ∙ cell_full a.store.now a.base a.bits a.sdu.now (omega arith) (omega arith) c.if-whole-eq-CELL_OCTETS.true
+    cell_put-full a.store.now a.base a.bits a.sdu.now _ _ (omega arith) (omega arith) c.if-whole-eq-CELL_OCTETS.true c.copy_from_slice.ensures.after
+    (omega arith)
     ∙ ap (λ (l : List ℕ). paste a.store.now a.base l cell_octets)
-    (cell-octets a.bits a.sdu.now (omega arith) (omega arith) (λ i. (c.shared_slice_known-1.given i).fits))
-
-pub zero_octets-requires : goal.zero_octets-requires
-zero_octets-requires c = simp length-set (omega (arith, c.copy_octets.auto))
-
-pub shape_of-store : goal.shape_of-store
-shape_of-store c =
-    c.zero_octets.auto.dst ∙ simp length-set c.copy_octets.auto.dst
+    (cell-octets a.bits a.sdu.now (omega arith) (omega arith) (λ i. (c.type_inv.sdu i).fits))
 
 pub returns : goal.returns
 returns c =
     let a = c.args in
-    c.zero_octets.ensures
-    ∙ ap (λ (l : List ℕ). paste (set l (a.base + a.bits / 8) c.edge.result) (a.base + (a.bits / 8 + 1))
-    (replicate (cell_octets - 1 - a.bits / 8) 0) (cell_octets - 1 - a.bits / 8)) c.copy_octets.ensures
-    ∙ cell-written a.store.now a.base a.bits a.sdu.now c.edge.result (omega arith) (omega arith) (omega arith) (omega arith)
-    c.edge.ensures
+    cell-put a.store.now a.base a.bits a.sdu.now c.edge.result _ _ _ _ (omega arith) (omega arith) (omega arith) (omega arith) c.edge.ensures
+    c.copy_from_slice.ensures.after (omega arith) (omega arith) (c.fill.ensures.after (search rules))
     ∙ ap (λ (l : List ℕ). paste a.store.now a.base l cell_octets)
-    (cell-octets a.bits a.sdu.now (omega arith) (omega arith) (λ i. (c.shared_slice_known-1.given i).fits))
+    (cell-octets a.bits a.sdu.now (omega arith) (omega arith) (λ i. (c.type_inv.sdu i).fits))

@@ -1,63 +1,62 @@
 -- After i turns what is held and what is to come make the whole.
 use mathlib.Core.Path.{refl, sym, subst}
+use Prim.Native.Nat.{◌<◌}
 use native.Mathlib.Omega.{arith}
+use lib.Seq.{length-take-le}
+use Rattle.dl_record.specs.Record.{empty_record}
+use Rattle.dl_queue.specs.Queue.{records_of}
+use Rattle.dl_merge.specs.Places.{sources_of}
 use Rattle.bs_frag.specs.NextPdu.{Sendable}
-use Rattle.dl_send.specs.Arrays.{records_at}
-use Rattle.dl_send.proofs.ArrayLaws.{sendable-at, record-at}
-use Rattle.dl_send.proofs.SendLaws.{running-start, running-step, running-end}
-use borrow.Author.Rules.{rules}
+use Rattle.dl_send.specs.Arrays.{records_at, places_at, tag_row}
+use Rattle.dl_send.proofs.ArrayLaws.{sendable-at, taken-at}
+use Rattle.dl_send.proofs.SendLaws.{running-start, running-room, running-step, running-end}
 use Rattle.dl_send.proofs.send_all.Goals as goal
 
-pub loop-i-init : goal.loop-i-init
-loop-i-init c = (search rules, search rules, running-start _ _ _ _ _ _ _ _ _ _ refl refl refl)
-
-pub offset_bounds-records-o : goal.offset_bounds-records-o
-offset_bounds-records-o c =
-    record { fits = omega (arith, c.requires.by_index c.loop-i.i c.loop-i-test.true) }
-
-pub bounds-records-o : goal.bounds-records-o
-bounds-records-o c = c.requires.by_index c.loop-i.i c.loop-i-test.true
-
-pub overflow_add-cell : goal.overflow_add-cell
-overflow_add-cell c =
-    record { fits = omega (arith, c.requires.can_send.cells, c.requires.can_send.stored) }
+pub loop-stands-init : goal.loop-stands-init
+unfolding records_of sources_of tag_row
+loop-stands-init c = running-start _ _ _ _ _ _ _ _ refl
 
 pub get_next_chunk-chunk-requires : goal.get_next_chunk-chunk-requires
 get_next_chunk-chunk-requires c =
-    let a = c.args in
-    let less = c.loop-i-test.true in
+    let o = c.args.order.now in
+    let m = c.args.merged.now in
+    let i = c.loop-stands.stands-index in
+    let few = c.requires.can_send.count in
+    let less : i < o.count = omega (arith, c.loop-stands-test.true, length-take-le o.count o.at (omega (arith, few))) in
     record {
-      place = c.loop-i.invariant.2.room;
+      place = c.loop-stands.invariant.room;
       width = c.requires.can_send.width;
-      room = omega (arith, c.loop-i.invariant.2.size, c.requires.can_send.inside);
-      small = omega (arith, c.loop-i.invariant.2.size, c.requires.can_send.bounded);
+      room = omega (arith, c.loop-stands.invariant.size, c.requires.can_send.inside);
+      small = omega (arith, c.loop-stands.invariant.size, c.requires.can_send.bounded);
       inside = omega (arith, c.requires.can_send.cells);
       bounded = c.requires.can_send.stored;
       sendable =
-          subst Sendable (sym (record-at a.order a.records c.loop-i.i _ (omega (arith, c.requires.can_send.count))
-          (omega (arith, c.requires.by_index c.loop-i.i less))))
-          (sendable-at a.n (records_at a.order a.records) a.from c.loop-i.i c.requires.can_send.all less);
+          subst Sendable (sym (taken-at o.count o.at m.records i _ empty_record less (omega (arith, few)) (omega (arith, c.requires.by_index i less))))
+          (sendable-at o.count (records_at o.at m.records) (places_at o.at m.from) i c.requires.can_send.all less);
     }
 
-pub overflow_add-i : goal.overflow_add-i
-overflow_add-i c =
-    record { fits = omega (arith, c.loop-i-test.true, c.requires.can_send.count) }
+pub note-requires : goal.note-requires
+note-requires c =
+    let o = c.args.order.now in
+    let few = c.requires.can_send.count in
+    running-room _ _ _ _ _ _ _ _ _ _ _ _ few (omega (arith, c.loop-stands-test.true, length-take-le o.count o.at (omega (arith, few)))) c.loop-stands.invariant
 
-pub loop-i-preserved : goal.loop-i-preserved
-loop-i-preserved c =
-    let less = c.loop-i-test.true in
-    let h = c.loop-i.invariant in (
-      h.0,
-      h.1,
-      running-step _ _ _ _ _ _ _ _ _ _ _ _ _ _ _ _ _ c.get_next_chunk-chunk.result _ _ _ _ _ _ _ c.requires.can_send.count less
-          (record-at c.args.order c.args.records c.loop-i.i _ (omega (arith, c.requires.can_send.count))
-          (omega (arith, c.requires.by_index c.loop-i.i less))) h.2
-          c.get_next_chunk-chunk.auto.block c.get_next_chunk-chunk.ensures
-          c.stayed.ensures c.stayed_from.ensures c.tag_value.ensures c.stays-left.ensures.0
-          c.tag_comes-tag_count.ensures.0 c.tag_comes-tag_count.ensures.1 refl,
-    )
+pub loop-stands-preserved : goal.loop-stands-preserved
+loop-stands-preserved c =
+    let o = c.args.order.now in
+    let m = c.args.merged.now in
+    let i = c.loop-stands.stands-index in
+    let few = c.requires.can_send.count in
+    let less : i < o.count = omega (arith, c.loop-stands-test.true, length-take-le o.count o.at (omega (arith, few))) in
+    let stands = c.requires.by_index i less in
+    running-step _ _ _ _ _ _ _ _ _ _ _ _ _ _ c.get_next_chunk-chunk.result _ _ _ less
+    (taken-at o.count o.at m.records i _ empty_record less (omega (arith, few)) (omega (arith, stands)))
+    (taken-at o.count o.at m.from i 0 0 less (omega (arith, few)) (omega (arith, stands)))
+    c.loop-stands.invariant c.get_next_chunk-chunk.auto.block c.get_next_chunk-chunk.ensures c.note.ensures refl
 
 pub returns : goal.returns
 returns c =
-    running-end _ _ _ _ _ _ _ _ _ _ _ _ _ _ _ _ _ c.requires.can_send.count c.loop-i-test.false c.loop-i.invariant.2 c.requires.can_send.inside
-    c.put_null.ensures
+    let o = c.args.order.now in
+    let few = c.requires.can_send.count in
+    running-end _ _ _ _ _ _ _ _ _ _ _ _ _ few (omega (arith, c.loop-stands-test.false, length-take-le o.count o.at (omega (arith, few))))
+    c.loop-stands.invariant c.requires.can_send.inside c.put_null.ensures

@@ -2,7 +2,6 @@
 use mathlib.Core.List.{List}
 use mathlib.Core.Path.{refl, ap, ◌∙◌}
 use Prim.Native.Nat.{ℕ, ◌+◌, ◌-◌}
-use borrow.Author.Rules.{rules}
 use lib.ListN.{replicate}
 use Rattle.bitbuffer.specs.Bits.{bits_of, written}
 use Rattle.fillbits.proofs.Laws.{wrote_nothing, wrote-fill}
@@ -13,10 +12,8 @@ returns-then-n-eq0 c = wrote_nothing _ _ _ c.if-n-eq0.true
 
 pub returns : goal.returns
 returns c =
-    let z = c in
-    let b = z in
-    let a = b.args in (
+    let a = c.args in (
       refl,
-      wrote-fill (bits_of a.buf.now) _ a.at a.n b.if-n-eq0.false
-          (z.write_zeroes.ensures ∙ ap (λ (l : List ℕ). written l (a.at + 1) (replicate (a.n - 1) 0)) b.set_bit.ensures),
+      wrote-fill (bits_of a.buf.now) _ a.at a.n c.if-n-eq0.false
+          (c.write_zeroes.ensures ∙ ap (λ (l : List ℕ). written l (a.at + 1) (replicate (a.n - 1) 0)) c.set_bit.ensures),
     )

@@ -19,4 +19,4 @@ pub returns : goal.returns
 returns c =
     let a = c.args in
     resource-written a.buf.now a.at a.words.now c.if-words-ne-HEADER_WORDS.false (said-yes c.is_resource.ensures c.if-not-is_resource.false) _
-    (c.offered-h.ensures ∙ ap offered c.resource_read-r.ensures) _ _ c.write_header.ensures
+    (c.offered.ensures ∙ ap offered c.resource_read-r.ensures) _ _ c.write_header.ensures

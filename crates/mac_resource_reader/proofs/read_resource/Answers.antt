@@ -1,40 +1,40 @@
 -- The fixed fields, the address, the elements.
-use mathlib.Core.Path.{ap, ◌∙◌}
+use Rattle.std.proofs.Common.{Option}
+use mathlib.Core.Path.{sym, ◌∙◌}
 use Prim.Native.Nat.{ℕ}
 use Rattle.bitbuffer.specs.Bits.{bits_of, field}
-use Rattle.optional.specs.declared.OptU8.{OptU8}
 use Rattle.mac_pdus.specs.declared.Address.{Address}
-use Rattle.mac_pdus.specs.declared.OptChanAlloc.{OptChanAlloc}
-use Rattle.mac_pdus.specs.declared.ResourceRead.{ResourceRead}
+use Rattle.mac_pdus.specs.declared.ChanAllocElement.{ChanAllocElement}
+use Rattle.mac_pdus.specs.declared.ResourceHeader.{ResourceHeader}
 use Rattle.mac_pdus.specs.Headers.{address_type, elements_at, resource_at}
-use Rattle.mac_pdus.proofs.ReadLaws.{address-then, elements-resume, elements_read}
+use Rattle.mac_pdus.proofs.ReadLaws.{address-run, goes-on, elements-resume}
 use Rattle.mac_resource_reader.proofs.read_resource.Goals as goal
 
 pub returns : goal.returns
 unfolding resource_at field
 returns c =
     let l = bits_of c.args.s.now in
-    let k : Address → OptU8 → OptU8 → OptChanAlloc → ℕ → ResourceRead = λ a x y z n. record {
-      r = record {
-        fill_bits = c.read_bits-fill_bits.result;
-        pos_of_grant = c.read_bits-pos_of_grant.result;
-        encryption_mode = c.read_bits-encryption_mode.result;
-        random_access_flag = c.read_bits-random_access_flag.result;
-        length_ind = c.read_bits-length_ind.result;
+    let fill = c.read-fill_bits.ensures in
+    let position = rw (fill.place.0, fill.place.1) at c.read-pos_of_grant.ensures in
+    let encryption = rw (position.place.0, position.place.1) at c.read-encryption_mode.ensures in
+    let random = rw (encryption.place.0, encryption.place.1) at c.read-random_access_flag.ensures in
+    let length = rw (random.place.0, random.place.1) at c.read-length_ind.ensures in
+    let address = rw (length.place.0, length.place.1) at c.read_address-address.ensures in
+    let elements = rw (address.place.0, c.addr_type.ensures) at c.read_elements-elements.ensures in
+    let k : Address → Option ℕ → Option ℕ → Option ChanAllocElement → ℕ → ResourceHeader × ℕ = λ a x y z n. (
+      record {
+        fill_bits = c.read-fill_bits.result;
+        pos_of_grant = c.read-pos_of_grant.result;
+        encryption_mode = c.read-encryption_mode.result;
+        random_access_flag = c.read-random_access_flag.result;
+        length_ind = c.read-length_ind.result;
         address = a;
         power_control_element = x;
         slot_granting_element = y;
         chan_alloc_element = z;
-      };
-      next = n;
-    } in
-    rw (
-      ← c.read_bits-fill_bits.ensures.0,
-      ← c.read_bits-pos_of_grant.ensures.0,
-      ← c.read_bits-encryption_mode.ensures.0,
-      ← c.read_bits-random_access_flag.ensures.0,
-      ← c.read_bits-length_ind.ensures.0,
-    )
-    (elements-resume _ l _ _ (k c.read_address-g.result.a)
-    (c.read_elements-t.ensures.0 ∙ ap (λ (n : ℕ). elements_read n l c.read_address-g.result.next) c.addr_type-code.ensures)
-    ∙ address-then l _ _ (λ a n. elements_at (address_type a) l n (k a)) c.read_address-g.ensures.0)
+      },
+      n,
+    ) in
+    rw (← fill.value.0, ← position.value.0, ← encryption.value.0, ← random.value.0, ← length.value.0)
+    (elements-resume _ l _ _ (k _) (sym elements.value)
+    ∙ goes-on (λ a n. elements_at (address_type a) l n (k a)) (sym address.value) (address-run l _ _))

@@ -1,48 +1,73 @@
 -- The fixed fields, the address, and the elements unless the address is null.
-use mathlib.Core.Path.{sym, ap, ◌∙◌}
+use mathlib.Core.Path.{sym, ◌∙◌}
 use mathlib.Core.List.{append-nil}
 use native.Mathlib.Omega.{arith}
-use lib.ListN.{length}
 use Rattle.bitbuffer.proofs.Laws.{then}
-use Rattle.bitbuffer.proofs.Pieces.{wrote-piece}
 use Rattle.mac_pdus.specs.Headers.{resource_bits}
 use Rattle.mac_pdus.proofs.LengthLaws.{resource-length, elements-none, elements-other}
+use Rattle.mac_writer.proofs.PieceLaws.{piece-size}
+use Rattle.mac_resource_writer.proofs.Sizes.{some-length}
 use Rattle.mac_resource_writer.proofs.put_resource.Goals as goal
 
-pub put_piece-a-requires : goal.put_piece-a-requires
-put_piece-a-requires c = omega (arith, resource-length c.args.r)
+pub put-next-requires : goal.put-next-requires
+put-next-requires c = omega (arith, resource-length c.args.r, piece-size _ _ c.fixed_piece.ensures)
 
-pub put_piece-b-requires : goal.put_piece-b-requires
-put_piece-b-requires c = omega (arith, resource-length c.args.r)
+pub put-next-requires-2 : goal.put-next-requires-2
+put-next-requires-2 c =
+    omega (arith, resource-length c.args.r, piece-size _ _ c.fixed_piece.ensures, piece-size _ _ c.address_piece.ensures)
 
-pub returns-then-code-eq0 : goal.returns-then-code-eq0
+pub returns-then-addr_type-eq0 : goal.returns-then-addr_type-eq0
 unfolding resource_bits
-returns-then-code-eq0 c =
+returns-then-addr_type-eq0 c =
     let r = c.args.r in
     let none = elements-none _ r.power_control_element r.slot_granting_element r.chan_alloc_element
-    (sym c.addr_type-code.ensures ∙ c.if-code-eq0.true) in
-    rw (none, append-nil) (then (wrote-piece c.fixed_piece-fixed.ensures.1
-    c.put_piece-a.ensures.1)
-    (wrote-piece c.address_piece-second.ensures.1 c.put_piece-b.ensures.1))
+    (sym c.addr_type.ensures ∙ c.if-addr_type-eq0.true) in
+    let fixed = rw c.fixed_piece.ensures at c.put-next.ensures.1 in
+    let address = rw c.address_piece.ensures at c.put-next-2.ensures.1 in
+    rw (none, append-nil) (then fixed address)
 
-pub put_elements-requires : goal.put_elements-requires
-put_elements-requires c =
-    let r = c.args.r in
-    let e = resource-length r in
-    let t = ap length (elements-other _ r.power_control_element r.slot_granting_element r.chan_alloc_element
-    (λ z. c.if-code-eq0.false (c.addr_type-code.ensures ∙ z))) in
-    record {
-      alloc_bound = omega (arith, c.requires.0);
-      alloc_bound_2 = (omega (arith, c.requires.1), c.requires.2.chan_alloc_element);
-    }
+pub put-next-requires-3 : goal.put-next-requires-3
+put-next-requires-3 c =
+    omega (
+      arith,
+      some-length c.args.r (λ z. c.if-addr_type-eq0.false (c.addr_type.ensures ∙ z)),
+      piece-size _ _ c.fixed_piece.ensures,
+      piece-size _ _ c.address_piece.ensures,
+      piece-size _ _ c.opt_piece.ensures,
+    )
+
+pub put-next-requires-4 : goal.put-next-requires-4
+put-next-requires-4 c =
+    omega (
+      arith,
+      some-length c.args.r (λ z. c.if-addr_type-eq0.false (c.addr_type.ensures ∙ z)),
+      piece-size _ _ c.fixed_piece.ensures,
+      piece-size _ _ c.address_piece.ensures,
+      piece-size _ _ c.opt_piece.ensures,
+      piece-size _ _ c.opt_piece-2.ensures,
+    )
+
+pub put-requires : goal.put-requires
+put-requires c =
+    omega (
+      arith,
+      some-length c.args.r (λ z. c.if-addr_type-eq0.false (c.addr_type.ensures ∙ z)),
+      piece-size _ _ c.fixed_piece.ensures,
+      piece-size _ _ c.address_piece.ensures,
+      piece-size _ _ c.opt_piece.ensures,
+      piece-size _ _ c.opt_piece-2.ensures,
+      piece-size _ _ c.opt_chan_alloc_piece.ensures,
+    )
 
 pub returns : goal.returns
 unfolding resource_bits
 returns c =
     let r = c.args.r in
-    let tail = elements-other _ r.power_control_element r.slot_granting_element r.chan_alloc_element
-    (λ z. c.if-code-eq0.false (c.addr_type-code.ensures ∙ z)) in
-    rw tail (then (wrote-piece c.fixed_piece-fixed.ensures.1
-    c.put_piece-a.ensures.1)
-    (then (wrote-piece c.address_piece-second.ensures.1 c.put_piece-b.ensures.1)
-    c.put_elements.ensures))
+    let some = elements-other _ r.power_control_element r.slot_granting_element r.chan_alloc_element
+    (λ z. c.if-addr_type-eq0.false (c.addr_type.ensures ∙ z)) in
+    let fixed = rw c.fixed_piece.ensures at c.put-next.ensures.1 in
+    let address = rw c.address_piece.ensures at c.put-next-2.ensures.1 in
+    let power = rw c.opt_piece.ensures at c.put-next-3.ensures.1 in
+    let grant = rw c.opt_piece-2.ensures at c.put-next-4.ensures.1 in
+    let alloc = rw c.opt_chan_alloc_piece.ensures at c.put.ensures.1 in
+    rw some (then fixed (then address (then power (then grant alloc))))

@@ -1,45 +1,30 @@
 -- The plan of the current timeslot. Assumes nothing.
-use mathlib.Core.Path.{◌≡◌}
-use Prim.Native.Nat.{◌-◌, ◌<◌, ◌≤◌}
+use mathlib.Core.Path.{◌≡◌, sym, ap, ◌∙◌, subst}
+use Prim.Native.Nat.{ℕ, ◌*◌}
 use native.Mathlib.Omega.{arith}
-use lib.ListN.{length, get_or}
-use Rattle.sizes.specs.Sizes.{timeslots, per_timeslot}
-use Rattle.tdma_time.specs.Time.{Valid}
-use Rattle.sched_core.proofs.StationLaws.{sound-time}
-use Rattle.sched_build.proofs.BuildCallLaws.{current-is, count-few, can-build, plan-now}
-use borrow.Author.Rules.{rules}
+use lib.ListN.{length, get_or, drop}
+use Rattle.sizes.specs.Sizes.{per_timeslot, cell_octets, block_width}
+use Rattle.dl_build.specs.Build.{built_from, CanBuild, BuiltIn}
+use Rattle.sched_build.proofs.BuildCallLaws.{can-build, plan-now}
 use Rattle.sched_build.proofs.build_sound.Goals as goal
-use Rattle.sched_build.proofs.build_sound.Goals.{Start}
-
-time : (s : Start) → Valid s.args.station.uplink.time
-time s = sound-time s.args.station s.requires.station_value.0
-
--- the timeslot is one of the four, and its count is no more than its places
-low : (s : Start) → s.args.station.uplink.time.t - 1 < timeslots
-low s = let v = time s in omega (arith, v.t-low, v.t-high)
-
-few : (s : Start) → get_or s.args.station.queued (s.args.station.uplink.time.t - 1) 0 ≤ per_timeslot
-few s =
-    let four : length s.args.station.queued ≡ timeslots = search rules in count-few s.args.station s.requires.station_value.0
-    (s.args.station.uplink.time.t - 1) (omega (arith, low s))
-
-pub overflow_sub-t : goal.overflow_sub-t
-overflow_sub-t c = (time (goal.at.overflow_sub-t c).Start).t-low
-
-pub bounds-queued-t : goal.bounds-queued-t
-bounds-queued-t c = let v = time (goal.at.bounds-queued-t c).Start in omega (arith, v.t-low, v.t-high)
 
 pub build_timeslot-requires : goal.build_timeslot-requires
 build_timeslot-requires c =
-    let s = (goal.at.build_timeslot-requires c).Start in
-    let a = s.args in
-    can-build a.station a.records a.store.now (a.station.uplink.time.t - 1) (current-is a.station (time s)) (low s) s.requires.station_value.1
-    s.requires.store_value (few s) _ s.requires.station_value.2
+    let a = c.args in
+    let s = a.s.station in
+    let t = c.row.result in
+    let many : get_or s.queued t 0 ≡ c.queued_now.result = ap (λ (u : ℕ). get_or s.queued u 0) c.row.ensures.0 ∙ sym c.queued_now.ensures.0 in
+    subst (λ (n : ℕ). CanBuild (length a.block.now) block_width a.store.now (per_timeslot * t) n a.records) many
+    (can-build s a.records a.store.now t c.row.ensures.0 c.row.ensures.1 c.requires.lengths.0 c.requires.sound
+    (omega (arith, many, c.queued_now.ensures.1)) _ c.requires.lengths.1)
 
 pub returns : goal.returns
 returns c =
-    let s = (goal.at.returns c).Start in
-    let a = s.args in
-    plan-now a.station a.records a.store.now (a.station.uplink.time.t - 1) (current-is a.station (time s)) (low s) s.requires.station_value.1
-    s.requires.store_value (few s) _ _ _ _ s.requires.station_value.2
-    c.build_timeslot.ensures
+    let a = c.args in
+    let s = a.s.station in
+    let t = c.row.result in
+    let many : get_or s.queued t 0 ≡ c.queued_now.result = ap (λ (u : ℕ). get_or s.queued u 0) c.row.ensures.0 ∙ sym c.queued_now.ensures.0 in
+    plan-now s a.records a.store.now t c.row.ensures.0 c.row.ensures.1 c.requires.lengths.0 c.requires.sound
+    (omega (arith, many, c.queued_now.ensures.1)) _ _ _ _ c.requires.lengths.1
+    (subst (λ (n : ℕ). BuiltIn (built_from block_width n a.records (drop (cell_octets * (per_timeslot * t)) a.store.now)) (length a.block.now) a.store.now
+    (per_timeslot * t) c.build_timeslot.result c.build_timeslot.new.store c.build_timeslot.new.block) (sym many) c.build_timeslot.ensures)

@@ -1,30 +1,8 @@
--- The state and the time are judged, then the table is read. Assumes nothing.
-use borrow.Author.Rules.{rules}
+-- The time is judged before the table is read. Assumes nothing.
 use Rattle.tdma_time.proofs.TimeLaws.{true-valid}
-use Rattle.sched_core.specs.Calls.{owner_call}
-use Rattle.questions.proofs.AskLaws.{said-no, said-yes, first-no, every-yes}
+use Rattle.questions.proofs.AskLaws.{said-yes}
+use Rattle.sched_core.proofs.QuestionLaws.{asked-yes}
 use Rattle.sched_core.proofs.ul_get_slot_owner.Goals as goal
 
-pub returns-then-not-station_is_sound : goal.returns-then-not-station_is_sound
-unfolding owner_call
-returns-then-not-station_is_sound c = first-no _ _ 0 _ tt (said-no c.station_is_sound.ensures c.if-not-station_is_sound.true)
-
-pub returns-then-not-is_valid : goal.returns-then-not-is_valid
-unfolding owner_call
-returns-then-not-is_valid c =
-    first-no _ _ 1 _ (tt, said-yes c.station_is_sound.ensures c.if-not-station_is_sound.false)
-    (said-no c.is_valid.ensures c.if-not-is_valid.true)
-
-pub ul_get_slot_owner-owner-requires : goal.ul_get_slot_owner-owner-requires
-ul_get_slot_owner-owner-requires c = true-valid _ (said-yes c.is_valid.ensures c.if-not-is_valid.false)
-
-pub returns : goal.returns
-unfolding owner_call
-returns c =
-    let k = c in
-    rw c.ul_get_slot_owner-owner.ensures
-    (every-yes _ _ _ (
-      (tt, said-yes k.station_is_sound.ensures k.if-not-station_is_sound.false),
-      said-yes
-          k.is_valid.ensures k.if-not-is_valid.false,
-    ))
+pub owner-requires : goal.owner-requires
+owner-requires c = true-valid _ (said-yes c.is_valid.ensures (asked-yes _ _ c.ask.ensures c.in_ok-ask.was))

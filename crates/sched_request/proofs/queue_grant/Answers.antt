@@ -1,5 +1,5 @@
 -- The grant joins its timeslot's queue. Assumes nothing.
-use mathlib.Core.Path.{◌≡◌, refl, ap, ◌∙◌}
+use mathlib.Core.Path.{◌≡◌, ap, ◌∙◌}
 use native.Mathlib.Omega.{arith}
 use Rattle.slot_codes.specs.Codes.{grant_octet}
 use Rattle.basic_slotgrant.specs.Slotgrant.{octet_of}
@@ -9,13 +9,9 @@ use Rattle.sched_request.proofs.queue_grant.Goals as goal
 
 pub returns : goal.returns
 unfolding grant_queued
-returns c =
-    let a = c.args in
-    let is : c.to_octet-octet.result ≡ grant_octet a.capacity a.delay =
-    c.to_octet-octet.ensures ∙ ap octet_of c.of_codes-slotgrant.ensures
-    ∙ octet-of-codes a.capacity a.delay (omega (arith, c.requires.capacity_bound.0)) (omega (arith, c.requires.capacity_bound.1)) in
-    record {
-      whole = λ rs st. rw (c.one_more-counts.ensures, c.next_place-place.ensures.0, c.grant_record-grant.ensures, is);
-      granted = refl;
-      joins = c.next_place-place.ensures.1;
-    }
+returns c s same =
+    let g = c.args.grant in
+    let is : c.from-octet.result ≡ grant_octet g.capacity g.delay =
+    c.from-octet.ensures ∙ ap octet_of c.of_codes.ensures
+    ∙ octet-of-codes g.capacity g.delay (omega (arith, c.requires.0)) (omega (arith, c.requires.1)) in
+    record { whole = λ rs st. rw (same, c.one_more.ensures, c.place.ensures.0, c.grant.ensures, is); place-in-queue = c.place.ensures.1 }

@@ -1,83 +1,76 @@
--- Its own questions in order, then the search and the grant. Assumes nothing.
-use mathlib.Core.Path.{refl, sym, subst, ◌∙◌}
+-- The search, where its own questions are answered yes. Assumes nothing.
+use Rattle.std.proofs.Common.{Ok, Err}
+use Rattle.std.proofs.lemmas.Result.{err_from_is_err_and}
+use mathlib.Core.Path.{◌≡◌, sym, ap, ◌∙◌}
+use mathlib.Core.Bool.{true}
 use mathlib.Core.List.{List}
+use Prim.Native.Nat.{ℕ}
+use lib.Dec.{leb}
 use Rattle.questions.specs.declared.Refusal.{Refusal}
-use Rattle.questions.specs.Questions.{Question}
-use Rattle.questions.proofs.AskLaws.{said-no, said-yes}
-use Rattle.reservation_requirement.proofs.RequirementLaws.{requirement-reads, requirement-unread}
+use Rattle.questions.specs.Questions.{Question, refusal_number}
+use Rattle.questions.proofs.AskLaws.{said-yes, every-yes}
+use Rattle.uplink.specs.declared.CapAnswer.{CapAnswer}
+use Rattle.uplink.specs.declared.Grant.{Grant}
+use Rattle.uplink.specs.Request.{answer}
+use Rattle.dl_record.specs.declared.Record.{Record}
+use Rattle.dl_record.specs.Questions.{legal_address}
 use Rattle.sched_core.specs.declared.Station.{Station}
-use Rattle.sched_core.specs.Questions.{queued_for, request_questions}
-use Rattle.sched_core.specs.Calls.{request_call}
-use Rattle.sched_core.proofs.QuestionLaws.{timeslot-range, room-left}
+use Rattle.sched_core.specs.Questions.{Memory, memory, legal_timeslot, has_room, queued_for, request_questions}
+use Rattle.sched_core.specs.Replies.{Numbered}
+use Rattle.sched_core.specs.Calls.{outcome, grant_queued}
+use Rattle.sched_core.proofs.GrantLaws.{answered-refused, answered-grant, grant-fits}
+use Rattle.sched_core.proofs.QuestionLaws.{asked-yes}
 use Rattle.sched_core.proofs.StationLaws.{sound-time}
-use Rattle.sched_enqueue.proofs.PlanLaws.{no-planned, yes-planned}
-use Rattle.sched_request.specs.declared.RequestPlan.{RequestPlan}
-use Rattle.sched_request.specs.RequestPlan.{RequestPlanned}
+use Rattle.sched_request.specs.RequestPlan.{request_asked}
 use Rattle.sched_request.proofs.request_plan.Goals as goal
-use Rattle.sched_request.proofs.request_plan.Goals.{Start}
 
-abbrev own : Start → Station → List Question
-own s x = request_questions (queued_for x.queued s.args.timeslot) s.args.timeslot s.args.code s.args.kind s.args.number
+-- what follows where every one is answered yes, and the requirement has its code
+module _ (s : Station) (t code kind n k : ℕ) (a : CapAnswer) (is : a ≡ answer s.uplink (record { timeslot = t; code = k; number = n }))
+    (coded : (leb code 15 ≡ true) × (k ≡ code)) (legal : legal_timeslot t ≡ true) (address : legal_address kind n ≡ true)
+    (room : has_room (queued_for s.queued t) ≡ true) (rs : List Record) (st : List ℕ) where
+  abbrev m : Memory
+  m = memory s rs st
 
-abbrev Plans : Start → RequestPlan → Type 0
-Plans s p = RequestPlanned (λ m. request_call m s.args.timeslot s.args.code s.args.kind s.args.number) s.args.station p
+  abbrev own : List Question
+  own = request_questions (queued_for s.queued t) t code kind n
 
-pub returns-then-not-timeslot_is_legal : goal.returns-then-not-timeslot_is_legal
-unfolding request_call
-returns-then-not-timeslot_is_legal c =
-    let s = (goal.at.returns-then-not-timeslot_is_legal c).Start in
-    subst (Plans s) (sym c.request_refused.ensures)
-    (λ st. no-planned c.args.station st (own s) _ c.requires 0 Refusal.Timeslot refl tt
-    (said-no c.timeslot_is_legal.ensures c.if-not-timeslot_is_legal.true))
+  refused-here : (x : Refusal) → a.reply ≡ Err x → outcome (Numbered.refused (refusal_number x)) m ≡ request_asked m t code kind n
+  unfolding request_asked
+  refused-here x e = answered-refused m t code kind n a (rw coded.1 at is) x e ∙ every-yes _ _ own ((((tt, legal), coded.0), address), room)
 
-pub returns-in_default : goal.returns-in_default
-unfolding request_call
-returns-in_default c =
-    let s = (goal.at.returns-in_default c).Start in
-    let a = said-yes c.timeslot_is_legal.ensures c.if-not-timeslot_is_legal.false in
-    subst (Plans s) (sym c.request_refused-in_default.ensures)
-    (λ st. no-planned c.args.station st (own s) _ c.requires 1 Refusal.Requirement refl (tt, a)
-    (requirement-unread c.args.code (sym c.try_from-read.ensures ∙ c.in_default.is)))
+  granted-here : (g : Grant) → a.reply ≡ Ok g
+      → grant_queued m t kind n (record { reply = Ok g; uplink = a.uplink }) (Ok g) ≡ request_asked m t code kind n
+  unfolding request_asked grant_queued
+  granted-here g e = answered-grant m t code kind n a (rw coded.1 at is) g e ∙ every-yes _ _ own ((((tt, legal), coded.0), address), room)
 
-pub returns-then-not-address_is_legal : goal.returns-then-not-address_is_legal
-unfolding request_call
-returns-then-not-address_is_legal c =
-    let s = (goal.at.returns-then-not-address_is_legal c).Start in
-    let a = said-yes c.timeslot_is_legal.ensures c.if-not-timeslot_is_legal.false in
-    let b = (requirement-reads _ _ (sym c.try_from-read.ensures ∙ c.in-Of.is)).0 in
-    subst (Plans s) (sym c.request_refused-then-not-address_is_legal.ensures)
-    (λ st. no-planned c.args.station st (own s) _ c.requires 2 Refusal.Address refl ((tt, a), b)
-    (said-no c.address_is_legal.ensures c.if-not-address_is_legal.true))
+pub ul_process_cap_req-requires-clause-valid : goal.ul_process_cap_req-requires-clause-valid
+ul_process_cap_req-requires-clause-valid c = sound-time _ c.args.s.sound
 
-pub has_room-requires : goal.has_room-requires
-has_room-requires c = timeslot-range _ (said-yes c.timeslot_is_legal.ensures c.if-not-timeslot_is_legal.false)
+pub returns-in_err-grant-clause-whole : goal.returns-in_err-grant-clause-whole
+returns-in_err-grant-clause-whole c rs st =
+    let a = c.args in
+    let legal = said-yes c.timeslot_is_legal.ensures (asked-yes _ _ c.ask.ensures c.in_ok-ask.was) in
+    let address = said-yes c.address_is_legal.ensures (asked-yes _ _ c.ask-2.ensures c.in_ok-ask-2.was) in
+    let p = err_from_is_err_and c.from_residual-in_err-grant.result c.from_residual-in_err-grant.ensures.1 in
+    rw (p.1, p.2)
+    (refused-here a.s.station a.timeslot a.code a.kind a.number _ _ c.ul_process_cap_req.ensures c.in_ok-requirement.ensures.ok legal address
+    c.in_ok-room.ensures.ok.2 rs st _ c.in_err-grant.was)
 
-pub returns-then-not-has_room : goal.returns-then-not-has_room
-unfolding request_call
-returns-then-not-has_room c =
-    let s = (goal.at.returns-then-not-has_room c).Start in
-    let a = said-yes c.timeslot_is_legal.ensures c.if-not-timeslot_is_legal.false in
-    let b = (requirement-reads _ _ (sym c.try_from-read.ensures ∙ c.in-Of.is)).0 in
-    let d = said-yes c.address_is_legal.ensures c.if-not-address_is_legal.false in
-    subst (Plans s) (sym c.request_refused-then-not-has_room.ensures)
-    (λ st. no-planned c.args.station st (own s) _ c.requires 3 Refusal.QueueFull refl (((tt, a), b), d)
-    (said-no c.has_room.ensures c.if-not-has_room.true))
+pub queue_grant-requires : goal.queue_grant-requires
+queue_grant-requires c = grant-fits _ _ _ c.ul_process_cap_req.ensures _ c.in_ok-grant.was
 
-pub request_answered-requires : goal.request_answered-requires
-request_answered-requires c =
-    let r = timeslot-range _ (said-yes c.timeslot_is_legal.ensures c.if-not-timeslot_is_legal.false) in
-    record {
-      valid = sound-time _ c.requires;
-      le_timeslot = (r.0, r.1, room-left (queued_for c.args.station.queued c.args.timeslot) (said-yes c.has_room.ensures c.if-not-has_room.false));
-    }
+pub returns-clause-whole : goal.returns-clause-whole
+returns-clause-whole c rs st =
+    let a = c.args in
+    let legal = said-yes c.timeslot_is_legal.ensures (asked-yes _ _ c.ask.ensures c.in_ok-ask.was) in
+    let address = said-yes c.address_is_legal.ensures (asked-yes _ _ c.ask-2.ensures c.in_ok-ask-2.was) in
+    let room = c.in_ok-room.ensures.ok in
+    let g = c.in_ok-grant.grant in
+    let said : CapAnswer = record { reply = Ok g; uplink = c.ul_process_cap_req.new.u } in
+    (c.queue_grant.ensures a.s.station (sym room.0)).whole rs st
+    ∙ ap (λ (t : ℕ). grant_queued (memory a.s.station rs st) t a.kind a.number said (Ok g)) room.1
+    ∙ granted-here a.s.station a.timeslot a.code a.kind a.number _ _ c.ul_process_cap_req.ensures c.in_ok-requirement.ensures.ok legal address
+    room.2 rs st _ c.in_ok-grant.was
 
-pub returns : goal.returns
-unfolding request_call
-returns c =
-    let s = (goal.at.returns c).Start in
-    let a = said-yes c.timeslot_is_legal.ensures c.if-not-timeslot_is_legal.false in
-    let coded = requirement-reads _ _ (sym c.try_from-read.ensures ∙ c.in-Of.is) in
-    let d = said-yes c.address_is_legal.ensures c.if-not-address_is_legal.false in
-    let e = said-yes c.has_room.ensures c.if-not-has_room.false in
-    λ st. yes-planned c.args.station st (own s) _ c.requires _ _ _ _ _ ((((tt, a), coded.0), d), e)
-    (rw coded.1 at (c.request_answered.ensures st))
+pub returns-clause-place : goal.returns-clause-place
+returns-clause-place c = (c.queue_grant.ensures c.args.s.station (sym c.in_ok-room.ensures.ok.0)).place-in-queue

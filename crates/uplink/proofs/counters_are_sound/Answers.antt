@@ -1,18 +1,8 @@
--- Each turn tests one more; the rest is still to be tested. Assumes nothing.
-use mathlib.Core.Path.{sym, ◌∙◌}
-use native.Mathlib.Omega.{arith}
-use Rattle.uplink.specs.UplinkEntry.{sound_counter}
-use Rattle.uplink.proofs.Everywhere.{all-turn, all_done}
+-- Each is judged by its function. Assumes nothing.
+use Rattle.std.proofs.Common.{rules, tests}
+use Rattle.std.proofs.lemmas.Iterator.{YieldsList-from_slice}
+use Rattle.std.proofs.lemmas.Iterator.Search.{all_from_yields_List}
 use Rattle.uplink.proofs.counters_are_sound.Goals as goal
 
-pub loop-k-preserved : goal.loop-k-preserved
-loop-k-preserved c =
-    let k = c in (
-      omega arith,
-      k.loop-k.invariant.1,
-      rw c.counter_is_sound-in_range.ensures
-          (sym (all-turn sound_counter k.args.next_usage_marker k.loop-k.k _ k.loop-k.in_range (omega arith)) ∙ k.loop-k.invariant.2),
-    )
-
 pub returns : goal.returns
-returns c = sym (all_done sound_counter c.args.next_usage_marker c.loop-k.k c.loop-k.in_range (omega arith)) ∙ c.loop-k.invariant.2
+returns c = all_from_yields_List _ _ _ _ c.all.ensures.ran (YieldsList-from_slice c.args.counters.now cc) (λ x b q k. search (rules, tests))

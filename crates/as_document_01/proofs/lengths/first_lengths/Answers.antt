@@ -1,5 +1,5 @@
 -- One law for each way that a record can begin. Assumes nothing.
-use mathlib.Core.Logic.{inl, inr}
+use mathlib.Core.Logic.{inl, inr, ⊎_elim}
 use mathlib.Core.Path.{refl}
 use mathlib.Core.Bool.{true}
 use Rattle.bs_frag.proofs.Laws.{begin-whole, begin-waits, begin-starts}
@@ -20,15 +20,7 @@ unfolding starts
 returns-then-room-lt32 c =
     let h = c.header_size-h in
     let a = c.args in
-    λ sdu. rw (begin-waits true a.room a.r sdu h.result h.ensures.0 c.if-n-room.false (inr (inl c.if-room-lt32.true)))
-    (record { room = refl; wrote = refl; starts = refl })
-
-pub returns-then-room-h : goal.returns-then-room-h
-unfolding starts
-returns-then-room-h c =
-    let h = c.header_size-h in
-    let a = c.args in
-    λ sdu. rw (begin-waits true a.room a.r sdu h.result h.ensures.0 c.if-n-room.false (inr (inr c.if-room-h.true)))
+    λ sdu. rw (begin-waits true a.room a.r sdu h.result h.ensures.0 c.if-n-room.false (inr (⊎_elim inl (λ p. inr p.1) c.then-room-lt32.either)))
     (record { room = refl; wrote = refl; starts = refl })
 
 pub returns : goal.returns

@@ -9,7 +9,7 @@ returns-then-is_started c =
     let a = c.args in
     λ sdu. rw (next-later true a.room a.r sdu (sym c.is_started.ensures ∙ c.if-is_started.true)) (c.later_lengths.ensures sdu)
 
-pub returns : goal.returns
-returns c =
+pub returns-else-is_started : goal.returns-else-is_started
+returns-else-is_started c =
     let a = c.args in
     λ sdu. rw (next-first true a.room a.r sdu (sym c.is_started.ensures ∙ c.if-is_started.false)) (c.first_lengths.ensures sdu)

@@ -7,11 +7,11 @@ pub returns : goal.returns
 unfolding record_read
 returns c =
     λ i. record {
-      kind = c.kind_of-kind.ensures i;
-      address_kind = c.low8-address_kind.ensures i;
+      kind = c.from_word.ensures i;
+      address_kind = c.from_word-2.ensures i;
       number = get_or c.args.words.now 2 0;
-      tag = c.opt_u16-tag.ensures i;
-      header = c.header_from-header.ensures i;
-      bits = c.low16-bits.ensures i;
-      sent = c.low16-sent.ensures i;
+      tag = c.from_word-3.ensures i;
+      header = c.header_from.ensures i;
+      bits = c.from_word-4.ensures i;
+      sent = c.from_word-5.ensures i;
     }

@@ -21,7 +21,7 @@ loop-k-preserved c =
     let f = c.args.first in
     let i = c.loop-k.k in
     let rs = take per_timeslot (drop f (records_read ws)) in
-    let read = c.record_read-r.ensures ∙ ap record_read (rest ws (record_word_count * (f + i)))
+    let read = c.record_read.ensures ∙ ap record_read (rest ws (record_word_count * (f + i)))
     ∙ sym (get_or-take per_timeslot (drop f (records_read ws)) i empty_record (omega arith) ∙ get_or-drop f (records_read ws) i empty_record
     ∙ part_at record_read record_word_count queue_places (f + i) ws empty_record (omega arith)) in (
       omega arith,

@@ -1,10 +1,12 @@
 -- The last four words. Assumes nothing.
-use Rattle.std.proofs.Common.{ℕ, List, ap, ◌∙◌}
-use lib.Seq.{sets}
+use Rattle.std.proofs.Common.{◌-◌, length, ◌∙◌, arith}
+use Rattle.sched_words.proofs.WordLaws.{copied}
 use Rattle.sched_words.proofs.StationWords.{queued-words}
 use Rattle.sched_words.proofs.station.put_queued.Goals as goal
 
 pub returns : goal.returns
 returns c =
-    c.put.ensures ∙ ap (λ (l : List ℕ). sets c.args.words.now 224 l) c.four_words-w.ensures.0
-    ∙ queued-words _ c.requires.1 c.args.queued c.four_words-w.ensures.1
+    let ws = c.args.words.now in
+    copied ws c.copy_from_slice.new.self c.args.queued 224 (length ws - 224) (c.copy_from_slice.ensures.after ∙ c.four_words.ensures.0)
+    (c.four_words.ensures.1 ∙ omega arith) (omega arith)
+    ∙ queued-words ws c.requires.1 c.args.queued c.four_words.ensures.1

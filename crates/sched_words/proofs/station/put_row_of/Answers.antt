@@ -1,10 +1,9 @@
 -- The words of the counters, of the numbers queued and of the row. Assumes nothing.
-use Rattle.std.proofs.Common.{ℕ, ◌+◌, ◌*◌, List, [], get_or, set, ap, ◌∙◌, ap₂}
-use lib.Seq.{sets}
-use Rattle.uplink.specs.Uplink.{uplink_of}
-use Rattle.uplink.specs.UplinkEntry.{Table}
-use Rattle.sched_core.specs.Station.{station_of}
-use Rattle.sched_words.specs.Words.{words_of_row, station_words, station_from}
+use Rattle.std.proofs.Common.{ℕ, ◌+◌, ◌-◌, ◌*◌, List, [], length, get_or, ap, ◌∙◌, arith, rules}
+use borrow.Rule.Slice.PartMut.{put_mid}
+use lib.Seq.{sets, length-sets}
+use Rattle.sched_words.specs.Words.{words_of_row}
+use Rattle.sched_words.proofs.WordLaws.{copied, row-size}
 use Rattle.sched_words.proofs.StationWords.{row_words}
 use Rattle.sched_words.proofs.station.put_row_of.Goals as goal
 
@@ -14,11 +13,13 @@ returns c =
     let row = c.args.row in
     let ms = c.args.s.uplink.next_usage_marker in
     let ns = c.args.s.queued in
-    c.put_row.ensures.words
-    ∙ ap (λ (l : List ℕ). sets l (4 + 54 * row) (words_of_row (get_or c.table_of-table.result row [])))
-    (c.put-2.ensures ∙ ap₂ (λ (l v : List ℕ). sets l 224 v) (c.put.ensures ∙ ap (λ (v : List ℕ). sets ws 220 v) c.four_words-a.ensures.0)
-    c.four_words-b.ensures.0)
-    ∙ row_words ws c.requires.1 row c.requires.2 (get_or c.table_of-table.result row []) c.put_row.ensures.size ms ns c.four_words-a.ensures.1
-    c.four_words-b.ensures.1
-    ∙ ap (λ (tb : Table). station_words (station_of (uplink_of (station_from ws).uplink.time (set (station_from ws).uplink.rows row (get_or tb row [])) ms) ns))
-    c.table_of-table.ensures
+    let counters = copied ws c.copy_from_slice.new.self ms 220 4 (c.copy_from_slice.ensures.after ∙ c.four_words.ensures.0) c.four_words.ensures.1
+    (omega arith) in
+    let first : List ℕ = sets ws 220 ms in
+    let counts = copied first c.copy_from_slice-2.new.self ns 224 (length first - 224) (c.copy_from_slice-2.ensures.after ∙ c.four_words-2.ensures.0)
+    (c.four_words-2.ensures.1 ∙ omega (arith, length-sets ws 220 ms)) (omega (arith, length-sets ws 220 ms)) in
+    c.put_entries.ensures
+    ∙ ap (λ (l : List ℕ). sets l (4 + 54 * row) (words_of_row (get_or c.args.s.uplink.rows row [])))
+    (ap (λ (l : List ℕ). put_mid 224 (length l - 224) l c.copy_from_slice-2.new.self) counters ∙ counts)
+    ∙ row_words ws c.requires.1 row c.requires.2 (get_or c.args.s.uplink.rows row []) (row-size _
+    (search rules)) ms ns c.four_words.ensures.1 c.four_words-2.ensures.1

@@ -10,7 +10,7 @@ pub loop-i-preserved : goal.loop-i-preserved
 loop-i-preserved c =
     let ws = c.args.words.now in
     let i = c.loop-i.i in
-    let read = c.entry_from-e.ensures ∙ ap entry_from (rest ws (3 * i)) ∙ sym (part_at entry_from 3 18 i ws empty_entry (omega arith)) in (
+    let read = c.entry_from.ensures ∙ ap entry_from (rest ws (3 * i)) ∙ sym (part_at entry_from 3 18 i ws empty_entry (omega arith)) in (
       omega arith,
       rw (c.loop-i.invariant.1, read) (filled_next empty_entry i (row_from ws) (replicate 18 empty_entry) (omega (arith, length-parts entry_from 3 18 ws))
           (omega arith)),

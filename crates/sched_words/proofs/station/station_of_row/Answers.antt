@@ -13,9 +13,8 @@ returns c =
     let ws = c.args.words.now in
     let sound = c.requires.1 in
     let row = c.args.row in
-    rw c.uplink_of-u.ensures
-    (λ i. station_of
-    (uplink_of ((c.time_from-time.ensures ∙ time-read ws sound) i)
+    λ i. station_of
+    (uplink_of ((c.time_from.ensures ∙ time-read ws sound) i)
     (replicate timeslots ((c.row_from-one.ensures ∙ ap row_from (rest ws _) ∙ row_read ws sound row c.requires.2) i))
-    ((c.four_from-counters.ensures ∙ ap four_from (rest ws 220) ∙ counters-read ws sound) i))
-    ((c.four_from-queued.ensures ∙ ap four_from (rest ws 224) ∙ counts-read ws sound) i))
+    ((c.four_from.ensures ∙ ap four_from (rest ws 220) ∙ counters-read ws sound) i))
+    ((c.four_from-2.ensures ∙ ap four_from (rest ws 224) ∙ counts-read ws sound) i)

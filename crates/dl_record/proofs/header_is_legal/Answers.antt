@@ -1,8 +1,0 @@
--- Field by field.
-use Rattle.dl_record.proofs.HeaderLaws.{fields-asked}
-use Rattle.dl_record.proofs.header_is_legal.Goals as goal
-
-pub returns : goal.returns
-returns c =
-    rw (c.absent_u16.ensures, c.opt_below.ensures, c.opt_below-2.ensures, c.opt_below-3.ensures, c.legal_opt_chan_alloc.ensures)
-    (fields-asked c.args.r)

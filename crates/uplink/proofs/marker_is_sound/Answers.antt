@@ -1,5 +1,0 @@
--- A marker is compared where there is one. Assumes nothing.
-use Rattle.uplink.proofs.marker_is_sound.Goals as goal
-
-pub returns-in-Of : goal.returns-in-Of
-returns-in-Of c = rw c.in-Of.is c.counter_is_sound.ensures
