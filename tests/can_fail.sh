@@ -32,8 +32,11 @@ cd "$work/copy"
 
 # Entries.
 passes "the sources" tests/entries.sh
-sed -i 's/^pub fn advance(.*/&\n    requires { true ≡ true }/' crates/bs_sched/src/lib.rt
+sed -i 's/^pub fn advance(.*/&\n    requires { true ≡ true }/' crates/sched_core/src/lib.rt
 refuses "an entry with a requires" 'advance has a requires' tests/entries.sh
+restore crates/sched_core/src/lib.rt
+sed -i 's/^pub use sched_core::{/&ask, /' crates/bs_sched/src/lib.rt
+refuses "a function passed on by bs_sched without a row" 'sched_core::ask is an entry and has no row' tests/entries.sh
 restore crates/bs_sched/src/lib.rt
 printf '\npub fn more() -> u8\n    ensures { result ≡ 1 }\n{\n    1\n}\n' >> crates/bs_sched/src/lib.rt
 refuses "a pub function of bs_sched without a row" 'bs_sched::more is an entry and has no row' tests/entries.sh
@@ -41,7 +44,7 @@ restore crates/bs_sched/src/lib.rt
 printf '\n#[unsafe(no_mangle)]\npub extern "C" fn more() -> u8\n    ensures { result ≡ 1 }\n{\n    1\n}\n' >> crates/slotrun_c/src/lib.rt
 refuses "an export without a row" 'slotrun_c::more is an entry and has no row' tests/entries.sh
 restore crates/slotrun_c/src/lib.rt
-sed -i 's/^| `ul_get_usage` | `bs_sched`.*/&\n| `empty_record` | `bs_sched` | none |/' docs/ARCHITECTURE.md
+sed -i 's/^| `ul_get_usage` | `sched_core`.*/&\n| `empty_record` | `bs_sched` | none |/' docs/ARCHITECTURE.md
 refuses "a row without an entry" 'bs_sched::empty_record has a row' tests/entries.sh
 restore docs/ARCHITECTURE.md
 printf '\npub fn silent() -> u8 {\n    1\n}\n' >> crates/ul_search/src/lib.rt

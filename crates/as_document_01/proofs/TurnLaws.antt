@@ -1,5 +1,5 @@
 -- Document 01's sending, turn by turn, by what is known of each turn's lengths. Assumes nothing.
-use mathlib.Core.Path.{◌≡◌, refl, sym, ap, ◌∙◌}
+use mathlib.Core.Path.{◌≡◌, refl, sym, ap, subst, ◌∙◌}
 use mathlib.Core.Bool.{Bool, true, false, ◌&&◌, not}
 use mathlib.Core.List.{List, ◌∷◌}
 use Prim.Native.Nat.{ℕ, ◌+◌, ◌<◌, ◌≤◌}
@@ -12,19 +12,27 @@ use Rattle.dl_send.specs.Arrays.{listed}
 use Rattle.dl_send.specs.Document01.{turns01, starts_behind, arises}
 use Rattle.dl_send.proofs.ArrayLaws.{listed_next, listed-end}
 use Rattle.as_document_01.specs.declared.lengths.TurnLengths.{TurnLengths}
-use Rattle.as_document_01.specs.Lengths.{LengthsOf}
+use Rattle.as_document_01.specs.Lengths.{room_behind, writes, starts_fragments, LengthsOf}
+
+pub and-no : (b : Bool) → b && false ≡ false
+and-no true = refl
+and-no false = refl
+
+pub and-yes : (b : Bool) → b && true ≡ b
+and-yes true = refl
+and-yes false = refl
 
 -- the lengths of a record's turn, whatever its SDU
 abbrev pub TurnBy : ℕ → Record → TurnLengths → Type 0
-TurnBy room r t = (sdu : List ℕ) → LengthsOf (next true room r sdu) t
+TurnBy room r t = (sdu : List ℕ) → LengthsOf room (next true room r sdu) t
 
 module _ {C : Type 0} (sdu : C → ℕ → List ℕ) (may : Bool) (room : ℕ) (x : Item C) (xs : List (Item C)) (t : TurnLengths) (by : TurnBy room x.rec t) where
-  behind-found : not may && t.starts ≡ true → starts_behind may (turns01 sdu room (x ∷ xs)) ≡ true
+  behind-found : not may && starts_fragments t ≡ true → starts_behind may (turns01 sdu room (x ∷ xs)) ≡ true
   unfolding starts_behind turns01
   behind-found h = let l = by (sdu x.load x.rec.bits) in rw (← l.starts, h)
 
-  behind-next : not may && t.starts ≡ false
-      → starts_behind may (turns01 sdu room (x ∷ xs)) ≡ starts_behind (may && t.wrote) (turns01 sdu t.room xs)
+  behind-next : not may && starts_fragments t ≡ false
+      → starts_behind may (turns01 sdu room (x ∷ xs)) ≡ starts_behind (may && writes t) (turns01 sdu (room_behind room t) xs)
   unfolding starts_behind turns01
   behind-next h = let l = by (sdu x.load x.rec.bits) in rw (← l.starts, ← l.wrote, ← l.room, h)
 
@@ -43,11 +51,19 @@ module _ (w : ℕ) (rs : List Record) (n : ℕ) (may : Bool) (room i : ℕ) (so 
         → arises sdu w (listed n rs from) ≡ starts_behind may (turns01 sdu room (item r (get_or from i 0) ∷ drop (i + 1) (listed n rs from)))
     taken sdu from = so sdu from ∙ ap (λ (l : List (Item ℕ)). starts_behind may (turns01 sdu room l)) (rw at (listed_next n rs from i less))
 
-    pub behind-yes : not may && t.starts ≡ true → (sdu : ℕ → ℕ → List ℕ) (from : List ℕ) → true ≡ arises sdu w (listed n rs from)
+    pub behind-yes : not may && starts_fragments t ≡ true → (sdu : ℕ → ℕ → List ℕ) (from : List ℕ) → true ≡ arises sdu w (listed n rs from)
     behind-yes h sdu from = sym (taken sdu from ∙ behind-found sdu may room (item r (get_or from i 0)) _ t by h)
 
-    pub behind-on : not may && t.starts ≡ false → Behind w rs n (may && t.wrote) t.room (i + 1)
+    behind-on : not may && starts_fragments t ≡ false → Behind w rs n (may && writes t) (room_behind room t) (i + 1)
     behind-on h sdu from = taken sdu from ∙ behind-next sdu may room (item r (get_or from i 0)) _ t by h
+
+    -- by the turn's case
+    pub behind-turn : (u : TurnLengths) → t ≡ u → (may' : Bool) (room' : ℕ) → may && writes u ≡ may' → room_behind room u ≡ room'
+        → not may && starts_fragments u ≡ false → Behind w rs n may' room' (i + 1)
+    behind-turn u e may' room' p q h =
+        subst (λ (b : Bool). Behind w rs n b room' (i + 1)) (ap (λ (x : TurnLengths). may && writes x) e ∙ p)
+        (subst (λ (k : ℕ). Behind w rs n (may && writes t) k (i + 1)) (ap (room_behind room) e ∙ q)
+        (behind-on (ap (λ (x : TurnLengths). not may && starts_fragments x) e ∙ h)))
 
   pub behind-no : n ≤ i → (sdu : ℕ → ℕ → List ℕ) (from : List ℕ) → false ≡ arises sdu w (listed n rs from)
   unfolding starts_behind turns01

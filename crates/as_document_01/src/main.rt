@@ -4,7 +4,7 @@
 
 mod lengths;
 
-ghost use Rattle.std.specs.Prelude.{◌≡◌, List, ℕ, ◌+◌, ◌≤◌, length, take, drop};
+ghost use Rattle.std.specs.Prelude.{◌≡◌, List, ℕ, ◌≤◌};
 ghost use Rattle.sizes.specs.Sizes.{per_timeslot, block_width};
 ghost use Rattle.dl_build.specs.Document01.{arises_in};
 ghost use Rattle.sched_core.specs.Questions.{memory};
@@ -14,49 +14,42 @@ ghost use Rattle.as_document_01.specs.Lines.{arises_now, arises_at, lines_as_doc
 use dl_record::Record;
 use interpreter::command::{Command, first_command};
 use interpreter::session::Session;
-use sched_core::{SoundStation, Station};
+use sched_core::Station;
 use sizes::{BLOCK_WIDTH, PER_TIMESLOT, QUEUE_PLACES};
 use std::io;
 
-// The records of the timeslot whose first place is `first`.
-fn timeslot_records(queue: &[Record], first: usize) -> [Record; PER_TIMESLOT]
-    requires { first + per_timeslot ≤ length queue.now }
-    ensures { result ≡ take per_timeslot (drop first queue.now) }
-{
-    let mut records = [Record::EMPTY; PER_TIMESLOT];
-    records.copy_from_slice(&queue[first..first + PER_TIMESLOT]);
-    records
-}
-
 // Does the rule arise in a block of a timeslot's first `n` records?
+// Kept: the records with a count, since that is how a queue holds a timeslot's, and how `dl_build` takes them.
 fn arises_in(records: [Record; PER_TIMESLOT], n: usize) -> bool
     requires { n ≤ per_timeslot }
     ensures { (cells : List ℕ) → result ≡ arises_in block_width n records cells }
 {
     let merged = dl_build::merged_records(records, n);
     let order = dl_build::dl_take_prioritized_sched_items(&merged);
-    lengths::starts_behind(&merged.records, order, BLOCK_WIDTH)
+    lengths::starts_behind(&merged.records, order.as_slice(), BLOCK_WIDTH)
 }
 
 // Does a build of this station build a block, and does the rule arise in it?
-fn arises_now(station: Station, queue: &[Record; QUEUE_PLACES]) -> bool
-    ensures { (store : List ℕ) → result ≡ arises_now (memory station queue.now store) }
+fn arises_now(station: &Station, queue: &[Record; QUEUE_PLACES]) -> bool
+    ensures { (store : List ℕ) → result ≡ arises_now (memory station.now queue.now store) }
 {
-    let Ok(sound) = SoundStation::try_from(station) else {
-        return false;
-    };
-    if !sched_build::builds_now(sound) {
+    if !station.is_sound() {
         return false;
     }
-    let records = timeslot_records(queue, sound.first_place());
-    arises_in(records, sound.queued_now())
+    let time = station.uplink.time;
+    let row = time.row();
+    let n = station.queued[row] as usize;
+    if !sched_build::builds_at(time, n) {
+        return false;
+    }
+    arises_in(dl_queue::load_timeslot(queue, PER_TIMESLOT * row), n)
 }
 
 // Does it arise in this command?
 fn arises_at(command: Command, session: &Session) -> bool
     ensures { result ≡ arises_at command (memory_of session.now) }
 {
-    command == Command::Build && arises_now(session.station, &session.queue)
+    command == Command::Build && arises_now(&session.station, &session.queue)
 }
 
 // The commands of the input, from a first station on, before the first in which the rule arises; none where it arises nowhere.
@@ -66,6 +59,8 @@ fn lines_as_document_01(input: &[u8]) -> Option<usize>
     let mut session = Session::start();
     let mut rest = input;
     let mut count = 0;
+    // Kept: by hand, as in `Session::run`, since each command says where the next begins, and there what is left behind the last is wanted too: an
+    // iterator of commands would be a type whose contract says all that again, for these two loops.
     while let Some((command, operands)) = first_command(rest) {
         if arises_at(command, &session) {
             return Some(count);

@@ -51,10 +51,10 @@ impl TryFrom<u8> for BasicSlotgrantCapAlloc {
     ghost try_from_gives = { λ code r. r ≡ capacity_read code };
 
     fn try_from(code: u8) -> Result<Self, UnknownCode> {
-        CAPACITIES
-            .get(code as usize)
-            .copied()
-            .ok_or(UnknownCode(code))
+        if code > 15 {
+            return Err(UnknownCode(code));
+        }
+        Ok(BasicSlotgrantCapAlloc::of_code(code))
     }
 }
 

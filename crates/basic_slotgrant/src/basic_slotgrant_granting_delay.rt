@@ -13,6 +13,7 @@ pub enum BasicSlotgrantGrantingDelay {
     WaitForAnotherSlotgrantMessage,
 }
 
+// Kept: the lines of the capacities' `try_from`: an impl is each type's own, and four lines need no function of both.
 impl TryFrom<u8> for BasicSlotgrantGrantingDelay {
     type Error = UnknownCode;
 

@@ -5,7 +5,7 @@
 --   reading what was written     part-written, read-written, field_back
 --   what a write leaves alone    part-before, part-after, length-written; Writes: written-elsewhere
 --   two writes in a row          written-append and `then` (adjacent); Writes: written-disjoint (apart)
---   fields side by side          value_bits-append; Octets: value_bits-join, part-split; Pieces: cons
+--   fields side by side          value_bits-append; Octets: value_bits-join, part-split
 use mathlib.Core.Path.{◌≡◌, refl, sym, ap, ap₂, ◌∙◌, subst}
 use mathlib.Core.List.{List, [], ◌∷◌, ◌++◌, append_assoc}
 use Prim.Native.Nat.{ℕ, zero, suc, ◌+◌, ◌-◌, ◌*◌, ◌/◌, ◌%◌, ◌^◌, ◌≤◌, ◌<◌}
@@ -17,6 +17,7 @@ use lib.Arith.{digits_lt}
 use lib.Pow.{pow_mono, shl_exact, pow_pos, shr-shr, mod-pow-add, mod-mod-pow, field as pow-field, high, low}
 use lib.ListN.{length, take, drop, get_or, set, length-append, length-set, length-take, length-drop, get_or-append}
 use lib.Seq.{get_or_at, get_or-append-add, sets, sets-eq, drop_at, take_at, take-append_seam, length-take-le, drop-set-lt, take-set-le, drop-set-add, drop-drop}
+use Rattle.lists.proofs.Every.{all_take, all_drop, all_append}
 use Rattle.bitbuffer.specs.Bits.{value_bits, bits_value, bits_of, written, part, AreBits, field, Wrote}
 
 -- ---- the bits of a number
@@ -108,20 +109,15 @@ bits-value_bits (suc w) v = (mod-lt (v / 2 ^ w) (omega arith), bits-value_bits w
 
 pub bits-append : (l m : List ℕ) → AreBits l → AreBits m → AreBits (l ++ m)
 unfolding AreBits
-bits-append [] m h k = k
-bits-append (b ∷ l) m h k = (h.0, bits-append l m h.1 k)
+bits-append l m h k = all_append (λ (b : ℕ). b < 2) l m h k
 
 pub bits-drop : (n : ℕ) (l : List ℕ) → AreBits l → AreBits (drop n l)
 unfolding AreBits
-bits-drop zero l h = h
-bits-drop (suc n) [] h = tt
-bits-drop (suc n) (b ∷ l) h = bits-drop n l h.1
+bits-drop n l h = all_drop (λ (b : ℕ). b < 2) n l h
 
 pub bits-take : (n : ℕ) (l : List ℕ) → AreBits l → AreBits (take n l)
 unfolding AreBits
-bits-take zero l h = tt
-bits-take (suc n) [] h = tt
-bits-take (suc n) (b ∷ l) h = (h.0, bits-take n l h.1)
+bits-take n l h = all_take (λ (b : ℕ). b < 2) n l h
 
 pub bits-get_or : (l : List ℕ) (i : ℕ) → AreBits l → get_or l i 0 < 2
 unfolding AreBits

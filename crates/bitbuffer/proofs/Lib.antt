@@ -1,5 +1,4 @@
 pub mod Chunks
 pub mod Laws
 pub mod Octets
-pub mod Pieces
 pub mod Writes

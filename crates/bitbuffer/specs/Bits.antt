@@ -2,6 +2,7 @@
 -- The first bit of an octet is its most significant: so the null PDU, type 00 first and code 2 in its six length bits, is "octets 00 10 hexadecimal".
 -- Assumes nothing.
 use Rattle.std.specs.Prelude.{◌≡◌, ℕ, zero, suc, ◌+◌, ◌*◌, ◌/◌, ◌%◌, ◌^◌, ◌<◌, List, [], ◌∷◌, ◌++◌, length, take, drop, set}
+use Rattle.std.specs.List.{AllByRecursion}
 
 -- the low `w` bits of `v`, most significant first ("six length bits", "address (24)")
 unfoldable pub value_bits : ℕ → ℕ → List ℕ
@@ -34,8 +35,7 @@ part l at n = take n (drop at l)
 
 -- every element is 0 or 1
 unfoldable pub AreBits : List ℕ → Type 0
-AreBits [] = Unit
-AreBits (b ∷ l) = (b < 2) × AreBits l
+AreBits = AllByRecursion (λ b. b < 2)
 
 -- reads `w` bits at `at`, and goes on with their value and the position behind them
 unfoldable pub field {ℓ} : {X : Type ℓ} → List ℕ → ℕ → ℕ → (ℕ → ℕ → X) → X
@@ -45,9 +45,3 @@ field l at w k = k (bits_value (part l at w)) (at + w)
 pub record Wrote (l : List ℕ) (at : ℕ) (m : List ℕ) (end : ℕ) (f : List ℕ) : Type 0 where
   pub ends : end ≡ at + length f
   pub bits : m ≡ written l at f
-
--- the bits `f` are the low `width` bits of `value`, which has no others
-pub record PieceOf (width value : ℕ) (f : List ℕ) : Type 0 where
-  pub bits : value_bits width value ≡ f
-  pub size : width ≡ length f
-  pub small : value < 2 ^ width

@@ -1,17 +1,19 @@
 // Fields of any width in a run of octets, most significant bit first.
 #![tactic(auto)]
 
-ghost use Rattle.std.specs.Prelude.{ℕ, List, ◌≡◌, ◌+◌, ◌*◌, ◌/◌, ◌%◌, ◌<◌, ◌≤◌, ◌^◌, length, get_or, set, replicate};
+ghost use Rattle.std.specs.Prelude.{ℕ, List, ◌≡◌, ◌+◌, ◌*◌, ◌/◌, ◌%◌, ◌<◌, ◌≤◌, ◌^◌, cond, eqb, length, get_or, set, replicate};
 ghost use Rattle.bitbuffer.specs.Bits.{value_bits, bits_value, bits_of, written, part, Wrote};
 ghost use Rattle.bitbuffer.specs.Chunks.{GivesBits};
 
-// The bit at `at`.
-pub fn bit_at(s: &[u8], at: usize) -> u8
+// Is the bit at `at` set?
+// Kept: the room behind a place is asked for in the contracts of this crate, by no type: one of octets and place would be made at each of
+// these calls and taken apart in it. `Cursor` of mac_resource_reader and `Piece` of mac_writer carry it where reading or a field goes on.
+pub fn bit_at(s: &[u8], at: usize) -> bool
     requires { at < 8 * length s.now }
-    ensures { result ≡ get_or (bits_of s.now) at 0 }
+    ensures { result ≡ eqb (get_or (bits_of s.now) at 0) 1 }
 {
     let i = at / 8;
-    (s[i] >> (7 - at % 8)) % 2
+    (s[i] >> (7 - at % 8)) % 2 == 1
 }
 
 // How many of the `left` bits from `at` on lie in the octet at `at`.
@@ -58,10 +60,10 @@ fn put_chunk(s: &mut [u8], at: usize, n: usize, v: u64)
     s[i] = with_bits(s[i], at % 8, n, v);
 }
 
-// Sets the bit at `at`, and leaves every other bit.
-pub fn set_bit(s: &mut [u8], at: usize, bit: u8)
-    requires { (at < 8 * length s.old) × (bit < 2) }
-    ensures { bits_of s.new ≡ set (bits_of s.old) at bit }
+// Writes the bit at `at`, and leaves every other bit.
+pub fn set_bit(s: &mut [u8], at: usize, bit: bool)
+    requires { at < 8 * length s.old }
+    ensures { bits_of s.new ≡ set (bits_of s.old) at (cond bit 1 0) }
 {
     put_chunk(s, at, 1, u64::from(bit));
 }
@@ -73,6 +75,7 @@ fn write_chunks<F: Fn(usize, usize) -> u64>(s: &mut [u8], at: usize, n: usize, b
     requires small { (left k v : ℕ) → left + k ≤ n → k ≤ 8 → F.post bits left k v → v < 2 ^ k }
     ensures { (f : List ℕ) → GivesBits (F.post bits) n f → bits_of s.new ≡ written (bits_of s.old) at f }
 {
+    // Kept: a `while` over what is left, since the pieces are not of one size: the first ends with its octet, and the last with the bits.
     let mut pos = at;
     let mut left = n;
     while 0 < left {
@@ -113,7 +116,8 @@ pub fn read_bits(s: &[u8], at: usize, width: usize) -> u64
     requires { (at + width ≤ 8 * length s.now) × (at + width < 2 ^ 64) × (width ≤ 64) }
     ensures { (result ≡ bits_value (part (bits_of s.now) at width)) × (result < 2 ^ width) }
 {
-    // Kept: a loop of its own, since `write_chunks` writes what its closure gives: a sum over a closure would have this one caller.
+    // Kept: a loop of its own. It has the steps of the one of `write_chunks`, which are `chunk`'s; an iterator of the pieces for both would be
+    // longer than the two: a struct, its `next` with a contract, and in each loop what was yielded so far in the place of `pos` and `left`.
     let mut sum: u64 = 0;
     let mut pos = at;
     let mut left = width;
@@ -140,7 +144,8 @@ fn octet_within(x: u8, y: u8, r: usize) -> u8
     requires { r ≤ 8 }
     ensures { result ≡ (x * 256 + y) / 2 ^ r % 256 }
 {
-    ((u16::from_be_bytes([x, y]) >> r) % 256) as u8
+    // Kept: no `u16::from_be_bytes`, under which a copy of whole octets takes twice the time (115 nanoseconds in place of 53 for 1,536 bits).
+    (((u16::from(x) * 256 + u16::from(y)) >> r) % 256) as u8
 }
 
 // Copies the bits of `src` from `from` on to `n` whole octets of `dst` from octet `at` on. One octet of `src` more is read, so that

@@ -1,6 +1,10 @@
 // What a mobile station derives from a slot granting element, as usable slots of its timeslot counted from the first at or after the block's slot.
 ghost use Rattle.std.specs.Prelude.{◌≡◌};
+ghost use Rattle.basic_slotgrant.specs.Slotgrant.{capacity_code, delay_code};
 ghost use Rattle.blockdump.specs.Grant.{part_of, granted_slots, ms_grant};
+
+use basic_slotgrant::BasicSlotgrant;
+use basic_slotgrant::basic_slotgrant_cap_alloc::BasicSlotgrantCapAlloc;
 
 // The part of its slots that a capacity grants.
 #[derive(Clone, Copy)]
@@ -8,6 +12,18 @@ pub(crate) enum Part {
     FirstHalf,
     SecondHalf,
     Whole,
+}
+
+impl From<BasicSlotgrantCapAlloc> for Part {
+    ghost from_gives = { λ capacity part. part ≡ part_of (capacity_code capacity) };
+
+    fn from(capacity: BasicSlotgrantCapAlloc) -> Part {
+        match capacity {
+            BasicSlotgrantCapAlloc::FirstSubslotGranted => Part::FirstHalf,
+            BasicSlotgrantCapAlloc::SecondSubslotGranted => Part::SecondHalf,
+            _ => Part::Whole,
+        }
+    }
 }
 
 // The usable slots of a grant, from the first to the last.
@@ -26,39 +42,31 @@ pub(crate) struct MsGrant {
     pub(crate) slots: Option<UsableSlots>,
 }
 
-fn part_of(capacity: u8) -> Part
-    ensures { result ≡ part_of capacity }
+// The usable slots of a grant that has some.
+fn granted_slots(grant: BasicSlotgrant) -> Option<UsableSlots>
+    ensures { result ≡ granted_slots (capacity_code grant.capacity_allocation) (delay_code grant.granting_delay) }
 {
-    match capacity {
-        0 => Part::FirstHalf,
-        15 => Part::SecondHalf,
-        _ => Part::Whole,
-    }
-}
-
-fn granted_slots(capacity: u8, delay: u8) -> Option<UsableSlots>
-    ensures { result ≡ granted_slots capacity delay }
-{
-    let passed = delay as usize;
+    let passed = u8::from(grant.granting_delay) as usize;
     if sizes::LATEST_DELAY < passed {
         return None;
     }
     Some(UsableSlots {
         first: passed + 1,
-        last: passed + slot_codes::slots_granted(capacity),
+        last: passed + grant.capacity_allocation.to_req_slotcount(),
     })
 }
 
 // The grant of a slot granting element.
-pub(crate) fn ms_grant(octet: u8) -> MsGrant
-    ensures { result ≡ ms_grant octet }
-{
-    let capacity = octet / 16;
-    let delay = octet % 16;
-    MsGrant {
-        part: part_of(capacity),
-        count: slot_codes::slots_granted(capacity),
-        delay,
-        slots: granted_slots(capacity, delay),
+impl From<u8> for MsGrant {
+    ghost from_gives = { λ octet g. g ≡ ms_grant octet };
+
+    fn from(octet: u8) -> MsGrant {
+        let grant = BasicSlotgrant::from(octet);
+        MsGrant {
+            part: grant.capacity_allocation.into(),
+            count: grant.capacity_allocation.to_req_slotcount(),
+            delay: grant.granting_delay.into(),
+            slots: granted_slots(grant),
+        }
     }
 }

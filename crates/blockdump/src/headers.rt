@@ -1,185 +1,192 @@
 // Headers in words, by the names that EN 300 392-2 gives their fields (clauses 21.4.3 and 21.5). An element that is absent is left out.
-use crate::grant;
 use crate::grant::{MsGrant, Part, UsableSlots};
 use mac_pdus::{Address, ChanAllocElement, MacEndDl, PduHeader, ResourceHeader};
 use mac_reader::PlacedHeader;
-use std::io;
+use std::fmt;
 
 // One more line of a header.
-fn line(rt: &impl Print) -> io::Result<()> {
-    print!(rt; "\n           ")
-}
+const LINE: &str = "\n           ";
+
+// A value of another crate, which says nothing of printing.
+#[derive(Clone, Copy)]
+pub(crate) struct InWords<T>(pub(crate) T);
 
 // "Code 63 starts a fragment."
-fn length_indication(rt: &impl Print, code: u8) -> io::Result<()> {
-    print!(rt; ", length indication {code}")?;
-    if code == 63 {
-        print!(rt; " (starts a fragment)")
-    } else {
-        print!(rt; " octets")
+#[derive(Clone, Copy)]
+struct LengthIndication(u8);
+
+impl fmt::Display for LengthIndication {
+    fn fmt<W: fmt::Write>(&self, f: &mut fmt::Formatter<W>) -> fmt::Result {
+        let code = self.0;
+        let meaning = if code == 63 {
+            "(starts a fragment)"
+        } else {
+            "octets"
+        };
+        write!(f, "length indication {code} {meaning}")
     }
 }
 
 // ---- addresses
 
-fn address(rt: &impl Print, a: Address) -> io::Result<()> {
-    print!(rt; "address type ")?;
-    match a {
-        Address::Null => print!(rt; "null PDU"),
-        Address::Ssi(n) => print!(rt; "SSI: SSI {n} (0x{n:06x})"),
-        Address::EventLabel(e) => print!(rt; "event label: event label {e}"),
-        Address::Ussi(n) => print!(rt; "USSI: USSI {n} (0x{n:06x})"),
-        Address::Smi(n) => print!(rt; "SMI: SMI {n} (0x{n:06x})"),
-        Address::SsiEventLabel(n, e) => print!(rt;
-            "SSI + event label: SSI {n} (0x{n:06x}), event label {e}"
-        ),
-        Address::SsiUsageMarker(n, m) => print!(rt;
-            "SSI + usage marker: SSI {n} (0x{n:06x}), usage marker {m}"
-        ),
-        Address::SmiEventLabel(n, e) => print!(rt;
-            "SMI + event label: SMI {n} (0x{n:06x}), event label {e}"
-        ),
+impl fmt::Display for InWords<Address> {
+    fn fmt<W: fmt::Write>(&self, f: &mut fmt::Formatter<W>) -> fmt::Result {
+        match self.0 {
+            Address::Null => write!(f, "null PDU"),
+            Address::Ssi(n) => write!(f, "SSI: SSI {n} (0x{n:06x})"),
+            Address::EventLabel(e) => write!(f, "event label: event label {e}"),
+            Address::Ussi(n) => write!(f, "USSI: USSI {n} (0x{n:06x})"),
+            Address::Smi(n) => write!(f, "SMI: SMI {n} (0x{n:06x})"),
+            Address::SsiEventLabel(n, e) => {
+                write!(f, "SSI + event label: SSI {n} (0x{n:06x}), event label {e}")
+            }
+            Address::SsiUsageMarker(n, m) => {
+                write!(
+                    f,
+                    "SSI + usage marker: SSI {n} (0x{n:06x}), usage marker {m}"
+                )
+            }
+            Address::SmiEventLabel(n, e) => {
+                write!(f, "SMI + event label: SMI {n} (0x{n:06x}), event label {e}")
+            }
+        }
     }
 }
 
 // ---- elements
 
-fn power_control(rt: &impl Print, element: Option<u8>) -> io::Result<()> {
-    if let Some(x) = element {
-        line(rt)?;
-        print!(rt; "power control element {x}")?;
-    }
-    Ok(())
-}
-
 // How much is granted.
-fn capacity(rt: &impl Print, part: Part, count: usize) -> io::Result<()> {
-    match part {
-        Part::FirstHalf => print!(rt; " first half"),
-        Part::SecondHalf => print!(rt; " second half"),
-        Part::Whole if count == 1 => print!(rt; " 1 slot"),
-        Part::Whole => print!(rt; " {count} slots"),
-    }
+#[derive(Clone, Copy)]
+struct Capacity {
+    part: Part,
+    count: usize,
 }
 
-// The usable slots of a grant, or the part of one.
-fn usable_slots(rt: &impl Print, part: Part, slots: UsableSlots) -> io::Result<()> {
-    let UsableSlots { first, last } = slots;
-    match part {
-        Part::FirstHalf => print!(rt; " first half of")?,
-        Part::SecondHalf => print!(rt; " second half of")?,
-        Part::Whole => {}
-    }
-    if last <= first {
-        return print!(rt; " usable slot {first}");
-    }
-    let joint = if last - first == 1 { "and" } else { "to" };
-    print!(rt; " usable slots {first} {joint} {last}")
-}
-
-// A grant, and what a mobile station derives from it.
-fn granted(rt: &impl Print, g: MsGrant) -> io::Result<()> {
-    print!(rt; "grant")?;
-    capacity(rt, g.part, g.count)?;
-    match g.slots {
-        Some(slots) => {
-            print!(rt; " after {}:", g.delay)?;
-            usable_slots(rt, g.part, slots)
+impl fmt::Display for Capacity {
+    fn fmt<W: fmt::Write>(&self, f: &mut fmt::Formatter<W>) -> fmt::Result {
+        let count = self.count;
+        match self.part {
+            Part::FirstHalf => write!(f, "first half"),
+            Part::SecondHalf => write!(f, "second half"),
+            Part::Whole if count == 1 => write!(f, "1 slot"),
+            Part::Whole => write!(f, "{count} slots"),
         }
-        None => print!(rt; ", delay code {}: none that this scheduler sends", g.delay),
     }
 }
 
-fn slot_granting(rt: &impl Print, element: Option<u8>) -> io::Result<()> {
-    if let Some(octet) = element {
-        line(rt)?;
-        print!(rt; "slot granting element 0x{octet:02x}: ")?;
-        granted(rt, grant::ms_grant(octet))?;
+impl fmt::Display for UsableSlots {
+    fn fmt<W: fmt::Write>(&self, f: &mut fmt::Formatter<W>) -> fmt::Result {
+        let UsableSlots { first, last } = *self;
+        if last <= first {
+            return write!(f, "usable slot {first}");
+        }
+        let joint = if last - first == 1 { "and" } else { "to" };
+        write!(f, "usable slots {first} {joint} {last}")
     }
-    Ok(())
 }
 
-fn chan_alloc(rt: &impl Print, c: ChanAllocElement) -> io::Result<()> {
-    line(rt)?;
-    print!(rt;
-        "channel allocation element: allocation type {}",
-        c.alloc_type
-    )?;
-    print!(rt;
-        ", timeslot assigned {}, up/downlink assigned {}",
-        c.ts_assigned, c.ul_dl_assigned
-    )?;
-    line(rt)?;
-    print!(rt;
-        "  CLCH permission {}, cell change flag {}",
-        c.clch_permission, c.cell_change_flag
-    )?;
-    print!(rt; ", carrier number {}", c.carrier_num)?;
-    line(rt)?;
-    print!(rt;
-        "  extended carrier numbering flag {}, monitoring pattern {}",
-        c.ext_carrier_num_flag, c.mon_pattern
-    )?;
-    if let Some(x) = c.frame18_mon_pattern {
-        print!(rt; ", frame 18 monitoring pattern {x}")?;
+// A grant, and what a mobile station derives from it: the usable slots, or the part of one.
+impl fmt::Display for MsGrant {
+    fn fmt<W: fmt::Write>(&self, f: &mut fmt::Formatter<W>) -> fmt::Result {
+        let g = *self;
+        write!(
+            f,
+            "grant {}",
+            Capacity {
+                part: g.part,
+                count: g.count
+            }
+        )?;
+        let Some(slots) = g.slots else {
+            return write!(
+                f,
+                ", delay code {}: none that this scheduler sends",
+                g.delay
+            );
+        };
+        let of = match g.part {
+            Part::FirstHalf => " first half of",
+            Part::SecondHalf => " second half of",
+            Part::Whole => "",
+        };
+        write!(f, " after {}:{of} {slots}", g.delay)
     }
-    Ok(())
 }
 
-fn channel_allocation(rt: &impl Print, element: Option<ChanAllocElement>) -> io::Result<()> {
-    match element {
-        Some(c) => chan_alloc(rt, c),
-        None => Ok(()),
+impl fmt::Display for InWords<ChanAllocElement> {
+    fn fmt<W: fmt::Write>(&self, f: &mut fmt::Formatter<W>) -> fmt::Result {
+        let c = self.0;
+        write!(
+            f,
+            "channel allocation element: allocation type {}",
+            c.alloc_type
+        )?;
+        write!(f, ", timeslot assigned {}", c.ts_assigned)?;
+        write!(f, ", up/downlink assigned {}", c.ul_dl_assigned)?;
+        write!(f, "{LINE}  CLCH permission {}", c.clch_permission)?;
+        write!(f, ", cell change flag {}", c.cell_change_flag)?;
+        write!(f, ", carrier number {}", c.carrier_num)?;
+        write!(
+            f,
+            "{LINE}  extended carrier numbering flag {}",
+            c.ext_carrier_num_flag
+        )?;
+        write!(f, ", monitoring pattern {}", c.mon_pattern)?;
+        if let Some(x) = c.frame18_mon_pattern {
+            write!(f, ", frame 18 monitoring pattern {x}")?;
+        }
+        Ok(())
     }
 }
 
 // ---- headers
 
-fn resource(rt: &impl Print, r: ResourceHeader) -> io::Result<()> {
-    print!(rt; "MAC-RESOURCE")?;
-    length_indication(rt, r.length_ind)?;
-    line(rt)?;
-    print!(rt;
-        "fill bit indication {}, position of grant {}",
-        r.fill_bits, r.pos_of_grant
-    )?;
-    print!(rt;
-        ", encryption mode {}, random access flag {}",
-        r.encryption_mode, r.random_access_flag
-    )?;
-    line(rt)?;
-    address(rt, r.address)?;
-    power_control(rt, r.power_control_element)?;
-    slot_granting(rt, r.slot_granting_element)?;
-    channel_allocation(rt, r.chan_alloc_element)
-}
-
-// A MAC-RESOURCE, or the null PDU: "in a null all but the length 0 or absent".
-fn resource_or_null(rt: &impl Print, r: ResourceHeader) -> io::Result<()> {
-    if r.address.addr_type() == 0 {
-        print!(rt; "null PDU")?;
-        length_indication(rt, r.length_ind)
-    } else {
-        resource(rt, r)
+// The null PDU: "in a null all but the length 0 or absent".
+impl fmt::Display for InWords<ResourceHeader> {
+    fn fmt<W: fmt::Write>(&self, f: &mut fmt::Formatter<W>) -> fmt::Result {
+        let r = self.0;
+        let length = LengthIndication(r.length_ind);
+        if r.address.is_null() {
+            return write!(f, "null PDU, {length}");
+        }
+        write!(f, "MAC-RESOURCE, {length}")?;
+        write!(f, "{LINE}fill bit indication {}", r.fill_bits)?;
+        write!(f, ", position of grant {}", r.pos_of_grant)?;
+        write!(f, ", encryption mode {}", r.encryption_mode)?;
+        write!(f, ", random access flag {}", r.random_access_flag)?;
+        write!(f, "{LINE}address type {}", InWords(r.address))?;
+        if let Some(x) = r.power_control_element {
+            write!(f, "{LINE}power control element {x}")?;
+        }
+        if let Some(octet) = r.slot_granting_element {
+            let grant = MsGrant::from(octet);
+            write!(f, "{LINE}slot granting element 0x{octet:02x}: {grant}")?;
+        }
+        if let Some(c) = r.chan_alloc_element {
+            write!(f, "{LINE}{}", InWords(c))?;
+        }
+        Ok(())
     }
 }
 
-fn mac_end(rt: &impl Print, e: MacEndDl) -> io::Result<()> {
-    print!(rt; "MAC-END")?;
-    length_indication(rt, e.length_ind)?;
-    print!(rt;
-        ", fill bit indication {}, position of grant {}",
-        e.fill_bits, e.pos_of_grant
-    )
+impl fmt::Display for InWords<MacEndDl> {
+    fn fmt<W: fmt::Write>(&self, f: &mut fmt::Formatter<W>) -> fmt::Result {
+        let e = self.0;
+        write!(f, "MAC-END, {}", LengthIndication(e.length_ind))?;
+        write!(f, ", fill bit indication {}", e.fill_bits)?;
+        write!(f, ", position of grant {}", e.pos_of_grant)
+    }
 }
 
 // A header behind its bit position.
-pub(crate) fn placed(rt: &impl Print, p: PlacedHeader) -> io::Result<()> {
-    print!(rt; "  bit {:3}  ", p.at)?;
-    match p.header {
-        PduHeader::Resource(r) => resource_or_null(rt, r)?,
-        PduHeader::Frag(f) => print!(rt; "MAC-FRAG, fill bit indication {}", f.fill_bits)?,
-        PduHeader::End(e) => mac_end(rt, e)?,
+impl fmt::Display for InWords<PlacedHeader> {
+    fn fmt<W: fmt::Write>(&self, f: &mut fmt::Formatter<W>) -> fmt::Result {
+        let PlacedHeader { at, header } = self.0;
+        write!(f, "  bit {at:3}  ")?;
+        match header {
+            PduHeader::Resource(r) => write!(f, "{}", InWords(r)),
+            PduHeader::Frag(x) => write!(f, "MAC-FRAG, fill bit indication {}", x.fill_bits),
+            PduHeader::End(e) => write!(f, "{}", InWords(e)),
+        }
     }
-    println!(rt)
 }

@@ -4,17 +4,9 @@
 mod grant;
 mod headers;
 
-use mac_reader::BlockHeaders;
+use crate::headers::InWords;
 use sizes::BLOCK_OCTETS;
 use std::io;
-
-// The headers of a block, with their bit positions.
-fn listed(rt: &impl Print, b: BlockHeaders) -> io::Result<()> {
-    for p in b.headers.iter().take(b.count) {
-        headers::placed(rt, *p)?;
-    }
-    Ok(())
-}
 
 // A block under its number, or why it is refused: 12, and 2 where the input ends within it.
 fn dump(rt: &impl Print, number: u64, block: &[u8]) -> io::Result<()> {
@@ -25,7 +17,10 @@ fn dump(rt: &impl Print, number: u64, block: &[u8]) -> io::Result<()> {
     match mac_reader::read_block(block) {
         Ok(b) => {
             println!(rt)?;
-            listed(rt, b)
+            for p in b.as_slice() {
+                println!(rt; "{}", InWords(*p))?;
+            }
+            Ok(())
         }
         Err(refusal) => println!(rt; ": refused, question {}", u8::from(refusal)),
     }

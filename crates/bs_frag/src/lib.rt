@@ -39,6 +39,8 @@ impl<'a> Body<'a> {
     }
 }
 
+// Kept: that a block has fewer than 2 ^ 64 bits is a clause of the four that write, as in mac_writer: a slice says no more of its length.
+
 // The fill bit of a PDU with `n` fill bits.
 #[tactic(auto, unfolding(crate::specs::NextPdu::fill_flag))]
 pub fn fill_flag(n: usize) -> u8
@@ -52,7 +54,7 @@ pub fn fill_flag(n: usize) -> u8
 pub fn header_of(r: Record, fill: u8, len: u8) -> ResourceHeader
     ensures { result ≡ header_of r fill len }
 {
-    mac_on_air::on_air(r.resource(fill, len))
+    ResourceHeader::from(r.resource(fill, len))
 }
 
 // How many bits the header of a record has.

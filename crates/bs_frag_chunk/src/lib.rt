@@ -114,8 +114,8 @@ fn get_frag_or_end_chunk(
 }
 
 // The next PDU of a record, if there is room for one. One that is not started may start fragments or not.
-// Kept: the store, the cell and the record as three parameters: a struct of them names a lifetime, so that each clause says `x.entry.store`, and
-// the two functions above take it apart again.
+// Kept: the block with its place and width, the store, the cell and the record as parameters, with one fact, `Ready`, that all three functions ask for:
+// a struct of them names a lifetime, so that each clause says `x.entry.store`, and the two functions above take it apart again.
 #[tactic(auto, unfolding(bs_frag::specs::NextPdu::next))]
 pub fn get_next_chunk(
     block: &mut [u8],

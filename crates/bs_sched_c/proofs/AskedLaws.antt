@@ -1,7 +1,6 @@
 -- The questions that an export asks first, and the words of a queue that passes them. Assumes nothing.
 use Rattle.std.proofs.Common.{Result, Ok}
 use Rattle.questions.specs.declared.Refusal.{Refusal}
-use Rattle.sched_core.specs.Replies.{reply_number, queue_reply}
 use mathlib.Core.Path.{◌≡◌, refl, sym, ap, ◌∙◌}
 use mathlib.Core.Bool.{Bool, true, false, cond}
 use mathlib.Core.List.{List, [], ◌∷◌}
@@ -16,7 +15,7 @@ use Rattle.uplink.proofs.Basics.{not-both}
 use Rattle.dl_record.specs.declared.Record.{Record}
 use Rattle.dl_queue.specs.Questions.{sound_queue}
 use Rattle.sched_core.specs.declared.Station.{Station}
-use Rattle.questions.specs.Questions.{question, asked_number}
+use Rattle.questions.specs.Questions.{question, asked_number, number_of}
 use Rattle.questions.proofs.AskLaws.{number-yes}
 use Rattle.sched_core.proofs.QuestionLaws.{memory-positive}
 use Rattle.sched_core.specs.Questions.{memory, memory_questions}
@@ -67,15 +66,15 @@ four-counts ws = go (same_words (station_words (station_read ws)) ws)
     go false = refl
 
 -- questions 1 and 2 let the call pass: the station is sound, and so are queue and store
-pub asked-told : (s : Station) (qs st : List ℕ) (lent : Bool) {a : Result (Unit {0}) Refusal} {x : Unit {0}}
-    → reply_number (queue_reply a) ≡ asked_number (memory_questions (memory s (records_from qs) st) (question lent 2 ∷ [])) → a ≡ Ok x
+pub asked-told : (s : Station) (qs st : List ℕ) (lent : Bool) {A : Type 0} {a : Result A Refusal} {x : A}
+    → number_of a ≡ asked_number (memory_questions (memory s (records_from qs) st) (question lent 2 ∷ [])) → a ≡ Ok x
     → Told s (records_from qs) st lent
-asked-told s qs st lent e passed =
+asked-told s qs st lent {A = A} e passed =
     let m = memory s (records_from qs) st in
     let own = question lent 2 ∷ [] in
     yes-told s (records_from qs) st lent
     (number-yes (memory_questions m own) (memory-positive m own (omega arith, tt))
-    (sym e ∙ ap (λ (r : Result (Unit {0}) Refusal). reply_number (queue_reply r)) passed))
+    (sym e ∙ ap (λ (r : Result A Refusal). number_of r) passed))
 
 -- ---- the words of a sound queue
 

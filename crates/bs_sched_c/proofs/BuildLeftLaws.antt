@@ -16,11 +16,11 @@ use Rattle.dl_send.specs.declared.Progress.{Progress}
 use Rattle.dl_send.specs.Arrays.{tag_row}
 use Rattle.dl_build.specs.Build.{BuiltIn}
 use Rattle.sched_core.specs.declared.Station.{Station}
-use Rattle.questions.specs.Questions.{refusal_number, ask, asked_number}
+use Rattle.questions.specs.Questions.{refusal_number, ask, asked_number, number_of}
 use Rattle.questions.proofs.AskLaws.{number-no}
 use Rattle.sched_core.specs.Station.{with_queued}
 use Rattle.sched_core.specs.Questions.{Memory, sound_station, memory_questions, build_lent}
-use Rattle.sched_core.specs.Replies.{Numbered, reply_number, queue_reply}
+use Rattle.sched_core.specs.Replies.{Numbered}
 use Rattle.sched_core.specs.Calls.{BuildOutcome, current, builds_now, built_now, build_call}
 use Rattle.sched_core.specs.Calls.{not_built as nothing}
 use Rattle.sched_core.proofs.QuestionLaws.{memory-positive}
@@ -55,12 +55,12 @@ module _ (ws qs st block : List ℕ) (size : length ws ≡ station_word_count) w
   refused-left n p = rw (ne_eqb n 0 (λ z. omega (arith, z, p)))
 
   -- a no to one of the questions
-  pub build-no : {a : Result (Unit {0}) Refusal} {x : Refusal} → a ≡ Err x
-      → reply_number (queue_reply a) ≡ asked_number (memory_questions m (build_lent block)) → no (refusal_number x) ≡ promised
+  pub build-no : {A : Type 0} {a : Result A Refusal} {x : Refusal} → a ≡ Err x
+      → number_of a ≡ asked_number (memory_questions m (build_lent block)) → no (refusal_number x) ≡ promised
   unfolding build_call
-  build-no {a} {x} told e =
+  build-no {A} {a} {x} told e =
       let same : refusal_number x ≡ asked_number (memory_questions m (build_lent block)) =
-      sym (ap (λ (r : Result (Unit {0}) Refusal). reply_number (queue_reply r)) told) ∙ e in
+      sym (ap (λ (r : Result A Refusal). number_of r) told) ∙ e in
       ap no same
       ∙ is-station ws _ no size
       (number-no (λ (i : ℕ) (o : BuildOutcome). build_words_left (not_built_struct i) ws qs st block ≡ build_words_left_by ws qs st block o) _

@@ -16,18 +16,15 @@ use Rattle.uplink.specs.declared.PhyBlockNum.{PhyBlockNum}
 use Rattle.uplink.specs.UplinkEntry.{entry_at, usage_of, usage_number, marker_of_usage, marker_or_zero}
 use Rattle.dl_record.specs.declared.Record.{Record}
 use Rattle.sched_core.specs.declared.Station.{Station}
-use Rattle.questions.specs.Questions.{Question, question, refusal_number, ask, asked_number}
+use Rattle.questions.specs.Questions.{Question, question, refusal_number, ask, asked_number, number_of}
 use Rattle.questions.proofs.AskLaws.{first-no, every-yes, yes-before, number-yes, number-no}
 use Rattle.sched_core.specs.Station.{new_station, advanced_station}
 use Rattle.sched_core.specs.Questions.{Memory, sound_station, memory_questions}
-use Rattle.sched_core.specs.Replies.{Numbered, reply_number, queue_reply}
+use Rattle.sched_core.specs.Replies.{Numbered, reply_number}
 use Rattle.sched_core.specs.Calls.{Outcome, outcome, judged, new_call, advance_call, owner_call, usage_call}
 use Rattle.sched_core.proofs.QuestionLaws.{memory-positive}
 use Rattle.sched_core.proofs.ReplyLaws.{usage-numbered}
-use Rattle.sched_enqueue.specs.declared.Joining.{Joining}
-use Rattle.sched_enqueue.specs.Plan.{SoundQueue, Joins, Refuses, joined_queued, plan_queued, plan_of}
-use Rattle.uplink.specs.declared.Uplink.{Uplink}
-use Rattle.std.specs.Prelude.{IfOk}
+use Rattle.sched_enqueue.specs.Plan.{SoundQueue, Joins, Refuses}
 use Rattle.questions.specs.declared.Refusal.{Refusal}
 use Rattle.questions.proofs.NumberLaws.{number-positive}
 use Rattle.sched_words.specs.Words.{station_word_count, record_word_count, station_words, station_from, record_words, records_from}
@@ -64,11 +61,6 @@ module _ {A : Type 0} (ws : List ℕ) (done : A) (refused : ℕ → A) where
 
 -- ---- calls on the station alone
 
--- a new station
-pub new-station : (x : TdmaTime) → valid x ≡ true → (new_call x).station ≡ new_station x
-unfolding new_call ask
-new-station x v = rw v
-
 -- an advance
 module _ (ws : List ℕ) where
   pub advance-no : sound_station (station_from ws) ≡ false → station_left 1 ws ≡ station_left_by ws (advance_call (station_from ws))
@@ -104,15 +96,6 @@ module _ (s : Station) (x : TdmaTime) where
 
 -- ---- calls that queue
 
--- what the counts alone gave, for the station of an uplink
-pub joined-uplink : (u : Uplink) (r : Result Joining Refusal) → IfOk (plan_of u r) (λ p. p.station.uplink ≡ u)
-joined-uplink u (Ok j) = refl
-joined-uplink u (Err x) = tt
-
-pub joined-plan : (s : Station) (st : List ℕ) (r : Result Joining Refusal) → plan_queued (plan_of s.uplink r) s st ≡ joined_queued r s.queued st
-joined-plan s st (Ok j) = refl
-joined-plan s st (Err x) = refl
-
 -- how such a call answers: its replies, and its refusals, as the export's
 pub record Replies (R : Type 0) : Type 0 where
   pub reply : Numbered → R
@@ -143,11 +126,11 @@ module _ {R : Type 0} (k : Replies R) (ws qs st : List ℕ) (size : length ws �
   refused-left a m' o e h = rw (sym e, ne_eqb _ _ h)
 
   -- a no to one of the first questions
-  module _ {a : Result (Unit {0}) Refusal} {x : Refusal} (no-is : a ≡ Err x) where
-    same : {n : ℕ} → reply_number (queue_reply a) ≡ n → refusal_number x ≡ n
-    same e = sym (ap (λ (r : Result (Unit {0}) Refusal). reply_number (queue_reply r)) no-is) ∙ e
+  module _ {A : Type 0} {a : Result A Refusal} {x : Refusal} (no-is : a ≡ Err x) where
+    same : {n : ℕ} → number_of a ≡ n → refusal_number x ≡ n
+    same e = sym (ap (λ (r : Result A Refusal). number_of r) no-is) ∙ e
 
-    pub exit-no : (own : List Question) (fine : Outcome) → reply_number (queue_reply a) ≡ asked_number (memory_questions m (question true 2 ∷ []))
+    pub exit-no : (own : List Question) (fine : Outcome) → number_of a ≡ asked_number (memory_questions m (question true 2 ∷ []))
         → left (k.numbered (refusal_number x)) ws qs st ≡ promised (judged m own fine)
     unfolding ask
     exit-no own fine e =
@@ -158,7 +141,7 @@ module _ {R : Type 0} (k : Replies R) (ws qs st : List ℕ) (size : length ws �
         (memory_questions m []) own (memory-positive m [] tt) (λ z. omega (arith, same e, z, number-positive x)))
 
     -- where the length of what else is lent is asked too
-    pub lent-no : (lent : Question) → 1 ≤ lent.number → reply_number (queue_reply a) ≡ asked_number (memory_questions m (lent ∷ [])) → (done : Left R)
+    pub lent-no : (lent : Question) → 1 ≤ lent.number → number_of a ≡ asked_number (memory_questions m (lent ∷ [])) → (done : Left R)
         → no (refusal_number x) ≡ ask (asks_station_words ws ∷ memory_questions m (lent ∷ [])) done no
     lent-no lent positive e done =
         ap no (same e)
@@ -167,12 +150,12 @@ module _ {R : Type 0} (k : Replies R) (ws qs st : List ℕ) (size : length ws �
         ∙ sym (yes-before done no (asks_station_words ws ∷ []) (memory_questions m (lent ∷ [])) (eq-eqb _ _ size, tt))
 
   -- and a yes to all
-  pub lent-yes : (lent : Question) → 1 ≤ lent.number → {a : Result (Unit {0}) Refusal} {x : Unit {0}} → a ≡ Ok x
-      → reply_number (queue_reply a) ≡ asked_number (memory_questions m (lent ∷ [])) → (l done : Left R) → l ≡ ask (asks_station_words ws ∷ []) done no
+  pub lent-yes : (lent : Question) → 1 ≤ lent.number → {A : Type 0} {a : Result A Refusal} {x : A} → a ≡ Ok x
+      → number_of a ≡ asked_number (memory_questions m (lent ∷ [])) → (l done : Left R) → l ≡ ask (asks_station_words ws ∷ []) done no
       → l ≡ ask (asks_station_words ws ∷ memory_questions m (lent ∷ [])) done no
-  lent-yes lent positive passed e l done h =
+  lent-yes lent positive {A = A} passed e l done h =
       let none : asked_number (memory_questions m (lent ∷ [])) ≡ 0 =
-      sym e ∙ ap (λ (r : Result (Unit {0}) Refusal). reply_number (queue_reply r)) passed in
+      sym e ∙ ap (λ (r : Result A Refusal). number_of r) passed in
       h ∙ yes-before done no (asks_station_words ws ∷ []) [] (eq-eqb _ _ size, tt)
       ∙ sym (yes-before done no (asks_station_words ws ∷ memory_questions m (lent ∷ [])) []
       (eq-eqb _ _ size, number-yes (memory_questions m (lent ∷ [])) (memory-positive m (lent ∷ []) (positive, tt)) none))

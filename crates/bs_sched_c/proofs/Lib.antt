@@ -1,4 +1,5 @@
 pub mod AskedLaws
+pub mod LentLaws
 pub mod LeftLaws
 pub mod BuildLeftLaws
 pub mod BufferLaws

@@ -194,7 +194,7 @@ enqueue_left ws qs st t rs sdu =
     let m = memory_from ws qs st in
     let r = offered_from rs in
     ask (asks_station_words ws ∷ memory_questions m (asks_record_words rs ∷ []))
-    (words_left_by reply_number ws qs st (tma_call m t r.address_kind r.number r.tag r.header r.bits sdu)) (λ i. left i ws qs st)
+    (words_left_by reply_number ws qs st (tma_call m t r.address.kind r.address.number r.tag r.header r.bits sdu)) (λ i. left i ws qs st)
 
 -- ---- a build
 

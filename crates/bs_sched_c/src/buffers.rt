@@ -1,12 +1,11 @@
 // The block reader, the header writer and fill removal, on buffers of the caller's own. Headers are words (crate header_words).
+// Kept: structs with the number of a refusal beside a value, and two of one shape: the C interface has them so.
 ghost use Rattle.std.specs.Prelude.{◌≡◌};
 ghost use Rattle.fillbits.specs.Fill.{fill_reply};
 ghost use Rattle.questions.specs.Questions.{reply};
 ghost use Rattle.bs_sched_c.specs.Buffers.{read_of, read_left, read_block_left, written_struct, HeaderWritten, fill_struct};
 
-use header_words::LIST_WORDS;
-use questions::Refusal;
-use sched_core::ask;
+use questions::{Refusal, number_of};
 
 // The block reader's answer.
 #[repr(C)]
@@ -25,7 +24,6 @@ pub struct BsSchedWritten {
 }
 
 // Fill removal's answer.
-// Kept: it has the shape of the writer's, and is another type of the C interface.
 #[repr(C)]
 #[derive(Clone, Copy)]
 pub struct BsSchedFill {
@@ -37,12 +35,9 @@ impl From<Result<u8, Refusal>> for BsSchedRead {
     ghost from_gives = { λ count x. x ≡ read_of count };
 
     fn from(count: Result<u8, Refusal>) -> BsSchedRead {
-        match count {
-            Ok(count) => BsSchedRead { refusal: 0, count },
-            Err(refusal) => BsSchedRead {
-                refusal: u8::from(refusal),
-                count: 0,
-            },
+        BsSchedRead {
+            refusal: number_of(count),
+            count: count.unwrap_or(0),
         }
     }
 }
@@ -51,15 +46,9 @@ impl From<Result<usize, Refusal>> for BsSchedWritten {
     ghost from_gives = { λ end x. x ≡ written_struct (reply end) };
 
     fn from(end: Result<usize, Refusal>) -> BsSchedWritten {
-        match end {
-            Ok(end) => BsSchedWritten {
-                refusal: 0,
-                end: end as u64,
-            },
-            Err(refusal) => BsSchedWritten {
-                refusal: u8::from(refusal),
-                end: 0,
-            },
+        BsSchedWritten {
+            refusal: number_of(end),
+            end: end.unwrap_or(0) as u64,
         }
     }
 }
@@ -68,15 +57,9 @@ impl From<Result<usize, Refusal>> for BsSchedFill {
     ghost from_gives = { λ bits x. x ≡ fill_struct (reply bits) };
 
     fn from(bits: Result<usize, Refusal>) -> BsSchedFill {
-        match bits {
-            Ok(bits) => BsSchedFill {
-                refusal: 0,
-                bits: bits as u64,
-            },
-            Err(refusal) => BsSchedFill {
-                refusal: u8::from(refusal),
-                bits: 0,
-            },
+        BsSchedFill {
+            refusal: number_of(bits),
+            bits: bits.unwrap_or(0) as u64,
         }
     }
 }
@@ -85,10 +68,10 @@ impl From<Result<usize, Refusal>> for BsSchedFill {
 fn read_block(block: &[u8], headers: &mut [u32]) -> Result<u8, Refusal>
     ensures { read_left (read_of result) headers.new ≡ read_block_left block.now headers.old }
 {
-    ask(headers.len() == LIST_WORDS, Refusal::Lengths)?;
+    let headers = headers.as_mut_array().ok_or(Refusal::Lengths)?;
     let read = mac_reader::read_block(block)?;
-    header_words::put_headers(headers, read.count, read.headers);
-    Ok(read.count as u8)
+    header_words::put_headers(headers, read.as_slice());
+    Ok(read.len() as u8)
 }
 
 // The headers of a block, each with its bit position.

@@ -1,13 +1,14 @@
 // The replies of the exported functions, and how the scheduler's replies become them.
+// Kept: structs with the number of a refusal beside its values, 0 for done, and a usage by its number: the C interface has them so.
 ghost use Rattle.std.specs.Prelude.{◌≡◌};
-ghost use Rattle.sched_core.specs.Replies.{reply_number, queue_reply, request_reply};
+ghost use Rattle.sched_core.specs.Replies.{request_reply};
 ghost use Rattle.bs_sched_c.specs.Exports.{grant_struct, not_built_struct, built_of, owners_of, usage_of_slot};
 
 use dl_send::Tags;
 use questions::Refusal;
 use sched_words::word::Field;
 use sizes::PER_TIMESLOT;
-use uplink::{AccessAssignUlUsage, Entry, Grant, PhyBlockNum};
+use uplink::{Entry, Grant, PhyBlockNum};
 
 // The grant of a request; usage_marker is 0 if there is none.
 #[repr(C)]
@@ -48,15 +49,7 @@ pub struct BsSchedUsage {
     pub usage_marker: u8,
 }
 
-// The number of a reply: 0 for done.
-pub fn number(reply: Result<(), Refusal>) -> u8
-    ensures { result ≡ reply_number (queue_reply reply) }
-{
-    match reply {
-        Ok(()) => 0,
-        Err(refusal) => u8::from(refusal),
-    }
-}
+// Kept: each struct has a match of its own, since what stands behind `Ok` and the zeros beside a refusal are other fields in each.
 
 impl From<Result<Grant, Refusal>> for BsSchedGrant {
     ghost from_gives = { λ reply x. x ≡ grant_struct (request_reply reply) };
@@ -140,19 +133,17 @@ impl From<Result<Entry, Refusal>> for BsSchedUsage {
     ghost from_gives = { λ slot x. x ≡ usage_of_slot slot };
 
     fn from(slot: Result<Entry, Refusal>) -> BsSchedUsage {
-        let (refusal, usage, usage_marker) = match slot {
-            Ok(entry) => match entry.usage() {
-                AccessAssignUlUsage::CommonOnly => (0, 0, 0),
-                AccessAssignUlUsage::CommonAndAssigned => (0, 1, 0),
-                AccessAssignUlUsage::AssignedOnly => (0, 2, 0),
-                AccessAssignUlUsage::Traffic(marker) => (0, 3, marker),
+        match slot {
+            Ok(entry) => BsSchedUsage {
+                refusal: 0,
+                usage: entry.usage().number(),
+                usage_marker: entry.usage().marker().unwrap_or(0),
             },
-            Err(refusal) => (u8::from(refusal), 0, 0),
-        };
-        BsSchedUsage {
-            refusal,
-            usage,
-            usage_marker,
+            Err(refusal) => BsSchedUsage {
+                refusal: u8::from(refusal),
+                usage: 0,
+                usage_marker: 0,
+            },
         }
     }
 }

@@ -1,4 +1,5 @@
 // The functions of libbs_sched_c.a, for callers in C and Rust (include/bs_sched.h): each is that of crate bs_sched_c, with its promise.
+// Kept: signature and promise stand twice, since no crate can call a static library's: those of bs_sched_c are what the theorems rest on.
 #![tactic(auto)]
 
 ghost use Rattle.std.specs.Prelude.{◌≡◌};

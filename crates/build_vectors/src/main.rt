@@ -4,7 +4,7 @@
 
 ghost use Rattle.std.specs.Prelude.{◌<◌};
 
-use bs_sched_c::reply::BsSchedBuilt;
+use show::Hex;
 use std::{array, io};
 
 // The lengths of the SDUs, in bits.
@@ -14,22 +14,13 @@ const LENGTHS: [u16; 12] = [0, 1, 221, 222, 223, 224, 225, 226, 476, 477, 2047, 
 const MOST_BLOCKS: usize = 200;
 
 // The words of a record with an address, a tag and so many SDU bits.
+// Kept: words by their places, and arrays lent to each call, since this is a caller as a program in C is one, over the C interface.
 fn record(number: u32, tag: u16, bits: u16) -> [u32; 23] {
     let mut r = [0u32; 23];
     r[2] = number;
     r[3] = tag as u32 + 1;
     r[21] = bits as u32;
     r
-}
-
-// A block and the tags that come back with it.
-fn line(rt: &impl Print, block: &[u8], b: BsSchedBuilt) -> io::Result<()> {
-    show::word(rt, b"B 0")?;
-    show::octets(rt, block)?;
-    for tag in b.tags.iter().take(b.tag_count as usize) {
-        show::number(rt, *tag)?;
-    }
-    show::end(rt)
 }
 
 // The records are queued, each with the same octets for its SDU, at a new station at 0/1/1/1, and sent in as many blocks as it takes.
@@ -48,7 +39,11 @@ fn send(rt: &impl Print, records: &[[u32; 23]]) -> io::Result<()> {
         if b.built == 0 {
             break;
         }
-        line(rt, &block, b)?;
+        print!(rt; "B 0 {}", Hex(&block))?;
+        for tag in b.tags.iter().take(b.tag_count as usize) {
+            print!(rt; " {tag}")?;
+        }
+        println!(rt)?;
     }
     Ok(())
 }

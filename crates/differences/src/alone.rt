@@ -2,29 +2,10 @@
 use mac_pdus::{AddressKind, ChanAllocElement, MacResource};
 use std::io;
 
-// A null PDU.
-const NULL: MacResource = MacResource {
-    fill_bits: 0,
-    pos_of_grant: 0,
-    encryption_mode: 0,
-    random_access_flag: 0,
-    length_ind: 2,
-    address_kind: None,
-    number: 0,
-    event_label: None,
-    usage_marker: None,
-    power_control_element: None,
-    slot_granting_element: None,
-    chan_alloc_element: None,
-};
-
 // The reply of the header writer, and whether its buffer is altered.
 fn written(rt: &impl Print, text: &str, h: MacResource) -> io::Result<()> {
     let mut s = [0xff; 12];
-    let number = match mac_header_writer::write_header(&mut s, 0, h) {
-        Ok(_) => 0,
-        Err(refusal) => u8::from(refusal),
-    };
+    let number = questions::number_of(mac_header_writer::write_header(&mut s, 0, h));
     let left = if s == [0xff; 12] {
         "nothing altered"
     } else {
@@ -58,7 +39,7 @@ fn addressed(kind: AddressKind) -> MacResource {
         length_ind: 9,
         address_kind: Some(kind),
         number: 1,
-        ..NULL
+        ..MacResource::NULL
     }
 }
 
@@ -94,7 +75,7 @@ pub(crate) fn run(rt: &impl Print) -> io::Result<()> {
         "R20 marker without an address written alone:",
         marked(MacResource {
             length_ind: 9,
-            ..NULL
+            ..MacResource::NULL
         }),
     )?;
     let labelled = MacResource {
@@ -102,10 +83,10 @@ pub(crate) fn run(rt: &impl Print) -> io::Result<()> {
         ..addressed(AddressKind::Ssi)
     };
     written(rt, "R20 label and marker written alone:", marked(labelled))?;
-    written(rt, "R32 null PDU written alone:", NULL)?;
+    written(rt, "R32 null PDU written alone:", MacResource::NULL)?;
     let powered = MacResource {
         power_control_element: Some(3),
-        ..NULL
+        ..MacResource::NULL
     };
     written(
         rt,

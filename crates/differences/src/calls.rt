@@ -1,8 +1,8 @@
 // Two channel allocations in one frame, and an entry with a second half and no first.
 use crate::memory::Memory;
+use crate::named::Named;
 use crate::record;
-use mac_pdus::{Address, PduHeader};
-use mac_reader::PlacedHeader;
+use mac_pdus::PduHeader;
 use std::io;
 
 // A record with a channel allocation is queued for timeslot 1; its number as SSI is given.
@@ -12,39 +12,20 @@ fn queued(rt: &impl Print, m: &mut Memory, number: u32) -> io::Result<()> {
     println!(rt; "D1 SSI {number} with channel allocation queued for timeslot 1: {n}")
 }
 
-// The address of a header.
-pub(crate) fn address(rt: &impl Print, a: Address) -> io::Result<()> {
-    match a {
-        Address::Ssi(n) => print!(rt; " SSI {n}"),
-        Address::Null => print!(rt; " null"),
-        _ => print!(rt; " another address"),
-    }
-}
-
-// A header that the reader lists, and whether it has a channel allocation.
-fn listed(rt: &impl Print, p: PlacedHeader) -> io::Result<()> {
-    print!(rt; "D1 timeslot 1, at {}:", p.at)?;
-    match p.header {
-        PduHeader::Resource(r) => {
-            address(rt, r.address)?;
-            if r.chan_alloc_element.is_some() {
-                print!(rt; " with channel allocation")?;
-            }
-        }
-        PduHeader::Frag(_) => print!(rt; " MAC-FRAG")?,
-        PduHeader::End(_) => print!(rt; " MAC-END")?,
-    }
-    println!(rt)
-}
-
-// The headers of a block.
+// The headers of a block, and which of them have a channel allocation.
 fn headers(rt: &impl Print, block: &[u8]) -> io::Result<()> {
     let Ok(b) = mac_reader::read_block(block) else {
         return println!(rt; "D1 timeslot 1, headers: 0");
     };
-    println!(rt; "D1 timeslot 1, headers: {}", b.count)?;
-    for p in b.headers.iter().take(b.count) {
-        listed(rt, *p)?;
+    println!(rt; "D1 timeslot 1, headers: {}", b.as_slice().len())?;
+    for p in b.as_slice() {
+        print!(rt; "D1 timeslot 1, at {}: {}", p.at, Named(p.header))?;
+        if let PduHeader::Resource(r) = p.header
+            && r.chan_alloc_element.is_some()
+        {
+            print!(rt; " with channel allocation")?;
+        }
+        println!(rt)?;
     }
     Ok(())
 }

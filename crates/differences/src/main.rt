@@ -6,6 +6,7 @@ mod alone;
 mod calls;
 mod lengths;
 mod memory;
+mod named;
 mod offers;
 mod reading;
 mod record;

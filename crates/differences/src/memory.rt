@@ -3,6 +3,7 @@ use bs_sched_c::reply::BsSchedBuilt;
 use std::io;
 
 // The words of a station and of its queue, and the octets of its store.
+// Kept: beside the interpreter's `Session`, since the calls of C take words, and two memories are held against one another as they stand.
 #[derive(Clone, Copy, PartialEq)]
 pub(crate) struct Memory {
     pub(crate) station: [u32; 228],

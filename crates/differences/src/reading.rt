@@ -1,13 +1,9 @@
 // Blocks that the reader takes or refuses.
-
 use std::io;
 
 // The number that the reader answers for a block.
 fn read(rt: &impl Print, text: &str, block: &[u8]) -> io::Result<()> {
-    let number = match mac_reader::read_block(block) {
-        Ok(_) => 0,
-        Err(refusal) => u8::from(refusal),
-    };
+    let number = questions::number_of(mac_reader::read_block(block).map(|_| ()));
     println!(rt; "{text} {number}")
 }
 

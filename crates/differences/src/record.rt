@@ -1,4 +1,5 @@
 // Records as words: the places of those that are not 0, and the records that several rows queue.
+// Kept: places and kinds by number, since the rows are about the C interface, whose callers write words of any content.
 
 pub(crate) type RecordWords = [u32; 23];
 

@@ -1,14 +1,12 @@
 // Which records start fragments, go on or wait: the PDUs of a block, and what it leaves in the queue.
 ghost use Rattle.std.specs.Prelude.{◌≤◌, length};
 
-use crate::calls;
 use crate::memory::Memory;
+use crate::named::Named;
 use crate::record::{
     self, KIND, NUMBER, POWER_CONTROL, RECORD, RecordWords, SENT, SLOT_GRANTING, STARTED,
     USAGE_MARKER, WAITING,
 };
-use mac_pdus::PduHeader;
-use mac_reader::PlacedHeader;
 use std::io;
 
 // A record with power control, 4 bits more, and a channel allocation.
@@ -25,22 +23,11 @@ fn granted(mut w: RecordWords) -> RecordWords {
     w
 }
 
-// The header of a PDU and where it stands.
-fn listed(rt: &impl Print, p: PlacedHeader) -> io::Result<()> {
-    print!(rt; " at {}", p.at)?;
-    match p.header {
-        PduHeader::Resource(r) => calls::address(rt, r.address)?,
-        PduHeader::Frag(_) => print!(rt; " MAC-FRAG")?,
-        PduHeader::End(_) => print!(rt; " MAC-END")?,
-    }
-    print!(rt; ";")
-}
-
-// The headers of a block.
+// The headers of a block and where they stand.
 fn headers(rt: &impl Print, block: &[u8]) -> io::Result<()> {
     if let Ok(b) = mac_reader::read_block(block) {
-        for p in b.headers.iter().take(b.count) {
-            listed(rt, *p)?;
+        for p in b.as_slice() {
+            print!(rt; " at {} {};", p.at, Named(p.header))?;
         }
     }
     Ok(())

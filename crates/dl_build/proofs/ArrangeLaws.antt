@@ -5,14 +5,14 @@ use mathlib.Core.List.{List, [], ◌∷◌, ◌++◌}
 use Prim.Native.Nat.{ℕ, zero, suc, ◌+◌, ◌-◌, ◌*◌, ◌<◌, ◌≤◌}
 use native.Mathlib.Omega.{arith}
 use lib.Dec.{ltb}
-use lib.ListN.{length, get_or, drop, take, replicate, length-append, length-drop, take-append-drop}
-use lib.Seq.{take_at, take_all, take-take, take-add, drop-drop, drop-append-add, length-take-le, paste, drop-paste}
+use lib.ListN.{length, get_or, drop, take, replicate, length-append, length-drop, take-append-drop, drop_of_length-le}
+use lib.Seq.{take_at, take_all, take-take, take-add, drop-drop, take-append-add, drop-append-add, length-take-le, paste, drop-paste}
 use borrow.Author.Tests.{ltb-true, lt-ltb, le-ltb}
 use Rattle.sizes.specs.Sizes.{per_timeslot, cell_octets, timeslot_octets}
 use Rattle.dl_queue.specs.Queue.{zero_cell}
 use Rattle.dl_sdu_store.proofs.CellLaws.{paste-next, paste-same}
 use Rattle.dl_queue.proofs.SetLaws.{zero-size, one_cell}
-use Rattle.dl_build.specs.Moved.{cells_at, source_cell, arranged}
+use Rattle.dl_build.specs.Moved.{source_cell, arranged}
 
 pub length-source : (s : List ℕ) (f : ℕ) → timeslot_octets ≤ length s → length (source_cell s f) ≡ cell_octets
 unfolding source_cell
@@ -50,28 +50,39 @@ zero-take : (z : List ℕ) → z ≡ zero_cell → take cell_octets z ≡ zero_c
 zero-take z e = ap (take cell_octets) e ∙ take_all cell_octets zero_cell (omega (arith, zero-size))
 
 -- one more cell
-module _ (d : List ℕ) (first : ℕ) (s fs : List ℕ) (room : cell_octets * first + timeslot_octets ≤ length d) (size : length s ≡ timeslot_octets)
-    (all : length fs ≡ per_timeslot) (l : List ℕ) (p : ℕ) (less : p < per_timeslot)
-    (so_far : l ≡ paste d (cell_octets * first) (arranged s fs) (cell_octets * p)) where
+module _ (d s fs : List ℕ) (room : length d ≡ timeslot_octets) (size : length s ≡ timeslot_octets) (few : length fs ≤ per_timeslot)
+    (l : List ℕ) (p : ℕ) (less : p < length fs) (so_far : l ≡ paste d 0 (arranged s fs) (cell_octets * p)) where
   turn : (e : List ℕ) → take cell_octets e ≡ source_cell s (get_or fs p 0)
-      → paste l (cell_octets * first + cell_octets * p) e cell_octets ≡ paste d (cell_octets * first) (arranged s fs) (cell_octets * (p + 1))
+      → paste l (cell_octets * p) e cell_octets ≡ paste d 0 (arranged s fs) (cell_octets * (p + 1))
   turn e h =
       let whole : length (arranged s fs) ≡ cell_octets * length fs = length-arranged s fs (omega arith) in
+      let at : cell_octets * p ≡ 0 + cell_octets * p = omega arith in
       let more : cell_octets * p + cell_octets ≡ cell_octets * (p + 1) = omega arith in
-      ap (λ (m : List ℕ). paste m (cell_octets * first + cell_octets * p) e cell_octets) so_far
-      ∙ paste-next d (cell_octets * first) (arranged s fs) (cell_octets * p) e cell_octets (h ∙ sym (arranged-at s fs p (omega arith) (omega arith)))
+      ap₂ (λ (m : List ℕ) (i : ℕ). paste m i e cell_octets) so_far at
+      ∙ paste-next d 0 (arranged s fs) (cell_octets * p) e cell_octets (h ∙ sym (arranged-at s fs p (omega arith) less))
       (omega arith) (omega arith)
-      ∙ ap (paste d (cell_octets * first) (arranged s fs)) more
+      ∙ ap (paste d 0 (arranged s fs)) more
 
-  pub copy-turn : get_or fs p 0 < per_timeslot → paste l (cell_octets * first + cell_octets * p) (drop (cell_octets * get_or fs p 0) s) cell_octets ≡ paste d
-      (cell_octets * first) (arranged s fs) (cell_octets * (p + 1))
+  pub copy-turn : get_or fs p 0 < per_timeslot
+      → paste l (cell_octets * p) (drop (cell_octets * get_or fs p 0) s) cell_octets ≡ paste d 0 (arranged s fs) (cell_octets * (p + 1))
   copy-turn h = turn (drop (cell_octets * get_or fs p 0) s) (source-place s (get_or fs p 0) h)
 
   pub zero_turn : per_timeslot ≤ get_or fs p 0
-      → paste l (cell_octets * first + cell_octets * p) (replicate cell_octets 0) cell_octets
-      ≡ paste d (cell_octets * first) (arranged s fs) (cell_octets * (p + 1))
+      → paste l (cell_octets * p) (replicate cell_octets 0) cell_octets ≡ paste d 0 (arranged s fs) (cell_octets * (p + 1))
   unfolding zero_cell
   zero_turn h = turn (replicate cell_octets 0) (zero-take (replicate cell_octets 0) refl ∙ source-none s (get_or fs p 0) h)
+
+-- what is written over the front of d, where the rest is that of d
+filled : (d c : List ℕ) (k : ℕ) → drop k c ≡ drop k d → paste d 0 c k ≡ c
+filled d c k e = let z : 0 + k ≡ k = omega arith in ap (λ (l : List ℕ). take k c ++ l) (ap (λ (j : ℕ). drop j d) z ∙ sym e) ∙ take-append-drop k c
+
+-- all cells are written
+pub all-written : (d s fs : List ℕ) → length d ≡ timeslot_octets → length s ≡ timeslot_octets → length fs ≡ per_timeslot
+    → paste d 0 (arranged s fs) timeslot_octets ≡ arranged s fs
+all-written d s fs room size all =
+    let whole : length (arranged s fs) ≡ cell_octets * length fs = length-arranged s fs (omega arith) in
+    filled d (arranged s fs) timeslot_octets
+    (drop_of_length-le (arranged s fs) {i = timeslot_octets} (omega arith) ∙ sym (drop_of_length-le d {i = timeslot_octets} (omega arith)))
 
 -- ---- in place: what stands behind the cells written is still that of the store
 
@@ -103,62 +114,57 @@ paste-rest d at s n k h hd hs e =
     paste-kept d at s n j (sym (ap (take j) e ∙ part-take (drop at d) k n j (omega arith) ∙ ap (take j) (drop-drop n at d))) (omega arith) (omega arith)
     ∙ ap (paste d at s) m
 
-module _ (d : List ℕ) (first : ℕ) (fs : List ℕ) (room : cell_octets * first + timeslot_octets ≤ length d) (all : length fs ≡ per_timeslot) where
-  abbrev cells : List ℕ
-  cells = cells_at d first
+module _ (d fs : List ℕ) (room : length d ≡ timeslot_octets) (few : length fs ≤ per_timeslot) where
+  whole : length (arranged d fs) ≡ cell_octets * length fs
+  whole = length-arranged d fs (omega arith)
 
-  size : length cells ≡ timeslot_octets
-  size = length-take-le timeslot_octets (drop (cell_octets * first) d) (rw length-drop (omega arith))
-
-  whole : length (arranged cells fs) ≡ timeslot_octets
-  whole = let h = length-arranged cells fs (omega (arith, size)) in omega (arith, h)
-
-  -- the octets of some of the cells, in the store
-  cells-part : (i k : ℕ) → i + k ≤ timeslot_octets → take k (drop i cells) ≡ take k (drop (cell_octets * first + i) d)
-  cells-part i k h = part-take (drop (cell_octets * first) d) timeslot_octets i k h ∙ ap (take k) (drop-drop i (cell_octets * first) d)
-
-  module _ (l : List ℕ) (p : ℕ) (less : p < per_timeslot) (so_far : l ≡ paste d (cell_octets * first) (arranged cells fs) (cell_octets * p)) where
+  module _ (l : List ℕ) (p : ℕ) (less : p < length fs) (so_far : l ≡ paste d 0 (arranged d fs) (cell_octets * p)) where
     -- a cell that comes from this place or a later one is still there
-    ahead : (f : ℕ) → p ≤ f → f < per_timeslot → take cell_octets (drop (cell_octets * first + cell_octets * f) l) ≡ source_cell cells f
+    ahead : (f : ℕ) → p ≤ f → f < per_timeslot → take cell_octets (drop (cell_octets * f) l) ≡ source_cell d f
     ahead f h b =
-        let m : ℕ = cell_octets * first + cell_octets * p in
-        let e : m + cell_octets * (f - p) ≡ cell_octets * first + cell_octets * f = omega arith in
-        let behind : drop m l ≡ drop m d =
-        ap (drop m) so_far ∙ drop-paste d (cell_octets * first) (arranged cells fs) (cell_octets * p) (omega arith) (omega (arith, whole)) in
+        let m : ℕ = 0 + cell_octets * p in
+        let e : m + cell_octets * (f - p) ≡ cell_octets * f = omega arith in
+        let behind : drop m l ≡ drop m d = ap (drop m) so_far ∙ drop-paste d 0 (arranged d fs) (cell_octets * p) (omega arith) (omega (arith, whole)) in
         ap (take cell_octets)
         (ap (λ (j : ℕ). drop j l) (sym e) ∙ sym (drop-drop (cell_octets * (f - p)) m l) ∙ ap (drop (cell_octets * (f - p))) behind
         ∙ drop-drop (cell_octets * (f - p)) m d ∙ ap (λ (j : ℕ). drop j d) e)
-        ∙ sym (cells-part (cell_octets * f) cell_octets (omega arith)) ∙ source-place cells f b
+        ∙ source-place d f b
 
     pub move-turn : p ≤ get_or fs p 0 → get_or fs p 0 < per_timeslot
-        → paste l (cell_octets * first + cell_octets * p) (drop (cell_octets * first + cell_octets * get_or fs p 0) l) cell_octets ≡ paste d
-        (cell_octets * first) (arranged cells fs) (cell_octets * (p + 1))
-    move-turn h b = turn d first cells fs room size all l p less so_far (drop (cell_octets * first + cell_octets * get_or fs p 0) l) (ahead (get_or fs p 0) h b)
+        → paste l (cell_octets * p) (drop (cell_octets * get_or fs p 0) l) cell_octets ≡ paste d 0 (arranged d fs) (cell_octets * (p + 1))
+    move-turn h b = turn d d fs room room few l p less so_far (drop (cell_octets * get_or fs p 0) l) (ahead (get_or fs p 0) h b)
 
     pub blank_turn : per_timeslot ≤ get_or fs p 0
-        → paste l (cell_octets * first + cell_octets * p) (replicate cell_octets 0) cell_octets ≡ paste d (cell_octets * first) (arranged cells fs)
-        (cell_octets * (p + 1))
-    blank_turn h = zero_turn d first cells fs room size all l p less so_far h
+        → paste l (cell_octets * p) (replicate cell_octets 0) cell_octets ≡ paste d 0 (arranged d fs) (cell_octets * (p + 1))
+    blank_turn h = zero_turn d d fs room room few l p less so_far h
 
     -- a cell that stays is not touched
-    pub stay-turn : get_or fs p 0 ≡ p → l ≡ paste d (cell_octets * first) (arranged cells fs) (cell_octets * (p + 1))
+    pub stay-turn : get_or fs p 0 ≡ p → l ≡ paste d 0 (arranged d fs) (cell_octets * (p + 1))
     stay-turn e =
         let n : cell_octets * p + cell_octets ≡ cell_octets * (p + 1) = omega arith in
-        let here : take cell_octets (drop (cell_octets * first + cell_octets * p) d) ≡ take cell_octets (drop (cell_octets * p) (arranged cells fs)) =
-        sym (cells-part (cell_octets * p) cell_octets (omega arith)) ∙ source-place cells p less ∙ ap (source_cell cells) (sym e)
-        ∙ sym (arranged-at cells fs p (omega (arith, size)) (omega arith)) in
-        so_far ∙ paste-kept d (cell_octets * first) (arranged cells fs) (cell_octets * p) cell_octets here (omega arith) (omega (arith, whole))
-        ∙ ap (paste d (cell_octets * first) (arranged cells fs)) n
+        let at : 0 + cell_octets * p ≡ cell_octets * p = omega arith in
+        let here : take cell_octets (drop (0 + cell_octets * p) d) ≡ take cell_octets (drop (cell_octets * p) (arranged d fs)) =
+        ap (λ (j : ℕ). take cell_octets (drop j d)) at ∙ source-place d p (omega arith) ∙ ap (source_cell d) (sym e)
+        ∙ sym (arranged-at d fs p (omega arith) less) in
+        so_far ∙ paste-kept d 0 (arranged d fs) (cell_octets * p) cell_octets here (omega arith) (omega (arith, whole)) ∙ ap (paste d 0 (arranged d fs)) n
 
-  -- nor are those behind the first n, where they are to stay
-  pub rest-kept : (n : ℕ) → n ≤ per_timeslot → drop (cell_octets * n) (arranged cells fs) ≡ drop (cell_octets * n) cells
-      → paste d (cell_octets * first) (arranged cells fs) (cell_octets * n) ≡ paste d (cell_octets * first) (arranged cells fs) timeslot_octets
-  rest-kept n h e =
-      paste-rest d (cell_octets * first) (arranged cells fs) (cell_octets * n) timeslot_octets (omega arith) (omega arith) (omega (arith, whole)) e
+arranged-take : (s fs : List ℕ) (n : ℕ) → timeslot_octets ≤ length s
+    → take (cell_octets * n) (arranged s (take n fs)) ≡ take (cell_octets * n) (arranged s fs)
+unfolding arranged
+arranged-take s [] zero h = refl
+arranged-take s [] (suc n) h = refl
+arranged-take s (f ∷ fs) zero h = refl
+arranged-take s (f ∷ fs) (suc n) h =
+    let e : cell_octets * suc n ≡ length (source_cell s f) + cell_octets * n = rw length-source (omega arith) in
+    ap (λ (k : ℕ). take k (source_cell s f ++ arranged s (take n fs))) e ∙ take-append-add (source_cell s f) (arranged s (take n fs)) (cell_octets * n)
+    ∙ ap (◌++◌ (source_cell s f)) (arranged-take s fs n h)
+    ∙ sym (ap (λ (k : ℕ). take k (source_cell s f ++ arranged s fs)) e ∙ take-append-add (source_cell s f) (arranged s fs) (cell_octets * n))
 
--- a cell copied out and in
-pub cell-moved : (s : List ℕ) (to from : ℕ) (c s' : List ℕ) → c ≡ take cell_octets (drop from s) → s' ≡ paste s to (drop 0 c) cell_octets
-    → s' ≡ paste s to (drop from s) cell_octets
-cell-moved s to from c s' reads writes =
-    writes
-    ∙ paste-same s to c (drop from s) cell_octets (ap (take cell_octets) reads ∙ take-take cell_octets cell_octets (drop from s) (omega arith))
+-- nor are those behind the first n, where they are to stay
+pub rest-kept : (d fs : List ℕ) (n : ℕ) → length d ≡ timeslot_octets → n ≤ length fs → drop (cell_octets * n) (arranged d fs) ≡ drop (cell_octets * n) d
+    → paste d 0 (arranged d (take n fs)) (cell_octets * length (take n fs)) ≡ arranged d fs
+rest-kept d fs n room few e =
+    let size : cell_octets * length (take n fs) ≡ cell_octets * n = ap (λ (k : ℕ). cell_octets * k) (length-take-le n fs few) in
+    ap (paste d 0 (arranged d (take n fs))) size
+    ∙ paste-same d 0 (arranged d (take n fs)) (arranged d fs) (cell_octets * n) (arranged-take d fs n (omega arith))
+    ∙ filled d (arranged d fs) (cell_octets * n) e

@@ -34,7 +34,6 @@ use Rattle.dl_send.proofs.MapLaws.{SameSdu, reload_sent, send_all-map}
 use Rattle.dl_send.proofs.KeptLaws.{StoredItem, stored_loaded, left-few, left-all}
 use Rattle.dl_build.specs.Moved.{cells_at, arranged, moved}
 use Rattle.dl_build.specs.Build.{in_order, build_list, built_from, built_of, Takes, CanBuild, BuiltIn}
-use Rattle.dl_send.specs.declared.Order.{Order}
 use Rattle.dl_build.proofs.MergeMap.{cell_from, cells-map, merged-cells}
 use Rattle.dl_build.proofs.OrderLaws.{order-length, order-all, order-map}
 use Rattle.dl_build.proofs.PlaceLaws.{Sourced, counted-sourced, all-reload, all-sendable, place-sdu, no-sdu, cells-behind}
@@ -48,7 +47,7 @@ module _ {C : Type 0} (fresh : Item C → C) (join : Item C → C → C) where
   put-kept : (g : Item C) (xs : List (Item C)) → All Kept xs → All Kept (put fresh join g xs)
   unfolding put
   put-kept g [] h = (refl, tt)
-  put-kept g (x ∷ xs) h = go (takes_number g.rec.number x.rec) (put-kept g xs h.1)
+  put-kept g (x ∷ xs) h = go (takes_number g.rec.address.number x.rec) (put-kept g xs h.1)
     where
       go : (b : Bool) → All Kept (put fresh join g xs) → All Kept (cond b (item (joined g.rec x.rec) (join g x.load) ∷ xs) (x ∷ put fresh join g xs))
       go true ih = h
@@ -175,20 +174,20 @@ module _ (octets w : ℕ) (store : List ℕ) (first n : ℕ) (rs : List Record) 
       (all_both (λ (x : Item ℕ). Sendable x.rec) Sourced merged sendable sourced)))
 
   module _ (m : Merged) (merges : listed m.count m.records m.from ≡ merge_places (counted 0 n rs)) where
-    module _ (o : Order) (orders : Takes m.records m.from o.at o.count (in_order (listed m.count m.records m.from))) where
+    module _ (o : List ℕ) (orders : Takes m.records m.from o (length o) (in_order (listed m.count m.records m.from))) where
       abbrev chosen : List Record
-      chosen = records_at o.at m.records
+      chosen = records_at o m.records
 
       abbrev sources : List ℕ
-      sources = places_at o.at m.from
+      sources = places_at o m.from
 
-      listed-as : listed o.count chosen sources ≡ taken
+      listed-as : listed (length o) chosen sources ≡ taken
       listed-as = orders.items ∙ ap in_order merges
 
-      pub can-send : CanSend octets w store first chosen sources o.count
+      pub can-send : CanSend octets w store first chosen sources (length o)
       can-send =
           record {
-            count = omega (arith, sym (length-listed o.count chosen sources) ∙ ap length listed-as, taken-few);
+            count = omega (arith, sym (length-listed (length o) chosen sources) ∙ ap length listed-as, taken-few);
             width = can.width;
             inside = can.inside;
             bounded = can.bounded;
@@ -197,11 +196,11 @@ module _ (octets w : ℕ) (store : List ℕ) (first n : ℕ) (rs : List Record) 
             all = rw listed-as (all-sendable taken (order-all (λ (x : Item ℕ). Sendable x.rec) merged sendable));
           }
 
-      sent_is : sent_of store first w chosen sources o.count ≡ sent
+      sent_is : sent_of store first w chosen sources (length o) ≡ sent
       unfolding sent_of sent
       sent_is = ap (send_all (place_sdu store first) true w) listed-as
 
-      module _ (p : Progress) (b : List ℕ) (builds : BuiltAs octets b p (sent_of store first w chosen sources o.count)) where
+      module _ (p : Progress) (b : List ℕ) (builds : BuiltAs octets b p (sent_of store first w chosen sources (length o))) where
         x : Sent (List ℕ)
         x = built_from w n rs s
 

@@ -35,7 +35,7 @@ either-some false l m h k = k
 put_some : {C : Type 0} (fresh : Item C → C) (join : Item C → C → C) (g : Item C) (xs : List (Item C)) → 0 < length (put fresh join g xs)
 unfolding put
 put_some fresh join g [] = omega arith
-put_some fresh join g (x ∷ xs) = either-some (takes_number g.rec.number x.rec) _ _ (omega arith) (omega arith)
+put_some fresh join g (x ∷ xs) = either-some (takes_number g.rec.address.number x.rec) _ _ (omega arith) (omega arith)
 
 puts-some : {C : Type 0} (fresh : Item C → C) (join : Item C → C → C) (gs xs : List (Item C)) → 0 < length gs + length xs → 0 < length (puts fresh join gs xs)
 unfolding puts

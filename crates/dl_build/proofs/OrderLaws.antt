@@ -5,10 +5,8 @@ use mathlib.Core.List.{List, [], ◌∷◌, ◌++◌, append_assoc, append-nil, 
 use Prim.Native.Nat.{ℕ, zero, suc, ◌+◌, ◌<◌, ◌≤◌}
 use native.Mathlib.Numerals.{add-one, one-add}
 use native.Mathlib.Omega.{arith}
-use lib.Dec.{eqb}
-use lib.ListN.{length, get_or, set, drop, length-append}
-use lib.Seq.{get_or-drop, get_or-set_same, get_or-set_other}
-use borrow.Author.Tests.{eqb-true, eqb-false}
+use lib.ListN.{length, get_or, drop, length-append}
+use lib.Seq.{get_or-drop}
 use Rattle.lists.proofs.Every.{All, all-weaken, all_append}
 use Rattle.sizes.specs.Sizes.{per_timeslot}
 use Rattle.dl_record.specs.declared.Kind.{Kind}
@@ -59,45 +57,35 @@ only-mono p (suc i) (suc n) rs fs h = go (p (get_or rs 0 empty_record).kind) (on
 abbrev pub took : (Kind → Bool) → List (Item ℕ) → ℕ → List Record → List ℕ → List (Item ℕ)
 took p ys i rs fs = ys ++ only p (listed i rs fs)
 
--- what is written at k is not among the first k
-listed-set : (k : ℕ) (at : List ℕ) (rs : List Record) (fs : List ℕ) (i : ℕ)
-    → listed k (records_at (set at k i) rs) (places_at (set at k i) fs) ≡ listed k (records_at at rs) (places_at at fs)
+-- one more is taken: the record that stands at i
+listed-push : (rs : List Record) (fs at : List ℕ) (i : ℕ)
+    → listed (length (at ++ i ∷ [])) (records_at (at ++ i ∷ []) rs) (places_at (at ++ i ∷ []) fs)
+    ≡ listed (length at) (records_at at rs) (places_at at fs) ++ item (get_or rs i empty_record) (get_or fs i 0) ∷ []
 unfolding listed
-listed-set zero at rs fs i = refl
-listed-set (suc k) [] rs fs i = refl
-listed-set (suc k) (x ∷ at) rs fs i = ap (◌∷◌ (item (get_or rs x empty_record) (get_or fs x 0))) (listed-set k at rs fs i)
+listed-push rs fs [] i = refl
+listed-push rs fs (x ∷ at) i = ap (◌∷◌ (item (get_or rs x empty_record) (get_or fs x 0))) (listed-push rs fs at i)
 
-at-set : {A : Type 0} (k : ℕ) (at : List ℕ) (xs : List A) (i : ℕ) (d : A) → k < length at
-    → get_or (map (λ (p : ℕ). get_or xs p d) (set at k i)) k d ≡ get_or xs i d
-at-set k [] xs i d h = absurd (omega arith)
-at-set zero (x ∷ at) xs i d h = refl
-at-set (suc k) (x ∷ at) xs i d h = at-set k at xs i d (omega arith)
+within-push : (at : List ℕ) (i : ℕ) → i < per_timeslot → ((j : ℕ) → j < length at → get_or at j 0 < per_timeslot)
+    → (j : ℕ) → j < length (at ++ i ∷ []) → get_or (at ++ i ∷ []) j 0 < per_timeslot
+within-push [] i b w zero l = b
+within-push [] i b w (suc j) l = absurd (omega arith)
+within-push (x ∷ at) i b w zero l = w zero (omega arith)
+within-push (x ∷ at) i b w (suc j) l = within-push at i b (λ k m. w (suc k) (omega arith)) j (omega arith)
 
-within-set : (k : ℕ) (at : List ℕ) (i : ℕ) → k < length at → i < per_timeslot → ((j : ℕ) → j < k → get_or at j 0 < per_timeslot)
-    → (j : ℕ) → j < k + 1 → get_or (set at k i) j 0 < per_timeslot
-within-set k at i h b w j l = go (eqb j k) refl
-  where
-    go : (t : Bool) → eqb j k ≡ t → get_or (set at k i) j 0 < per_timeslot
-    go true e = let same : j ≡ k = eqb-true j k e in rw (ap (λ (q : ℕ). get_or (set at k i) q 0) same ∙ get_or-set_same at k i 0 h) b
-    go false e = let less : j < k = omega (arith, eqb-false j k e) in rw (get_or-set_other at k j i 0 (λ q. omega arith)) (w j less)
-
-module _ (rs : List Record) (fs : List ℕ) (at : List ℕ) (k : ℕ) where
+module _ (rs : List Record) (fs : List ℕ) (at : List ℕ) where
   -- another name for the list
-  takes-as : (xs ys : List (Item ℕ)) → xs ≡ ys → Takes rs fs at k xs → Takes rs fs at k ys
-  takes-as xs ys e h = record { items = h.items ∙ e; within = h.within }
+  takes-as : (k : ℕ) (xs ys : List (Item ℕ)) → xs ≡ ys → Takes rs fs at k xs → Takes rs fs at k ys
+  takes-as k xs ys e h = record { items = h.items ∙ e; within = h.within }
 
-  pub takes-size : (xs : List (Item ℕ)) → Takes rs fs at k xs → k ≡ length xs
-  takes-size xs h = sym (length-listed k (records_at at rs) (places_at at fs)) ∙ ap length h.items
+  pub takes-size : (k : ℕ) (xs : List (Item ℕ)) → Takes rs fs at k xs → k ≡ length xs
+  takes-size k xs h = sym (length-listed k (records_at at rs) (places_at at fs)) ∙ ap length h.items
 
-  -- one more: the record that stands at i
-  takes-snoc : (xs : List (Item ℕ)) (i : ℕ) (r : Record) → r ≡ get_or rs i empty_record → k < length at → i < per_timeslot → Takes rs fs at k xs
-      → Takes rs fs (set at k i) (k + 1) (xs ++ item r (get_or fs i 0) ∷ [])
-  takes-snoc xs i r is a c h =
+  takes-push : (xs : List (Item ℕ)) (i : ℕ) (r : Record) → r ≡ get_or rs i empty_record → i < per_timeslot → Takes rs fs at (length at) xs
+      → Takes rs fs (at ++ i ∷ []) (length (at ++ i ∷ [])) (xs ++ item r (get_or fs i 0) ∷ [])
+  takes-push xs i r is c h =
       record {
-        items =
-            listed_more k (records_at (set at k i) rs) (places_at (set at k i) fs) r (is ∙ sym (at-set k at rs i empty_record a))
-            ∙ ap₂ (λ (l : List (Item ℕ)) (g : ℕ). l ++ item r g ∷ []) (listed-set k at rs fs i ∙ h.items) (at-set k at fs i 0 a);
-        within = within-set k at i a c h.within;
+        items = listed-push rs fs at i ∙ ap₂ (λ (l : List (Item ℕ)) (q : Record). l ++ item q (get_or fs i 0) ∷ []) h.items (sym is);
+        within = within-push at i c h.within;
       }
 
 -- none is taken yet
@@ -133,15 +121,14 @@ module _ (p : Kind → Bool) (rs : List Record) (fs : List ℕ) (i : ℕ) (r : R
   pub count-room : (n : ℕ) → i < n → p r.kind ≡ true → length (only p (listed i rs fs)) < length (only p (listed n rs fs))
   count-room n h e = omega (arith, count-pass e, only-mono p (i + 1) n rs fs (omega arith))
 
-  module _ (ys : List (Item ℕ)) (at : List ℕ) (k : ℕ) (h : Takes rs fs at k (took p ys i rs fs)) where
-    pub took-pass : k < length at → i < per_timeslot → p r.kind ≡ true → Takes rs fs (set at k i) (k + 1) (took p ys (i + 1) rs fs)
-    took-pass a c e =
-        takes-as rs fs (set at k i) (k + 1) (took p ys i rs fs ++ x ∷ []) (took p ys (i + 1) rs fs)
-        (append_assoc ys (only p (listed i rs fs)) (x ∷ []) ∙ ap (◌++◌ ys) (sym (passes e)))
-        (takes-snoc rs fs at k (took p ys i rs fs) i r is a c h)
+  module _ (ys : List (Item ℕ)) (at : List ℕ) (h : Takes rs fs at (length at) (took p ys i rs fs)) where
+    pub took-pass : i < per_timeslot → p r.kind ≡ true → Takes rs fs (at ++ i ∷ []) (length (at ++ i ∷ [])) (took p ys (i + 1) rs fs)
+    took-pass c e =
+        takes-as rs fs (at ++ i ∷ []) (length (at ++ i ∷ [])) (took p ys i rs fs ++ x ∷ []) (took p ys (i + 1) rs fs)
+        (append_assoc ys (only p (listed i rs fs)) (x ∷ []) ∙ ap (◌++◌ ys) (sym (passes e))) (takes-push rs fs at (took p ys i rs fs) i r is c h)
 
-    pub took-fail : p r.kind ≡ false → Takes rs fs at k (took p ys (i + 1) rs fs)
-    took-fail e = takes-as rs fs at k (took p ys i rs fs) (took p ys (i + 1) rs fs) (ap (◌++◌ ys) (sym (fails e))) h
+    pub took-fail : p r.kind ≡ false → Takes rs fs at (length at) (took p ys (i + 1) rs fs)
+    took-fail e = takes-as rs fs at (length at) (took p ys i rs fs) (took p ys (i + 1) rs fs) (ap (◌++◌ ys) (sym (fails e))) h
 
 -- no record is both
 apart : (k : Kind) → is_underway k ≡ true → is_record k ≡ true → ⊥

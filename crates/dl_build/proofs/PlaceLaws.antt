@@ -44,6 +44,13 @@ listed-counted i (suc n) rs fs h =
     (listed-counted (suc i) n (drop 1 rs) (drop 1 fs)
     (λ j k. let e : i + (1 + j) ≡ suc i + j = omega arith in get_or-drop 1 fs j 0 ∙ h (1 + j) (omega arith) ∙ e))
 
+-- only the first n are looked at
+pub counted-take : (i n : ℕ) (rs : List Record) → counted i n (take n rs) ≡ counted i n rs
+unfolding counted
+counted-take i zero rs = refl
+counted-take i (suc n) [] = refl
+counted-take i (suc n) (r ∷ rs) = ap (◌∷◌ (item r i)) (counted-take (suc i) n rs)
+
 -- ---- neither grant nor ack
 
 abbrev Stays : {C : Type 0} → Item C → Type 0

@@ -52,7 +52,7 @@ only-both {C} (x ∷ xs) = go (is_grant_or_ack x.rec.kind) (only-both xs)
 
 module _ {C : Type 0} (fresh : Item C → C) (join : Item C → C → C) where
   pub put-at : (g : Item C) (xs : List (Item C)) (f : ℕ) (d : Item C) → f < length xs
-      → ((j : ℕ) → j < f → takes_number g.rec.number (get_or xs j d).rec ≡ false) → takes_number g.rec.number (get_or xs f d).rec ≡ true
+      → ((j : ℕ) → j < f → takes_number g.rec.address.number (get_or xs j d).rec ≡ false) → takes_number g.rec.address.number (get_or xs f d).rec ≡ true
       → put fresh join g xs ≡ set xs f (item (joined g.rec (get_or xs f d).rec) (join g (get_or xs f d).load))
   unfolding put
   put-at g [] f d h before here = absurd (omega arith)
@@ -60,7 +60,7 @@ module _ {C : Type 0} (fresh : Item C → C) (join : Item C → C → C) where
   put-at g (x ∷ xs) (suc f) d h before here =
       rw (before 0 (omega arith)) (ap (λ (l : List (Item C)). x ∷ l) (put-at g xs f d (omega arith) (λ j b. before (suc j) (omega arith)) here))
 
-  pub put-end : (g : Item C) (xs : List (Item C)) (d : Item C) → ((j : ℕ) → j < length xs → takes_number g.rec.number (get_or xs j d).rec ≡ false)
+  pub put-end : (g : Item C) (xs : List (Item C)) (d : Item C) → ((j : ℕ) → j < length xs → takes_number g.rec.address.number (get_or xs j d).rec ≡ false)
       → put fresh join g xs ≡ xs ++ item (minimal g.rec) (fresh g) ∷ []
   unfolding put
   put-end g [] d before = refl
@@ -69,7 +69,7 @@ module _ {C : Type 0} (fresh : Item C → C) (join : Item C → C → C) where
   pub length-put : (g : Item C) (xs : List (Item C)) → length (put fresh join g xs) ≤ suc (length xs)
   unfolding put
   length-put g [] = omega arith
-  length-put g (x ∷ xs) = go (takes_number g.rec.number x.rec) (length-put g xs)
+  length-put g (x ∷ xs) = go (takes_number g.rec.address.number x.rec) (length-put g xs)
     where
       go : (b : Bool) → length (put fresh join g xs) ≤ suc (length xs)
           → length (cond b (item (joined g.rec x.rec) (join g x.load) ∷ xs) (x ∷ put fresh join g xs)) ≤ suc (suc (length xs))
@@ -108,15 +108,15 @@ only-all {C} P p (x ∷ xs) h = go (p x.rec.kind) refl (only-all P p xs h.1)
 
 -- a property that holds of a record joined by a grant or ack, and of a minimal record, holds after merging if it held before
 module _ {C : Type 0} (fresh : Item C → C) (join : Item C → C → C) (P : Item C → Type 0)
-    (joins : (g x : Item C) → is_grant_or_ack g.rec.kind ≡ true → takes_number g.rec.number x.rec ≡ true → P g → P x → P
+    (joins : (g x : Item C) → is_grant_or_ack g.rec.kind ≡ true → takes_number g.rec.address.number x.rec ≡ true → P g → P x → P
     (item (joined g.rec x.rec) (join g x.load)))
     (small : (g : Item C) → is_grant_or_ack g.rec.kind ≡ true → P g → P (item (minimal g.rec) (fresh g))) where
   put_all : (g : Item C) (xs : List (Item C)) → is_grant_or_ack g.rec.kind ≡ true → P g → All P xs → All P (put fresh join g xs)
   unfolding put
   put_all g [] k p h = (small g k p, tt)
-  put_all g (x ∷ xs) k p h = go (takes_number g.rec.number x.rec) refl (put_all g xs k p h.1)
+  put_all g (x ∷ xs) k p h = go (takes_number g.rec.address.number x.rec) refl (put_all g xs k p h.1)
     where
-      go : (b : Bool) → takes_number g.rec.number x.rec ≡ b → All P (put fresh join g xs)
+      go : (b : Bool) → takes_number g.rec.address.number x.rec ≡ b → All P (put fresh join g xs)
           → All P (cond b (item (joined g.rec x.rec) (join g x.load) ∷ xs) (x ∷ put fresh join g xs))
       go true e ih = (joins g x k e p h.0, h.1)
       go false e ih = (h.0, ih)
@@ -166,7 +166,7 @@ module _ {C D : Type 0} (f : Record → C → D) (fresh : Item C → C) (join : 
   put_map : (g : Item C) (xs : List (Item C)) → map (reload f) (put fresh join g xs) ≡ put fresh' join' (reload f g) (map (reload f) xs)
   unfolding put
   put_map g [] = ap (λ (c : D). item (minimal g.rec) c ∷ []) (same.new g)
-  put_map g (x ∷ xs) = go (takes_number g.rec.number x.rec) (put_map g xs)
+  put_map g (x ∷ xs) = go (takes_number g.rec.address.number x.rec) (put_map g xs)
     where
       go : (b : Bool) → map (reload f) (put fresh join g xs) ≡ put fresh' join' (reload f g) (map (reload f) xs)
           → map (reload f) (cond b (item (joined g.rec x.rec) (join g x.load) ∷ xs) (x ∷ put fresh join g xs))

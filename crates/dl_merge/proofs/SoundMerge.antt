@@ -57,8 +57,7 @@ abbrev joined_as : Kind → Record → Record → Record
 joined_as k g r =
     record {
       kind = r.kind;
-      address_kind = r.address_kind;
-      number = r.number;
+      address = r.address;
       tag = r.tag;
       header = joined_header k g.header r.header;
       bits = r.bits;
@@ -113,11 +112,11 @@ pub joined-sound : (g r : Record) → sound_record g ≡ true → is_grant_or_ac
     → sound_record (joined g r) ≡ true
 unfolding sound_record
 joined-sound g r eg kg er kr =
-    let fit = grant-fits g.kind g kg (and_parts (legal_address g.address_kind g.number) (sound_as g.kind g) eg).1 in
-    and_from (legal_address r.address_kind r.number) (sound_as r.kind (joined g r))
-    (and_parts (legal_address r.address_kind r.number) (sound_as r.kind r) er).0
+    let fit = grant-fits g.kind g kg (and_parts (legal_address g.address.kind g.address.number) (sound_as g.kind g) eg).1 in
+    and_from (legal_address r.address.kind r.address.number) (sound_as r.kind (joined g r))
+    (and_parts (legal_address r.address.kind r.address.number) (sound_as r.kind r) er).0
     (record-header r.kind r (joined g r) kr refl refl (header-joined g.kind g r fit.0 fit.1)
-    (and_parts (legal_address r.address_kind r.number) (sound_as r.kind r) er).1)
+    (and_parts (legal_address r.address.kind r.address.number) (sound_as r.kind r) er).1)
 
 flag-fits : (k : Kind) → fits 1 (ack_flag k) ≡ true
 flag-fits Kind.Grant = refl
@@ -129,23 +128,23 @@ flag-fits Kind.Started = refl
 pub minimal-sound : (g : Record) → sound_record g ≡ true → is_grant_or_ack g.kind ≡ true → sound_record (minimal g) ≡ true
 unfolding sound_record legal_address
 minimal-sound g e k =
-    let a : legal_address g.address_kind g.number ≡ true = (and_parts (legal_address g.address_kind g.number) (sound_as g.kind g) e).0 in
-    let fit = grant-fits g.kind g k (and_parts (legal_address g.address_kind g.number) (sound_as g.kind g) e).1 in
+    let a : legal_address g.address.kind g.address.number ≡ true = (and_parts (legal_address g.address.kind g.address.number) (sound_as g.kind g) e).0 in
+    let fit = grant-fits g.kind g k (and_parts (legal_address g.address.kind g.address.number) (sound_as g.kind g) e).1 in
     let legal : legal_queued (resource_of (minimal g) 0 0) ≡ true =
     fields-legal (minimal g) 0 0 refl refl
     (record {
       position = refl;
       encryption = refl;
       flag = flag-fits g.kind;
-      number = (and_parts (leb g.address_kind 2)
-          (fits 24 g.number) a).1;
+      number = (and_parts (leb g.address.kind 2)
+          (fits 24 g.address.number) a).1;
       label = refl;
       marker = fit.1;
       power = refl;
       grant = fit.0;
       alloc = refl;
     }) in
-    and_from (legal_address g.address_kind g.number) (legal_queued (resource_of (minimal g) 0 0) && true && true) a
+    and_from (legal_address g.address.kind g.address.number) (legal_queued (resource_of (minimal g) 0 0) && true && true) a
     (and_from (legal_queued (resource_of (minimal g) 0 0) && true) true (and_from (legal_queued (resource_of (minimal g) 0 0)) true legal refl) refl)
 
 -- ---- lists
@@ -166,15 +165,15 @@ each-items (x ∷ xs) h = and_from (sound_place true x.rec x.load) (sound_items 
 
 taken : (n : ℕ) (r : Record) → takes_number n r ≡ true → is_record r.kind ≡ true
 unfolding takes_number
-taken n r e = (and_parts (is_record r.kind) (eqb r.number n) e).0
+taken n r e = (and_parts (is_record r.kind) (eqb r.address.number n) e).0
 
-item-joined : (g x : Item (List ℕ)) → is_grant_or_ack g.rec.kind ≡ true → takes_number g.rec.number x.rec ≡ true → SoundItem g → SoundItem x
+item-joined : (g x : Item (List ℕ)) → is_grant_or_ack g.rec.kind ≡ true → takes_number g.rec.address.number x.rec ≡ true → SoundItem g → SoundItem x
     → SoundItem (item (joined g.rec x.rec) x.load)
 unfolding sound_place
 item-joined g x k t eg ex =
     and_from (sound_record (joined g.rec x.rec)) (clean_past x.rec.bits x.load)
     (joined-sound g.rec x.rec (and_parts (sound_record g.rec) (clean_past g.rec.bits g.load) eg).0 k
-    (and_parts (sound_record x.rec) (clean_past x.rec.bits x.load) ex).0 (taken g.rec.number x.rec t))
+    (and_parts (sound_record x.rec) (clean_past x.rec.bits x.load) ex).0 (taken g.rec.address.number x.rec t))
     (and_parts (sound_record x.rec) (clean_past x.rec.bits x.load) ex).1
 
 item-minimal : (g : Item (List ℕ)) → is_grant_or_ack g.rec.kind ≡ true → SoundItem g → SoundItem (item (minimal g.rec) zero_cell)

@@ -131,20 +131,20 @@ module _ (n : ℕ) (rs : List Record) (j : ℕ) (m : Merged) (g : Record) (is : 
         get_or-take (length (joins n j rs)) (records_of per_timeslot (joins n j rs)) f empty_record b
         ∙ records-at per_timeslot (joins n j rs) f (item empty_record no_place) b (omega (arith, room))
 
-    searched : position (takes_number g.number) (take m.count m.records)
-        ≡ position (takes_number g.number) (take (length (joins n j rs)) (records_of per_timeslot (joins n j rs)))
-    searched = ap (λ (q : Merged). position (takes_number g.number) (take q.count q.records)) h
+    searched : position (takes_number g.address.number) (take m.count m.records)
+        ≡ position (takes_number g.address.number) (take (length (joins n j rs)) (records_of per_timeslot (joins n j rs)))
+    searched = ap (λ (q : Merged). position (takes_number g.address.number) (take q.count q.records)) h
 
     looked : length (take (length (joins n j rs)) (records_of per_timeslot (joins n j rs))) ≡ length (joins n j rs)
     looked = length-take-le (length (joins n j rs)) (records_of per_timeslot (joins n j rs)) (omega (arith, room, length-records per_timeslot (joins n j rs)))
 
-    pub found-turn : (f : ℕ) (q : Record) → position (takes_number g.number) (take m.count m.records) ≡ Some f
+    pub found-turn : (f : ℕ) (q : Record) → position (takes_number g.address.number) (take m.count m.records) ≡ Some f
         → q ≡ joined g (get_or m.records f empty_record)
         → ◌≡◌ {A = Merged} (record { records = set m.records f q; from = m.from; count = m.count }) (merged_of (joins n (j + 1) rs))
     found-turn f q at made =
         let xs : List (Item ℕ) = joins n j rs in
         let d : Item ℕ = item empty_record no_place in
-        let p = position-Some (takes_number g.number) (take (length xs) (records_of per_timeslot xs)) f empty_record (sym searched ∙ at) in
+        let p = position-Some (takes_number g.address.number) (take (length xs) (records_of per_timeslot xs)) f empty_record (sym searched ∙ at) in
         let b : f < length xs = omega (arith, p.0, looked) in
         let y : Record = (get_or xs f d).rec in
         let same : get_or m.records f empty_record ≡ y =
@@ -152,8 +152,8 @@ module _ (n : ℕ) (rs : List Record) (j : ℕ) (m : Merged) (g : Record) (is : 
         let new : joins n (j + 1) rs ≡ set xs f (item (joined g y) (get_or xs f d).load) =
         more
         ∙ put-at (always no_place) keep (item g j) xs f d b
-        (λ k l. ap (takes_number g.number) (sym (seen k (omega (arith, b)))) ∙ p.2 k l)
-        (ap (takes_number g.number) (sym (seen f b)) ∙ p.1) in
+        (λ k l. ap (takes_number g.address.number) (sym (seen k (omega (arith, b)))) ∙ p.2 k l)
+        (ap (takes_number g.address.number) (sym (seen f b)) ∙ p.1) in
         λ i. record {
           records =
               (ap₂ (λ (l : List Record) (r : Record). set l f r) (ap (λ (o : Merged). o.records) h) (made ∙ ap (joined g) same)
@@ -162,12 +162,12 @@ module _ (n : ℕ) (rs : List Record) (j : ℕ) (m : Merged) (g : Record) (is : 
           count = (ap (λ (o : Merged). o.count) h ∙ sym (ap length new ∙ length-set xs f (item (joined g y) (get_or xs f d).load))) i;
         }
 
-    pub none-turn : (q : Record) → position (takes_number g.number) (take m.count m.records) ≡ None → q ≡ minimal g
+    pub none-turn : (q : Record) → position (takes_number g.address.number) (take m.count m.records) ≡ None → q ≡ minimal g
         → pushed m q no_place ≡ merged_of (joins n (j + 1) rs)
     none-turn q none made =
         let xs : List (Item ℕ) = joins n j rs in
         ap₂ (λ (o : Merged) (r : Record). pushed o r no_place) h made ∙ pushed-is xs (minimal g) no_place room
         ∙ ap merged_of (sym (more
         ∙ put-end (always no_place) keep (item g j) xs (item empty_record no_place)
-        (λ k l. ap (takes_number g.number) (sym (seen k l))
-        ∙ position-none (takes_number g.number) (take (length xs) (records_of per_timeslot xs)) k empty_record (sym searched ∙ none) (omega (arith, looked, l)))))
+        (λ k l. ap (takes_number g.address.number) (sym (seen k l))
+        ∙ position-none (takes_number g.address.number) (take (length xs) (records_of per_timeslot xs)) k empty_record (sym searched ∙ none) (omega (arith, looked, l)))))

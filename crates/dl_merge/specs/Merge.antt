@@ -52,8 +52,7 @@ abbrev pub joined : Record → Record → Record
 joined g r =
     record {
       kind = r.kind;
-      address_kind = r.address_kind;
-      number = r.number;
+      address = r.address;
       tag = r.tag;
       header = joined_header g.kind g.header r.header;
       bits = r.bits;
@@ -72,8 +71,7 @@ abbrev pub minimal : Record → Record
 minimal g =
     record {
       kind = Kind.Record;
-      address_kind = g.address_kind;
-      number = g.number;
+      address = g.address;
       tag = None;
       header = grant_header (ack_flag g.kind) g.header.usage_marker g.header.slot_granting_element;
       bits = 0;
@@ -82,7 +80,7 @@ minimal g =
 
 -- a record "with its number": only numbers are compared
 unfoldable pub takes_number : ℕ → Record → Bool
-takes_number m r = is_record r.kind && eqb r.number m
+takes_number m r = is_record r.kind && eqb r.address.number m
 
 -- the items of these kinds, in order
 unfoldable pub only : {C : Type 0} → (Kind → Bool) → List (Item C) → List (Item C)
@@ -95,7 +93,7 @@ module _ {C : Type 0} (fresh : Item C → C) (join : Item C → C → C) where
   unfoldable pub put : Item C → List (Item C) → List (Item C)
   put g [] = item (minimal g.rec) (fresh g) ∷ []
   put g (x ∷ xs) =
-      let rest : List (Item C) = put g xs in cond (takes_number g.rec.number x.rec) (item (joined g.rec x.rec) (join g x.load) ∷ xs) (x ∷ rest)
+      let rest : List (Item C) = put g xs in cond (takes_number g.rec.address.number x.rec) (item (joined g.rec x.rec) (join g x.load) ∷ xs) (x ∷ rest)
 
   -- "in queue order"
   unfoldable pub puts : List (Item C) → List (Item C) → List (Item C)

@@ -1,7 +1,7 @@
 // Merging: grants and acks go into the records of their timeslot; each record with the place that it comes from.
 #![tactic(auto)]
 
-ghost use Rattle.std.specs.Prelude.{◌≡◌, true, false, ℕ, ◌<◌, ◌≤◌, get_or, position};
+ghost use Rattle.std.specs.Prelude.{◌≡◌, true, false, ℕ, ◌<◌, ◌≤◌, length, get_or, position};
 ghost use Rattle.sizes.specs.Sizes.{per_timeslot};
 ghost use Rattle.dl_record.specs.Record.{empty_record};
 ghost use Rattle.dl_record.specs.Kind.{is_grant_or_ack, is_kept};
@@ -12,8 +12,10 @@ use dl_record::{Kind, QueuedHeader, Record};
 use sizes::{NO_PLACE, PER_TIMESLOT};
 
 // A timeslot's records with the places that they come from.
-// Kept: NO_PLACE stands for none, no Option: a record that comes from none has no bits, so whatever cell is read for it, and an Option would be taken
-// apart at each use to name one. Kept: two arrays, no pairs: the records go on as one array.
+// Kept: NO_PLACE stands for none, no Option: it comes behind all places, so that whether a place is overtaken, and which cell is read for a record with
+// no bits, need no case for none, as they would of an Option.
+// Kept: two arrays and a count, no list of pairs: where nothing is to merge the caller's array goes on as it is, and pairs would be made one by one.
+// Kept: that `count` is at most sixteen is a clause of those that take one, no ghost field: `merged_of` is one of any list, so it has no such proof.
 #[derive(Clone, Copy)]
 pub struct Merged {
     pub records: [Record; PER_TIMESLOT],
@@ -94,8 +96,7 @@ fn dl_make_minimal_resource(g: Record) -> Record
     };
     Record {
         kind: Kind::Record,
-        address_kind: g.address_kind,
-        number: g.number,
+        address: g.address,
         header,
         ..Record::EMPTY
     }
@@ -106,7 +107,7 @@ fn dl_make_minimal_resource(g: Record) -> Record
 fn takes_number(r: Record, number: u32) -> bool
     ensures { result ≡ takes_number number r }
 {
-    r.kind.is_record() & (r.number == number)
+    r.kind.is_record() & (r.address.number == number)
 }
 
 // The first of the records that takes `number`.
@@ -116,21 +117,20 @@ fn dl_get_scheduled_resource_for_ssi(records: &[Record], number: u32) -> Option<
     records.iter().position(|r| takes_number(*r, number))
 }
 
-// Is none of the first `n` records a grant or an ack? Then they are merged already.
-pub fn none_to_merge(records: [Record; PER_TIMESLOT], n: usize) -> bool
-    requires { n ≤ per_timeslot }
-    ensures { result ≡ true → (i : ℕ) → i < n → is_grant_or_ack (get_or records i empty_record).kind ≡ false }
+// Is none of the records a grant or an ack? Then they are merged already.
+pub fn none_to_merge(records: &[Record]) -> bool
+    ensures { result ≡ true → (i : ℕ) → i < length records.now → is_grant_or_ack (get_or records.now i empty_record).kind ≡ false }
 {
-    !records[..n].iter().any(|r| r.kind.is_grant_or_ack())
+    !records.iter().any(|r| r.kind.is_grant_or_ack())
 }
 
-// What stays of the first `n` records when all grants and acks are taken out.
-fn dl_take_all_grants_and_acks(records: [Record; PER_TIMESLOT], n: usize) -> Merged
-    requires { n ≤ per_timeslot }
-    ensures { result ≡ merged_of (only is_kept (counted 0 n records)) }
+// What stays of the records when all grants and acks are taken out.
+fn dl_take_all_grants_and_acks(records: &[Record]) -> Merged
+    requires { length records.now ≤ per_timeslot }
+    ensures { result ≡ merged_of (only is_kept (counted 0 (length records.now) records.now)) }
 {
     let mut kept = Merged::NONE;
-    for (i, r) in records[..n].iter().enumerate() {
+    for (i, r) in records.iter().enumerate() {
         if !r.kind.is_grant_or_ack() {
             kept.push(*r, i as u8);
         }
@@ -138,16 +138,16 @@ fn dl_take_all_grants_and_acks(records: [Record; PER_TIMESLOT], n: usize) -> Mer
     kept
 }
 
-// A timeslot's first `n` records merged: to those that stay each grant or ack goes in queue order.
-pub fn dl_integrate_sched_elems_for_timeslot(records: [Record; PER_TIMESLOT], n: usize) -> Merged
-    requires { n ≤ per_timeslot }
-    ensures { result ≡ merged_of (merge_places (counted 0 n records)) }
+// A timeslot's records merged: to those that stay each grant or ack goes in queue order.
+pub fn dl_integrate_sched_elems_for_timeslot(records: &[Record]) -> Merged
+    requires { length records.now ≤ per_timeslot }
+    ensures { result ≡ merged_of (merge_places (counted 0 (length records.now) records.now)) }
 {
-    let mut merged = dl_take_all_grants_and_acks(records, n);
-    for g in &records[..n] {
+    let mut merged = dl_take_all_grants_and_acks(records);
+    for g in records {
         if g.kind.is_grant_or_ack() {
             let count = merged.count as usize;
-            match dl_get_scheduled_resource_for_ssi(&merged.records[..count], g.number) {
+            match dl_get_scheduled_resource_for_ssi(&merged.records[..count], g.address.number) {
                 Some(at) => merged.records[at] = joined_record(*g, merged.records[at]),
                 None => merged.push(dl_make_minimal_resource(*g), NO_PLACE),
             }

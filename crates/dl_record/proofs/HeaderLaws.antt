@@ -21,7 +21,7 @@ pub record LegalHeader (r : Record) : Type 0 where
   pub position : fits 1 r.header.pos_of_grant ≡ true
   pub encryption : eqb r.header.encryption_mode 0 ≡ true
   pub flag : fits 1 r.header.random_access_flag ≡ true
-  pub number : fits 24 r.number ≡ true
+  pub number : fits 24 r.address.number ≡ true
   pub label : absent r.header.event_label ≡ true
   pub marker : opt_fits 6 r.header.usage_marker ≡ true
   pub power : opt_fits 4 r.header.power_control_element ≡ true
@@ -63,14 +63,14 @@ unfolding legal_queued legal_fields within_widths legal_parts
 legal-fields r fill len e =
     let h = r.header in
     let m = resource_of r fill len in
-    let k = Some (address_kind_of r.address_kind) in
+    let k = Some (address_kind_of r.address.kind) in
     let q = and3 (legal_fields m) (queued_kind k) (absent h.event_label) e in
     let f = and3 (within_widths m) (legal_opt_chan_alloc h.chan_alloc_element) (legal_parts m) q.0 in
     let w = and10 (fits 1 fill) (fits 1 h.pos_of_grant) (fits 2 h.encryption_mode) (fits 1 h.random_access_flag) (fits 6 len)
-    (fits 24 r.number)
+    (fits 24 r.address.number)
     (label_fits h.event_label) (opt_fits 6 h.usage_marker) (opt_fits 4 h.power_control_element) (opt_fits 8 h.slot_granting_element) f.0 in
     let p = and4 (not (has_address k) || eqb h.encryption_mode 0) (absent h.usage_marker || has_address k && absent h.event_label)
-    (has_address k || not (absent h.event_label) || all_absent m) (has_address k || eqb r.number 0) f.2 in
+    (has_address k || not (absent h.event_label) || all_absent m) (has_address k || eqb r.address.number 0) f.2 in
     record {
       position = w.1;
       encryption = not-encrypted (has_address k) (eqb h.encryption_mode 0) refl p.0;
@@ -88,18 +88,18 @@ unfolding legal_queued legal_fields within_widths legal_parts
 fields-legal r fill len a b l =
     let h = r.header in
     let m = resource_of r fill len in
-    let k = Some (address_kind_of r.address_kind) in
+    let k = Some (address_kind_of r.address.kind) in
     let w : within_widths m ≡ true =
-    ten-hold (fits 1 fill) (fits 1 h.pos_of_grant) (fits 2 h.encryption_mode) (fits 1 h.random_access_flag) (fits 6 len) (fits 24 r.number)
+    ten-hold (fits 1 fill) (fits 1 h.pos_of_grant) (fits 2 h.encryption_mode) (fits 1 h.random_access_flag) (fits 6 len) (fits 24 r.address.number)
     (label_fits h.event_label) (opt_fits 6 h.usage_marker) (opt_fits 4 h.power_control_element) (opt_fits 8 h.slot_granting_element)
     a l.position (small-encryption h.encryption_mode l.encryption) l.flag b l.number (no_label h.event_label l.label) l.marker
     l.power l.grant in
     let p : legal_parts m ≡ true =
-    parts-hold (has_address k) (eqb h.encryption_mode 0) (absent h.usage_marker) (absent h.event_label) (all_absent m) (eqb r.number 0)
+    parts-hold (has_address k) (eqb h.encryption_mode 0) (absent h.usage_marker) (absent h.event_label) (all_absent m) (eqb r.address.number 0)
     refl l.encryption l.label in
     and_from (legal_fields m && queued_kind k) (absent h.event_label)
     (and_from (legal_fields m) (queued_kind k) (and_from (within_widths m && legal_opt_chan_alloc h.chan_alloc_element) (legal_parts m)
-    (and_from (within_widths m) (legal_opt_chan_alloc h.chan_alloc_element) w l.alloc) p) (queued r.address_kind)) l.label
+    (and_from (within_widths m) (legal_opt_chan_alloc h.chan_alloc_element) w l.alloc) p) (queued r.address.kind)) l.label
 
 -- `is_none` says what is absent
 pub none-absent : {A : Type 0} (o : Option A) (b : Bool) → is_some o ≡ not b → b ≡ absent o
@@ -110,7 +110,7 @@ none-absent (Some v) false e = refl
 
 -- so its fields are asked one by one
 pub fields-asked : (r : Record)
-    → fits 1 r.header.pos_of_grant && eqb r.header.encryption_mode 0 && fits 1 r.header.random_access_flag && fits 24 r.number
+    → fits 1 r.header.pos_of_grant && eqb r.header.encryption_mode 0 && fits 1 r.header.random_access_flag && fits 24 r.address.number
     && absent r.header.event_label && opt_fits 6 r.header.usage_marker && opt_fits 4 r.header.power_control_element
     && opt_fits 8 r.header.slot_granting_element && legal_opt_chan_alloc r.header.chan_alloc_element ≡ legal_queued (resource_of r 0 0)
 fields-asked r =
@@ -118,7 +118,7 @@ fields-asked r =
     let a1 = fits 1 h.pos_of_grant in
     let a2 = eqb h.encryption_mode 0 in
     let a3 = fits 1 h.random_access_flag in
-    let a4 = fits 24 r.number in
+    let a4 = fits 24 r.address.number in
     let a5 = absent h.event_label in
     let a6 = opt_fits 6 h.usage_marker in
     let a7 = opt_fits 4 h.power_control_element in

@@ -32,7 +32,7 @@ unfolding is_empty holds_grant_only header_holds_grant_only
 empty-is r e =
     let h = r.header in
     let p =
-    and6 (is_grant r.kind) (eqb r.address_kind 0) (eqb r.number 0) (holds_grant_only r) (absent h.slot_granting_element)
+    and6 (is_grant r.kind) (eqb r.address.kind 0) (eqb r.address.number 0) (holds_grant_only r) (absent h.slot_granting_element)
     (absent h.usage_marker) e in
     let b = and4 (eqb r.bits 0) (eqb r.sent 0) (absent r.tag) (header_holds_grant_only h) p.3 in
     let q =
@@ -40,8 +40,7 @@ empty-is r e =
     (absent h.power_control_element) (absent h.chan_alloc_element) b.3 in
     λ i. record {
       kind = grant-kind r.kind p.0 i;
-      address_kind = eqb-true r.address_kind 0 p.1 i;
-      number = eqb-true r.number 0 p.2 i;
+      address = record { kind = eqb-true r.address.kind 0 p.1 i; number = eqb-true r.address.number 0 p.2 i };
       tag = is-absent r.tag b.2 i;
       header = record {
         pos_of_grant = eqb-true h.pos_of_grant 0 q.0 i;
@@ -78,7 +77,7 @@ small-as Kind.Started r e = leb-true r.bits sdu_bits (and3 (legal_queued (resour
 
 pub sound-small : (r : Record) → sound_record r ≡ true → r.bits ≤ sdu_bits
 unfolding sound_record
-sound-small r e = small-as r.kind r (and_parts (legal_address r.address_kind r.number) (sound_as r.kind r) e).1
+sound-small r e = small-as r.kind r (and_parts (legal_address r.address.kind r.address.number) (sound_as r.kind r) e).1
 
 -- what is queued is sound: a grant and an ack to a legal address, a record that passes questions 5 to 7
 pub grant-sound : (k n octet : ℕ) (m : Option ℕ) → legal_address k n ≡ true → fits 8 octet ≡ true → opt_fits 6 m ≡ true

@@ -38,10 +38,10 @@ sound_as Kind.Started r = legal_queued (resource_of r 0 0) && leb r.bits sdu_bit
 
 -- the record of a filled place
 unfoldable pub sound_record : Record → Bool
-sound_record r = legal_address r.address_kind r.number && sound_as r.kind r
+sound_record r = legal_address r.address.kind r.address.number && sound_as r.kind r
 
 -- the record of a place that is not filled: the empty record, as a test
 unfoldable pub is_empty : Record → Bool
 is_empty r =
-    is_grant r.kind && eqb r.address_kind 0 && eqb r.number 0 && holds_grant_only r && absent r.header.slot_granting_element
+    is_grant r.kind && eqb r.address.kind 0 && eqb r.address.number 0 && holds_grant_only r && absent r.header.slot_granting_element
     && absent r.header.usage_marker

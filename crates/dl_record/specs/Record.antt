@@ -21,7 +21,7 @@ empty_header =
 
 -- "the empty record (kind grant, all else 0 or absent)"
 abbrev pub empty_record : Record
-empty_record = record { kind = Kind.Grant; address_kind = 0; number = 0; tag = None; header = empty_header; bits = 0; sent = 0 }
+empty_record = record { kind = Kind.Grant; address = record { kind = 0; number = 0 }; tag = None; header = empty_header; bits = 0; sent = 0 }
 
 -- a header that holds nothing but a grant and a marker
 abbrev pub grant_header : ℕ → Option ℕ → Option ℕ → QueuedHeader
@@ -40,14 +40,14 @@ grant_header flag marker grant =
 -- "A grant or ack holds only its address, a grant its octet and marker too."
 abbrev pub grant_record : ℕ → ℕ → ℕ → Option ℕ → Record
 grant_record kind n octet marker =
-    record { kind = Kind.Grant; address_kind = kind; number = n; tag = None; header = grant_header 0 marker (Some octet); bits = 0; sent = 0 }
+    record { kind = Kind.Grant; address = record { kind = kind; number = n }; tag = None; header = grant_header 0 marker (Some octet); bits = 0; sent = 0 }
 
 abbrev pub ack_record : ℕ → ℕ → Record
-ack_record kind n = record { kind = Kind.Ack; address_kind = kind; number = n; tag = None; header = empty_header; bits = 0; sent = 0 }
+ack_record kind n = record { kind = Kind.Ack; address = record { kind = kind; number = n }; tag = None; header = empty_header; bits = 0; sent = 0 }
 
 -- a record as it is offered to the queue
 abbrev pub offered_record : ℕ → ℕ → Option ℕ → QueuedHeader → ℕ → Record
-offered_record kind n t h size = record { kind = Kind.Record; address_kind = kind; number = n; tag = t; header = h; bits = size; sent = 0 }
+offered_record kind n t h size = record { kind = Kind.Record; address = record { kind = kind; number = n }; tag = t; header = h; bits = size; sent = 0 }
 
 -- "address kind (0 SSI, 1 GSSI, 2 ISSI)"
 abbrev pub address_kind_of : ℕ → AddressKind
@@ -64,8 +64,8 @@ resource_of r fill len =
       encryption_mode = r.header.encryption_mode;
       random_access_flag = r.header.random_access_flag;
       length_ind = len;
-      address_kind = Some (address_kind_of r.address_kind);
-      number = r.number;
+      address_kind = Some (address_kind_of r.address.kind);
+      number = r.address.number;
       event_label = r.header.event_label;
       usage_marker = r.header.usage_marker;
       power_control_element = r.header.power_control_element;

@@ -3,12 +3,12 @@
 
 ghost use Rattle.std.specs.Prelude.{◌≡◌};
 ghost use Rattle.mac_pdus.specs.Legal.{legal_queued, legal_offered};
-ghost use Rattle.dl_record.specs.Kind.{is_grant, is_grant_or_ack, is_record, is_underway, is_started};
+ghost use Rattle.dl_record.specs.Kind.{is_grant_or_ack, is_record, is_underway, is_started};
 ghost use Rattle.dl_record.specs.Record.{empty_header, grant_record, ack_record, offered_record, address_kind_of, resource_of};
 ghost use Rattle.dl_record.specs.Questions.{legal_address, present_sdu};
 
 use mac_pdus::{AddressKind, ChanAllocElement, MacResource};
-use sizes::SDU_BITS;
+use sizes::{ADDRESS_NUMBERS, SDU_BITS};
 
 #[derive(Clone, Copy, PartialEq, Eq)]
 pub enum Kind {
@@ -19,13 +19,8 @@ pub enum Kind {
     Started,
 }
 
+// Kept: methods where `==` would do for two of them: one goes to `take_records` of dl_build as a function, and each has the name of its definition.
 impl Kind {
-    pub fn is_grant(self) -> bool
-        ensures { result ≡ is_grant self }
-    {
-        self == Kind::Grant
-    }
-
     // Whether a record waits to be merged into another.
     pub fn is_grant_or_ack(self) -> bool
         ensures { result ≡ is_grant_or_ack self }
@@ -56,7 +51,8 @@ impl Kind {
 }
 
 // A MAC-RESOURCE header without address, length and fill.
-#[derive(Clone, Copy)]
+// Kept: the flags are numbers, since question 6 refuses each content above 1, and question 1 asks it of whatever a caller stored.
+#[derive(Clone, Copy, PartialEq, Eq)]
 pub struct QueuedHeader {
     pub pos_of_grant: u8,
     pub encryption_mode: u8,
@@ -81,13 +77,42 @@ impl QueuedHeader {
     };
 }
 
-// Kept: `address_kind` is a number, since question 5 refuses each content above 2, and question 1 asks it of whatever a caller stored; an enum would
-// ask callers for that first.
-#[derive(Clone, Copy)]
+// Who a record is for.
+// Kept: `kind` is a number, since question 5 refuses each content above 2, and question 1 asks it of whatever a caller stored; an enum would ask callers
+// for that first.
+#[derive(Clone, Copy, PartialEq, Eq)]
+pub struct TetraAddress {
+    pub kind: u8,
+    pub number: u32,
+}
+
+impl TetraAddress {
+    // Question 5.
+    #[tactic(auto, unfolding(crate::specs::Questions::legal_address))]
+    pub fn is_legal(self) -> bool
+        ensures { result ≡ legal_address self.kind self.number }
+    {
+        (self.kind <= 2) & (self.number < ADDRESS_NUMBERS)
+    }
+}
+
+impl From<TetraAddress> for AddressKind {
+    ghost from_gives = { λ address kind. kind ≡ address_kind_of address.kind };
+
+    fn from(address: TetraAddress) -> AddressKind {
+        match address.kind {
+            0 => AddressKind::Ssi,
+            1 => AddressKind::Gssi,
+            _ => AddressKind::Issi,
+        }
+    }
+}
+
+// Kept: `sent` stands beside `kind`, not within `Started`: question 1 refuses a record that has sent bits and is not started, so one may be stored.
+#[derive(Clone, Copy, PartialEq, Eq)]
 pub struct Record {
     pub kind: Kind,
-    pub address_kind: u8,
-    pub number: u32,
+    pub address: TetraAddress,
     pub tag: Option<u16>,
     pub header: QueuedHeader,
     pub bits: u16,
@@ -97,8 +122,7 @@ pub struct Record {
 impl Record {
     pub const EMPTY: Record = Record {
         kind: Kind::Grant,
-        address_kind: 0,
-        number: 0,
+        address: TetraAddress { kind: 0, number: 0 },
         tag: None,
         header: QueuedHeader::EMPTY,
         bits: 0,
@@ -106,49 +130,45 @@ impl Record {
     };
 
     // A grant as it is queued: its address, its octet and its marker.
-    pub fn grant(kind: u8, number: u32, grant: u8, marker: Option<u8>) -> Record
-        ensures { result ≡ grant_record kind number grant marker }
+    pub fn grant(address: TetraAddress, octet: u8, marker: Option<u8>) -> Record
+        ensures { result ≡ grant_record address.kind address.number octet marker }
     {
         let header = QueuedHeader {
             usage_marker: marker,
-            slot_granting_element: Some(grant),
+            slot_granting_element: Some(octet),
             ..QueuedHeader::EMPTY
         };
         Record {
             kind: Kind::Grant,
-            address_kind: kind,
-            number,
+            address,
             header,
             ..Record::EMPTY
         }
     }
 
     // A random access acknowledgement as it is queued: its address.
-    pub fn ack(kind: u8, ssi: u32) -> Record
-        ensures { result ≡ ack_record kind ssi }
+    pub fn ack(address: TetraAddress) -> Record
+        ensures { result ≡ ack_record address.kind address.number }
     {
         Record {
             kind: Kind::Ack,
-            address_kind: kind,
-            number: ssi,
+            address,
             ..Record::EMPTY
         }
     }
 
     // A record as it is offered to the queue, of an SDU of `bits` bits.
     pub fn offered(
-        kind: u8,
-        number: u32,
+        address: TetraAddress,
         tag: Option<u16>,
         header: QueuedHeader,
         bits: u16,
     ) -> Record
-        ensures { result ≡ offered_record kind number tag header bits }
+        ensures { result ≡ offered_record address.kind address.number tag header bits }
     {
         Record {
             kind: Kind::Record,
-            address_kind: kind,
-            number,
+            address,
             tag,
             header,
             bits,
@@ -167,8 +187,8 @@ impl Record {
             encryption_mode: h.encryption_mode,
             random_access_flag: h.random_access_flag,
             length_ind: len,
-            address_kind: Some(address_kind_of(self.address_kind)),
-            number: self.number,
+            address_kind: Some(self.address.into()),
+            number: self.address.number,
             event_label: h.event_label,
             usage_marker: h.usage_marker,
             power_control_element: h.power_control_element,
@@ -177,8 +197,9 @@ impl Record {
         }
     }
 
-    // Question 6 for a stored record. Every call asks it of every record, so it is asked field by field and no header is made: with an
-    // address, which each record has, encryption is 0, and without a label any marker goes.
+    // Question 6 for a stored record.
+    // Kept: field by field, beside `legal_queued` of mac_legal: every call asks it of every record, and no header is made. With an address, which each
+    // record has, encryption is 0, and without a label any marker goes.
     pub fn header_is_legal(self) -> bool
         ensures { result ≡ legal_queued (resource_of self 0 0) }
     {
@@ -186,7 +207,7 @@ impl Record {
         (h.pos_of_grant < 2)
             & (h.encryption_mode == 0)
             & (h.random_access_flag < 2)
-            & (self.number < 16777216)
+            & (self.address.number < ADDRESS_NUMBERS)
             & h.event_label.is_none()
             & mac_legal::opt_below(64, h.usage_marker)
             & mac_legal::opt_below(16, h.power_control_element)
@@ -200,25 +221,6 @@ impl Record {
     {
         mac_legal::legal_offered(self.resource(0, 0))
     }
-}
-
-// The kind of address that a number stands for.
-fn address_kind_of(k: u8) -> AddressKind
-    ensures { result ≡ address_kind_of k }
-{
-    match k {
-        0 => AddressKind::Ssi,
-        1 => AddressKind::Gssi,
-        _ => AddressKind::Issi,
-    }
-}
-
-// Question 5.
-#[tactic(auto, unfolding(crate::specs::Questions::legal_address))]
-pub fn address_is_legal(kind: u8, number: u32) -> bool
-    ensures { result ≡ legal_address kind number }
-{
-    (kind <= 2) & (number < 16777216)
 }
 
 // Question 7.

@@ -52,18 +52,12 @@ fn sound_as_its_kind(r: Record) -> bool
 pub fn record_is_sound(r: Record) -> bool
     ensures { result ≡ sound_record r }
 {
-    dl_record::address_is_legal(r.address_kind, r.number) & sound_as_its_kind(r)
+    r.address.is_legal() & sound_as_its_kind(r)
 }
 
 // Question 1 for the record of a place that is not filled.
-#[tactic(auto, unfolding(dl_record::specs::Questions::is_empty))]
 pub fn record_is_empty(r: Record) -> bool
     ensures { result ≡ is_empty r }
 {
-    r.kind.is_grant()
-        & (r.address_kind == 0)
-        & (r.number == 0)
-        & holds_grant_only(r)
-        & r.header.slot_granting_element.is_none()
-        & r.header.usage_marker.is_none()
+    r == Record::EMPTY
 }

@@ -131,19 +131,10 @@ twice (suc m) (x ∷ l) = go (eqb x 0) (twice m l)
     go false h = refl
 
 -- two parts that overlap
-overlap : (d m : ℕ) (l : List ℕ) → d ≤ m → all_zero (take m l) && all_zero (drop d l) ≡ all_zero l
+pub overlap : (d m : ℕ) (l : List ℕ) → d ≤ m → all_zero (take m l) && all_zero (drop d l) ≡ all_zero l
 unfolding all_zero
 overlap zero m l h = twice m l
 overlap (suc d) zero l h = absurd (omega arith)
 overlap (suc d) (suc m) [] h = refl
 overlap (suc d) (suc m) (x ∷ l) h =
     and_assoc (eqb x 0) (all_zero (take m l)) (all_zero (drop d l)) ∙ ap (λ (t : Bool). eqb x 0 && t) (overlap d m l (omega arith))
-
--- the octets from a place on: the first m of them, and those from `last` on
-pub parts-zero : (s : List ℕ) (from m last : ℕ) (x y : Bool) → from ≤ last → last ≤ from + m → x ≡ all_zero (take m (drop from s)) → y ≡ all_zero (drop last s)
-    → x && y ≡ all_zero (drop from s)
-parts-zero s from m last x y h k ex ey =
-    let d : ℕ = last - from in
-    let sum : last ≡ from + d = omega arith in
-    let at : drop last s ≡ drop d (drop from s) = ap (λ (n : ℕ). drop n s) sum ∙ sym (drop-drop d from s) in
-    ap₂ ◌&&◌ ex (ey ∙ ap all_zero at) ∙ overlap d m (drop from s) (omega arith)

@@ -4,9 +4,8 @@ use mathlib.Core.List.{List, [], ◌∷◌, ◌++◌, map}
 use Prim.Native.Nat.{ℕ, zero, suc, ◌+◌, ◌<◌, ◌≤◌}
 use native.Mathlib.Numerals.{add-one, one-add}
 use native.Mathlib.Omega.{arith}
-use lib.ListN.{length, get_or, set, drop, length-append, drop_of_length-le, length-map, get_or-map, take}
+use lib.ListN.{length, get_or, set, drop, length-append, drop_of_length-le, length-map, get_or-map}
 use lib.Seq.{get_or-drop}
-use Rattle.std.proofs.lemmas.List.{get_or-take}
 use Rattle.sizes.specs.Sizes.{per_timeslot}
 use Rattle.dl_record.specs.declared.Record.{Record}
 use Rattle.dl_record.specs.Record.{empty_record}
@@ -51,11 +50,6 @@ pub stands-at : {A : Type 0} (places : List ℕ) (xs : List A) (i : ℕ) (d e : 
 stands-at {A} places xs i d e h k =
     get_d_any xs (get_or places i 0) d e k ∙ sym (get_or-map (λ (p : ℕ). get_or xs p e) places i 0)
     ∙ get_d_any (map (λ (p : ℕ). get_or xs p e) places) i (get_or xs 0 e) e (rw length-map h)
-
--- and at the i-th of the first n
-pub taken-at : {A : Type 0} (n : ℕ) (places : List ℕ) (xs : List A) (i : ℕ) (d e : A) → i < n → n ≤ length places → get_or places i 0 < length xs
-    → get_or xs (get_or (take n places) i 0) d ≡ get_or (map (λ (p : ℕ). get_or xs p e) places) i e
-taken-at {A} n places xs i d e h b k = ap (λ (p : ℕ). get_or xs p d) (get_or-take n places i 0 h) ∙ stands-at places xs i d e (omega arith) k
 
 all-at : (l : List (Item ℕ)) (i : ℕ) (x : Item ℕ) (rest : List (Item ℕ)) → AllSendable l → drop i l ≡ x ∷ rest → Sendable x.rec
 unfolding AllSendable

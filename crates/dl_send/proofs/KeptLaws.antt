@@ -33,12 +33,12 @@ use Rattle.dl_send.proofs.BlockLaws.{Loaded}
 -- ---- a sound record can be sent
 
 pub record RecordParts (r : Record) : Type 0 where
-  pub address : legal_address r.address_kind r.number ≡ true
+  pub address : legal_address r.address.kind r.address.number ≡ true
   pub legal : legal_queued (resource_of r 0 0) ≡ true
   pub bits : leb r.bits sdu_bits ≡ true
   pub sent : r.sent ≤ r.bits
 
-parts-as : (k : Kind) (r : Record) → is_kept k ≡ true → legal_address r.address_kind r.number ≡ true → sound_as k r ≡ true → RecordParts r
+parts-as : (k : Kind) (r : Record) → is_kept k ≡ true → legal_address r.address.kind r.address.number ≡ true → sound_as k r ≡ true → RecordParts r
 parts-as Kind.Grant r h a e = false-not-true h
 parts-as Kind.Ack r h a e = false-not-true h
 parts-as Kind.Record r h a e =
@@ -53,7 +53,7 @@ parts-as Kind.Started r h a e =
 
 pub record-parts : (r : Record) → is_kept r.kind ≡ true → sound_record r ≡ true → RecordParts r
 unfolding sound_record
-record-parts r k e = let p = and2 (legal_address r.address_kind r.number) (sound_as r.kind r) e in parts-as r.kind r k p.0 p.1
+record-parts r k e = let p = and2 (legal_address r.address.kind r.address.number) (sound_as r.kind r) e in parts-as r.kind r k p.0 p.1
 
 pub parts-sendable : (r : Record) → RecordParts r → Sendable r
 parts-sendable r p = record { legal = p.legal; bits = leb-true r.bits sdu_bits p.bits; sent = p.sent }

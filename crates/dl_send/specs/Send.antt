@@ -12,7 +12,7 @@ use Rattle.bs_frag.specs.declared.ChunkOutcome.TheVariants.{Finished, Waiting, S
 
 -- a record as it stays, with so many bits sent
 abbrev pub again : Kind → ℕ → Record → Record
-again k sent r = record { kind = k; address_kind = r.address_kind; number = r.number; tag = r.tag; header = r.header; bits = r.bits; sent = sent }
+again k sent r = record { kind = k; address = r.address; tag = r.tag; header = r.header; bits = r.bits; sent = sent }
 
 -- "What did not finish stays .. as waiting or started."
 abbrev pub staying : {C : Type 0} → ChunkOutcome → Item C → List (Item C)

@@ -7,7 +7,7 @@ ghost use Rattle.bitbuffer.specs.Bits.{bits_of, written};
 ghost use Rattle.mac_reader.specs.PduList.{block_bits};
 ghost use Rattle.dl_queue.specs.Queue.{Item, item};
 ghost use Rattle.dl_send.specs.Send.{staying, tag_in, tags_of, null_in};
-ghost use Rattle.dl_send.specs.Arrays.{records_at, places_at, progress_with, sent_of, CanSend, SentInto, BuiltAs};
+ghost use Rattle.dl_send.specs.Arrays.{records_at, places_at, progress_with, sent_of, CanSend, BuiltAs};
 
 use bs_frag::ChunkOutcome;
 use dl_merge::Merged;
@@ -15,27 +15,16 @@ use dl_record::{Kind, Record};
 use sizes::{NO_PLACE, PER_TIMESLOT};
 
 // Tags, with zeros behind them.
+// Kept: an array with a count, no ArrayVec: the C interface hands out both as they stand, the zeros too.
 #[derive(Clone, Copy)]
 pub struct Tags {
     pub tags: [u16; PER_TIMESLOT],
     pub tag_count: u8,
 }
 
-// Records in the order in which they are taken: where each stands among those at hand.
-#[derive(Clone, Copy)]
-pub struct Order {
-    pub at: [u8; PER_TIMESLOT],
-    pub count: usize,
-}
-
-impl Order {
-    pub const NONE: Order = Order {
-        at: [0; PER_TIMESLOT],
-        count: 0,
-    };
-}
-
 // What stays, with the places that it comes from, and the tags of what is finished.
+// Kept: two arrays and a count, no list of pairs: the records are the timeslot's places as they are stored, the empty ones too, and the cells are moved
+// by the places.
 #[derive(Clone, Copy)]
 pub struct Progress {
     pub records: [Record; PER_TIMESLOT],
@@ -115,25 +104,27 @@ fn put_null(block: &mut [u8], at: usize, w: usize)
     mac_writer::put_null(block, at);
 }
 
-// Sends records in this order, and then the null PDU. Once one has written nothing, none starts fragments.
-fn send_all(
+// Builds a block of `w` bits of records in the order in which they are taken, each by where it stands among those merged, and then the null PDU.
+// All octets of the block are written. Once a record has written nothing, none starts fragments.
+pub fn build_records(
     block: &mut [u8],
     w: usize,
     store: &[u8],
     first: usize,
     merged: &Merged,
-    order: &Order,
+    order: &[u8],
 ) -> Progress
-    requires can_send { CanSend (length block.old) w store.now first (records_at order.now.at merged.now.records)
-        (places_at order.now.at merged.now.from) order.now.count }
-    requires by_index { (i : ℕ) → i < order.now.count → get_or order.now.at i 0 < per_timeslot }
-    ensures { SentInto (bits_of block.old) (bits_of block.new) result
-        (sent_of store.now first w (records_at order.now.at merged.now.records) (places_at order.now.at merged.now.from) order.now.count) }
+    requires can_send { CanSend (length block.old) w store.now first (records_at order.now merged.now.records)
+        (places_at order.now merged.now.from) (length order.now) }
+    requires by_index { (i : ℕ) → i < length order.now → get_or order.now i 0 < per_timeslot }
+    ensures { BuiltAs (length block.old) block.new result
+        (sent_of store.now first w (records_at order.now merged.now.records) (places_at order.now merged.now.from) (length order.now)) }
 {
+    block.fill(0);
     let mut progress = Progress::NONE;
     let mut at = 0;
     let mut may_start = true;
-    for stands in &order.at[..order.count] {
+    for stands in order {
         let r = merged.records[*stands as usize];
         let place = merged.from[*stands as usize];
         let cell = first + place as usize % PER_TIMESLOT;
@@ -144,23 +135,4 @@ fn send_all(
     }
     put_null(block, at, w);
     progress
-}
-
-// Builds a block of `w` bits of records in this order; all its octets are written.
-pub fn build_records(
-    block: &mut [u8],
-    w: usize,
-    store: &[u8],
-    first: usize,
-    merged: &Merged,
-    order: &Order,
-) -> Progress
-    requires can_send { CanSend (length block.old) w store.now first (records_at order.now.at merged.now.records)
-        (places_at order.now.at merged.now.from) order.now.count }
-    requires by_index { (i : ℕ) → i < order.now.count → get_or order.now.at i 0 < per_timeslot }
-    ensures { BuiltAs (length block.old) block.new result
-        (sent_of store.now first w (records_at order.now.at merged.now.records) (places_at order.now.at merged.now.from) order.now.count) }
-{
-    block.fill(0);
-    send_all(block, w, store, first, merged, order)
 }

@@ -3,167 +3,101 @@
 // says must come out.
 #![tactic(auto)]
 
-use dl_record::Record;
+use dl_record::TetraAddress;
+use interpreter::session::Session;
 use questions::Refusal;
 use sched_core::Station;
-use std::io;
+use show::{Hex, OrDash, Shown};
+use std::{fmt, io};
 use tdma_time::TdmaTime;
-use uplink::{AccessAssignUlUsage, PhyBlockNum};
+use uplink::PhyBlockNum;
 
-// A time of hyperframe 0, multiframe 1.
-fn at(f: u8, t: u8) -> TdmaTime {
-    TdmaTime { t, f, m: 1, h: 0 }
-}
+// What a call that reads answers: a refusal is told from a value.
+#[derive(Clone, Copy)]
+struct Answered<T>(Result<T, Refusal>);
 
-// The number of a refusal is the whole reply.
-fn refused(rt: &impl Print, r: Refusal) -> io::Result<()> {
-    show::number(rt, u8::from(r))
-}
-
-fn owner(rt: &impl Print, reply: Result<Option<u32>, Refusal>) -> io::Result<()> {
-    match reply {
-        Ok(number) => show::or_dash(rt, number),
-        Err(r) => {
-            show::word(rt, b" refused")?;
-            refused(rt, r)
+impl<T: fmt::Display> fmt::Display for Answered<T> {
+    fn fmt<W: fmt::Write>(&self, f: &mut fmt::Formatter<W>) -> fmt::Result {
+        match &self.0 {
+            Ok(x) => write!(f, "{x}"),
+            Err(r) => write!(f, "refused {}", u8::from(*r)),
         }
     }
 }
 
-fn usage(rt: &impl Print, reply: Result<AccessAssignUlUsage, Refusal>) -> io::Result<()> {
-    match reply {
-        Ok(AccessAssignUlUsage::CommonOnly) => show::word(rt, b" 0"),
-        Ok(AccessAssignUlUsage::CommonAndAssigned) => show::word(rt, b" 1"),
-        Ok(AccessAssignUlUsage::AssignedOnly) => show::word(rt, b" 2"),
-        Ok(AccessAssignUlUsage::Traffic(marker)) => print!(rt; " 3 {marker}"),
-        Err(r) => {
-            show::word(rt, b" refused")?;
-            refused(rt, r)
-        }
-    }
-}
-
-// The slot at a time: the owners of both halves, of the first and of the second, and the usage.
-fn slot(rt: &impl Print, s: Station, f: u8, t: u8) -> io::Result<()> {
+// The slot at a time of hyperframe 0, multiframe 1: the owners of both halves, of the first and of the second, and the usage.
+fn slot(rt: &impl Print, s: &Station, f: u8, t: u8) -> io::Result<()> {
     print!(rt; "slot {f} {t}: owner")?;
-    let time = at(f, t);
+    let time = TdmaTime::new(t, f, 1, 0);
     for half in [PhyBlockNum::Both, PhyBlockNum::Block1, PhyBlockNum::Block2] {
-        owner(rt, bs_sched::ul_get_slot_owner(s, time, half))?;
+        let owner = bs_sched::ul_get_slot_owner(s, time, half);
+        print!(rt; " {}", Answered(owner.map(OrDash)))?;
     }
-    show::word(rt, b", usage")?;
-    usage(rt, bs_sched::ul_get_usage(s, time))?;
-    show::end(rt)
+    let usage = bs_sched::ul_get_usage(s, time);
+    println!(rt; ", usage {}", Answered(usage.map(Shown)))
 }
 
 // Frame 1, the first slot of frame 2, and a time that there is not.
-fn slots(rt: &impl Print, s: Station) -> io::Result<()> {
+fn slots(rt: &impl Print, s: &Station) -> io::Result<()> {
     for (f, t) in [(1, 1), (1, 2), (1, 3), (1, 4), (2, 1), (19, 1)] {
         slot(rt, s, f, t)?;
     }
     Ok(())
 }
 
-// The station so many slots later.
-fn later(s: Station, slots: usize) -> Station {
-    (0..slots).fold(s, |s, _| bs_sched::advance(s).station)
+fn ack(rt: &impl Print, s: &mut Session, t: u8, kind: u8, number: u32) -> io::Result<()> {
+    let address = TetraAddress { kind, number };
+    let reply = bs_sched::dl_enqueue_random_access_ack(
+        &mut s.station,
+        &mut s.queue,
+        &s.store,
+        t,
+        address,
+    );
+    println!(rt; "ack {}", questions::number_of(reply))
 }
 
-// The station with its queue and store.
-#[derive(Drop)]
-struct Memory {
-    station: Station,
-    queue: [Record; sizes::QUEUE_PLACES],
-    store: [u8; sizes::STORE_OCTETS],
+fn request(rt: &impl Print, s: &mut Session, t: u8, code: u8, number: u32) -> io::Result<()> {
+    let address = TetraAddress { kind: 0, number };
+    let reply = bs_sched::ul_process_cap_req(
+        &mut s.station,
+        &mut s.queue,
+        &s.store,
+        t,
+        code,
+        address,
+    );
+    println!(rt; "request {}", Shown(reply.map(Shown)))
 }
 
-impl Memory {
-    // A new station at frame 1, timeslot 1, with nothing queued.
-    fn new() -> Memory {
-        Memory {
-            station: bs_sched::new(at(1, 1)).station,
-            queue: [Record::EMPTY; sizes::QUEUE_PLACES],
-            store: [0; sizes::STORE_OCTETS],
-        }
-    }
-
-    fn ack(&mut self, rt: &impl Print, t: u8, kind: u8, number: u32) -> io::Result<()> {
-        let answer = bs_sched::dl_enqueue_random_access_ack(
-            self.station,
-            &mut self.queue,
-            &self.store,
-            t,
-            kind,
-            number,
-        );
-        self.station = answer.station;
-        show::word(rt, b"ack")?;
-        match answer.reply {
-            Ok(()) => show::word(rt, b" 0")?,
-            Err(r) => refused(rt, r)?,
-        }
-        show::end(rt)
-    }
-
-    fn request(&mut self, rt: &impl Print, t: u8, code: u8, number: u32) -> io::Result<()> {
-        let answer = bs_sched::ul_process_cap_req(
-            self.station,
-            &mut self.queue,
-            &self.store,
-            t,
-            code,
-            0,
-            number,
-        );
-        self.station = answer.station;
-        show::word(rt, b"request")?;
-        match answer.reply {
-            Ok(g) => print!(rt;
-                " 0 {} {} {}",
-                g.capacity,
-                g.delay,
-                g.usage_marker.unwrap_or(0)
-            )?,
-            Err(r) => refused(rt, r)?,
-        }
-        show::end(rt)
-    }
-
-    fn build(&mut self, rt: &impl Print, block: &mut [u8]) -> io::Result<()> {
-        let answer = bs_sched::dl_build_block(
-            self.station,
-            &mut self.queue,
-            &mut self.store,
-            block,
-        );
-        self.station = answer.station;
-        show::word(rt, b"build")?;
-        match answer.reply {
-            Ok(Some(_)) => {
-                show::word(rt, b" 0")?;
-                show::octets(rt, block)?;
-            }
-            Ok(None) => show::word(rt, b" 0 -")?,
-            Err(r) => refused(rt, r)?,
-        }
-        show::end(rt)
+fn build(rt: &impl Print, s: &mut Session) -> io::Result<()> {
+    let mut block = [0; sizes::BLOCK_OCTETS];
+    let reply = bs_sched::dl_build_block(&mut s.station, &mut s.queue, &mut s.store, &mut block);
+    match reply {
+        Ok(Some(_)) => println!(rt; "build 0 {}", Hex(&block)),
+        Ok(None) => println!(rt; "build 0 -"),
+        Err(r) => println!(rt; "build {}", u8::from(r)),
     }
 }
 
 fn main(rt: HostRuntime) -> io::Result<()> {
-    let mut block = [0u8; sizes::BLOCK_OCTETS];
-    let mut memory = Memory::new();
-    memory.ack(&rt, 5, 0, 1)?;
-    memory.ack(&rt, 1, 3, 1)?;
-    memory.ack(&rt, 1, 0, 1)?;
-    memory.request(&rt, 1, 2, 1)?;
-    memory.request(&rt, 2, 0, 7)?;
-    memory.request(&rt, 3, 1, 9)?;
-    slots(&rt, memory.station)?;
-    memory.build(&rt, &mut block)?;
-    slots(&rt, later(memory.station, 4))?;
-    memory.station = later(memory.station, 1);
+    let mut s = Session::start();
+    ack(&rt, &mut s, 5, 0, 1)?;
+    ack(&rt, &mut s, 1, 3, 1)?;
+    ack(&rt, &mut s, 1, 0, 1)?;
+    request(&rt, &mut s, 1, 2, 1)?;
+    request(&rt, &mut s, 2, 0, 7)?;
+    request(&rt, &mut s, 3, 1, 9)?;
+    slots(&rt, &s.station)?;
+    build(&rt, &mut s)?;
+    let mut later = s.station;
+    for _ in 0..4 {
+        let _ = bs_sched::advance(&mut later);
+    }
+    slots(&rt, &later)?;
+    let _ = bs_sched::advance(&mut s.station);
     // An ack behind a grant for the same number: both stand in one header. The block is what the Rust printed for the same calls.
-    memory.request(&rt, 2, 1, 8)?;
-    memory.ack(&rt, 2, 0, 8)?;
-    memory.build(&rt, &mut block)
+    request(&rt, &mut s, 2, 1, 8)?;
+    ack(&rt, &mut s, 2, 0, 8)?;
+    build(&rt, &mut s)
 }

@@ -24,6 +24,7 @@ pub fn compute_required(total: usize, room: usize) -> usize
 }
 
 // Writes `n` fill bits from `at` on, a set bit and then clear ones, and returns the position behind them.
+// Kept: room and position as clauses, as in bitbuffer.
 pub fn write(buf: &mut [u8], at: usize, n: usize) -> usize
     requires { (at + n ≤ 8 * length buf.old) × (at + n < 2 ^ 64) }
     ensures { (result ≡ at + n) × Wrote (bits_of buf.old) at (bits_of buf.new) result (fill_bits n) }
@@ -31,7 +32,7 @@ pub fn write(buf: &mut [u8], at: usize, n: usize) -> usize
     if n == 0 {
         return at;
     }
-    bitbuffer::set_bit(buf, at, 1);
+    bitbuffer::set_bit(buf, at, true);
     bitbuffer::write_zeroes(buf, at + 1, n - 1);
     at + n
 }
@@ -41,8 +42,10 @@ fn fill_bits_at_end(buf: &[u8], start: usize, end: usize) -> usize
     requires { end ≤ 8 * length buf.now }
     ensures { result ≡ fill_at_end (bits_of buf.now) start end }
 {
+    // Kept: a loop. Tried `(start..end).rfind(..)` with `map_or`: that its answer is the last set bit is left to be shown from the runs of a
+    // range's `next_back`, of which the library has no lemma.
     for index in (start..end).rev() {
-        if bitbuffer::bit_at(buf, index) == 1 {
+        if bitbuffer::bit_at(buf, index) {
             return end - index;
         }
     }

@@ -4,8 +4,8 @@ use mathlib.Core.Bool.{Bool, ◌&&◌}
 use mathlib.Core.List.{List, [], ◌∷◌, ◌++◌}
 use Prim.Native.Nat.{ℕ, zero, suc, ◌+◌, ◌-◌, ◌*◌, ◌≤◌, ◌<◌}
 use native.Mathlib.Omega.{arith}
-use lib.ListN.{length, get_or, take, drop, replicate, length-append, length-replicate}
-use lib.Seq.{sets, sets-eq, length-take-le}
+use lib.ListN.{length, get_or, drop, replicate, length-append, length-replicate}
+use lib.Seq.{sets, sets-eq, take_all, take-append-le}
 use lib.Dec.{eqb}
 use lib.Pointwise.{pointwise}
 use Rattle.lists.proofs.Lists.{drop-replicate}
@@ -41,17 +41,23 @@ words-same (x ∷ v) (y ∷ w) = ap (λ (b : Bool). eqb x y && b) (words-same v 
 pub placed-size : (p : PlacedHeader) → length (placed_words p) ≡ header_word_count
 placed-size p = header-size p.at p.header
 
--- zeros, and over them the words of the first n
-pub listed-words : (n : ℕ) (ps : List PlacedHeader) → n ≤ most_pdus → length ps ≡ most_pdus
-    → sets (replicate list_word_count 0) 0 (words_of_all placed_words (take n ps)) ≡ list_words n ps
+-- the words of headers are those of a list that begins with them
+pub list-front : (ps qs : List PlacedHeader) → list_words (length ps) ps ≡ list_words (length ps) (ps ++ qs)
 unfolding list_words
-listed-words n ps few size =
-    let ws = words_of_all placed_words (take n ps) in
-    let m : length (take n ps) ≡ n = length-take-le n ps (omega arith) in
-    let long : length ws ≡ header_word_count * n = length-joined placed_words header_word_count placed-size (take n ps) ∙ omega (arith, m) in
+list-front ps qs = rw (take_all (length ps) ps (omega arith), take-append-le (length ps) ps qs (omega arith), take_all (length ps) ps (omega arith)) refl
+
+-- zeros, and over them the words of the headers
+pub listed-words : (ps : List PlacedHeader) → length ps ≤ most_pdus
+    → sets (replicate list_word_count 0) 0 (words_of_all placed_words ps) ≡ list_words (length ps) ps
+unfolding list_words
+listed-words ps few =
+    let n = length ps in
+    let ws = words_of_all placed_words ps in
+    let long : length ws ≡ header_word_count * n = length-joined placed_words header_word_count placed-size ps ∙ omega arith in
     let left : list_word_count - (0 + length ws) ≡ header_word_count * (most_pdus - n) = omega (arith, long) in
-    sets-eq ws (replicate list_word_count 0) 0 (omega (arith, long, length-replicate list_word_count (zero)))
-    ∙ ap (λ (l : List ℕ). ws ++ l) (drop-replicate (0 + length ws) list_word_count 0 ∙ ap (λ (k : ℕ). replicate k 0) left)
+    rw (take_all n ps (omega arith))
+    (sets-eq ws (replicate list_word_count 0) 0 (omega (arith, long, length-replicate list_word_count (zero)))
+    ∙ ap (λ (l : List ℕ). ws ++ l) (drop-replicate (0 + length ws) list_word_count 0 ∙ ap (λ (k : ℕ). replicate k 0) left))
 
 -- a turn of the loop that stores them
 pub headers-next : (ps : List PlacedHeader) (i : ℕ) → i < length ps → (l l' v : List ℕ) (d : PlacedHeader) → l' ≡ sets l (header_word_count * i) v

@@ -1,5 +1,5 @@
 -- THE ROUND TRIP of a header's words: a header and its words determine each other. Assumes nothing.
-use Rattle.std.proofs.Common.{Option, Some, None, unwrap_or}
+use Rattle.std.proofs.Common.{Option, Some, None, IfSome, unwrap_or}
 use mathlib.Core.Path.{◌≡◌, refl, ap, ◌∙◌}
 use mathlib.Core.Bool.{true}
 use mathlib.Core.List.{List, [], ◌∷◌}
@@ -10,7 +10,7 @@ use Rattle.mac_pdus.specs.declared.ResourceHeader.{ResourceHeader}
 use Rattle.mac_pdus.specs.declared.PduHeader.{PduHeader}
 use Rattle.mac_pdus.specs.Headers.{address_type}
 use Rattle.mac_pdus.specs.Legal.{number_of, label_of, usage_marker_of, writer_takes}
-use Rattle.mac_pdus.specs.Within.{OptWithin, AddressWithin, Frame18Within, OptChanAllocWithin, ResourceWithin, EndWithin}
+use Rattle.mac_pdus.specs.Within.{OptWithin, ChanAllocWithin, AddressWithin, Frame18Within, ResourceWithin, EndWithin}
 use Rattle.mac_pdus.proofs.LegalLaws.{taken-within}
 use Rattle.sched_words.specs.Words.{word_at, same_words}
 use Rattle.sched_words.proofs.RoundTrip.{same_refl, same-equal, small, opt-back}
@@ -42,7 +42,7 @@ frame18-fits : (pattern : ℕ) (o : Option ℕ) → Frame18Within pattern o → 
 frame18-fits pattern None h = tt
 frame18-fits pattern (Some v) h = omega (arith, h.1)
 
-alloc-fits : (o : Option ChanAllocElement) → OptChanAllocWithin o → AllocFits o
+alloc-fits : (o : Option ChanAllocElement) → IfSome o ChanAllocWithin → AllocFits o
 alloc-fits None h = tt
 alloc-fits (Some c) h =
     record {

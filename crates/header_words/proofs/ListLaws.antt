@@ -1,4 +1,5 @@
 -- What the block reader lists: at most sixteen headers, each inside the block. Assumes nothing.
+use Rattle.std.proofs.Common.{Ok, Err, Some, None}
 use mathlib.Core.Bool.{Bool, true, false, cond}
 use mathlib.Core.List.{List, [], ◌∷◌, ◌++◌}
 use Prim.Native.Nat.{ℕ, zero, suc, ◌+◌, ◌-◌, ◌≤◌, ◌<◌, ◌^◌}
@@ -8,9 +9,7 @@ use lib.ListN.{length, get_or, replicate}
 use Rattle.lists.proofs.Every.{All, all_append}
 use Rattle.sizes.specs.Sizes.{block_octets}
 use Rattle.mac_reader.specs.declared.PlacedHeader.{PlacedHeader}
-use Rattle.mac_reader.specs.declared.PduStep.{PduStep}
-use Rattle.mac_reader.specs.declared.PduStep.TheVariants.{Malformed, Last, More}
-use Rattle.mac_reader.specs.Reader.{Listing, refused, headers, before, on_step, pdu_at, read_pdus, most_pdus, block_pdus}
+use Rattle.mac_reader.specs.Reader.{Step, Listing, refused, headers, before, on_step, pdu_at, read_pdus, most_pdus, block_pdus}
 use Rattle.mac_reader.specs.Reader.{Reading, no_header, no_headers, reply_of, read_questions, read_block}
 use Rattle.mac_reader.proofs.ReadLoop.{Onward, pdu-on}
 use Rattle.questions.proofs.AskLaws.{ask-elim}
@@ -24,11 +23,11 @@ before-inside : (n w : ℕ) (p : PlacedHeader) (r : Listing) → p.at ≤ w → 
 before-inside n w p refused h g = tt
 before-inside n w p (headers ps) h g = (omega (arith, g.0), (h, g.1))
 
-step-inside : (n w at : ℕ) (s : PduStep) (k : ℕ → Listing) → at ≤ w → Onward w at s → ((next : ℕ) → next ≤ w → Inside n w (k next))
+step-inside : (n w at : ℕ) (s : Step) (k : ℕ → Listing) → at ≤ w → Onward w at s → ((next : ℕ) → next ≤ w → Inside n w (k next))
     → Inside (suc n) w (on_step s at k)
-step-inside n w at Malformed k h o f = tt
-step-inside n w at (Last x) k h o f = (omega arith, (h, tt))
-step-inside n w at (More x next) k h o f = before-inside n w _ (k next) h (f next o.1)
+step-inside n w at (Err r) k h o f = tt
+step-inside n w at (Ok (x, None)) k h o f = (omega arith, (h, tt))
+step-inside n w at (Ok (x, Some next)) k h o f = before-inside n w _ (k next) h (f next o.1)
 
 none_inside : (b : Bool) (n w : ℕ) (r : Listing) → Inside n w r → Inside n w (cond b (headers []) r)
 none_inside true n w r g = (omega arith, tt)

@@ -1,5 +1,6 @@
 -- WHAT THE BLOCK READER LISTS CAN BE WRITTEN: the words of each MAC-RESOURCE that it lists, handed to the header writer, are taken wherever there is
 -- room. Assumes nothing.
+use Rattle.std.proofs.Common.{Ok, Err, Some, None}
 use mathlib.Core.Path.{◌≡◌, refl, sym, ap, subst, ◌∙◌}
 use mathlib.Core.Bool.{Bool, true, false, cond, ◌&&◌, ◌||◌}
 use mathlib.Core.List.{List, [], ◌∷◌}
@@ -19,9 +20,8 @@ use Rattle.mac_pdus.proofs.Conjunctions.{and3, and10}
 use Rattle.mac_pdus.proofs.LegalLaws.{to_write, fields, on-air-again}
 use Rattle.mac_pdus.proofs.ReadLaws.{resource-parts, resource_parts, resource_next}
 use Rattle.mac_reader.specs.declared.PlacedHeader.{PlacedHeader}
-use Rattle.mac_reader.specs.declared.PduStep.{PduStep}
-use Rattle.mac_reader.specs.declared.PduStep.TheVariants.{Malformed, Last, More}
-use Rattle.mac_reader.specs.Reader.{octets_inside, header_end, starts_fragment, stops_after, well_placed, resource_step, end_step, end_at, fragment_at}
+use Rattle.questions.specs.declared.Refusal.{Refusal}
+use Rattle.mac_reader.specs.Reader.{Step, octets_inside, header_end, starts_fragment, well_placed, resource_step, end_step, end_at, fragment_at}
 use Rattle.mac_reader.specs.Reader.{of_type, pdu_at}
 use Rattle.mac_reader.specs.Reader.{Listing, refused, headers, before, on_step, read_pdus, most_pdus, block_pdus}
 use Rattle.mac_writer.specs.Writer.{room_for, write_questions, write_reply}
@@ -37,36 +37,30 @@ Taken (PduHeader.Resource r) = writer_takes r ≡ true
 Taken (PduHeader.Frag f) = Unit
 Taken (PduHeader.End e) = Unit
 
-abbrev StepTaken : PduStep → Type 0
-StepTaken Malformed = Unit
-StepTaken (Last h) = Taken h
-StepTaken (More h next) = Taken h
+abbrev StepTaken : Step → Type 0
+StepTaken (Err r) = Unit
+StepTaken (Ok (h, next)) = Taken h
 
 abbrev ListTaken : Listing → Type 0
 ListTaken refused = Unit
 ListTaken (headers ps) = All (λ (p : PlacedHeader). Taken p.header) ps
 
-if-true : (b : Bool) (s : PduStep) → (b ≡ true → StepTaken s) → StepTaken (cond b s Malformed)
+if-true : (b : Bool) (s : Step) → (b ≡ true → StepTaken s) → StepTaken (cond b s (Err Refusal.Malformed))
 if-true true s h = h refl
 if-true false s h = tt
-
-either : (b : Bool) (s t : PduStep) → StepTaken s → StepTaken t → StepTaken (cond b s t)
-either true s t h g = h
-either false s t h g = g
 
 resource-taken : (w at : ℕ) (r : ResourceHeader) (after : ℕ) → StepTaken (resource_step w at r after)
 unfolding resource_step well_placed
 resource-taken w at r after =
     if-true (well_placed w at r after) _ λ e.
     let inside = octets_inside w at r.length_ind && leb after (header_end w (at + 8 * r.length_ind)) in
-    let yes = (and3 (writer_takes r) (leb after w) (starts_fragment r || inside) e).0 in
-    either (stops_after r) _ _ yes yes
+    (and3 (writer_takes r) (leb after w) (starts_fragment r || inside) e).0
 
 end-taken : (w at : ℕ) (m : MacEndDl) (x y : ℕ) → StepTaken (end_step w at m x y)
 unfolding end_step
 end-taken w at m x y = if-true (eqb x 0 && eqb y 0 && octets_inside w at m.length_ind) _ λ e. tt
 
-zero-taken : (n : ℕ) (s t : PduStep) → StepTaken s → StepTaken t → StepTaken (if_zero n s t)
+zero-taken : (n : ℕ) (s t : Step) → StepTaken s → StepTaken t → StepTaken (if_zero n s t)
 zero-taken zero s t h g = h
 zero-taken (suc n) s t h g = g
 
@@ -89,10 +83,10 @@ before-taken : (p : PlacedHeader) (r : Listing) → Taken p.header → ListTaken
 before-taken p refused h g = tt
 before-taken p (headers ps) h g = (h, g)
 
-step-taken : (at : ℕ) (s : PduStep) (k : ℕ → Listing) → StepTaken s → ((next : ℕ) → ListTaken (k next)) → ListTaken (on_step s at k)
-step-taken at Malformed k h f = tt
-step-taken at (Last x) k h f = (h, tt)
-step-taken at (More x next) k h f = before-taken _ (k next) h (f next)
+step-taken : (at : ℕ) (s : Step) (k : ℕ → Listing) → StepTaken s → ((next : ℕ) → ListTaken (k next)) → ListTaken (on_step s at k)
+step-taken at (Err r) k h f = tt
+step-taken at (Ok (x, None)) k h f = (h, tt)
+step-taken at (Ok (x, Some next)) k h f = before-taken _ (k next) h (f next)
 
 none-taken : (b : Bool) (r : Listing) → ListTaken r → ListTaken (cond b (headers []) r)
 none-taken true r g = tt

@@ -6,29 +6,32 @@ ghost use Rattle.mac_pdus.specs.declared.PduHeader.{PduHeader};
 ghost use Rattle.mac_reader.specs.declared.PlacedHeader.{PlacedHeader};
 ghost use Rattle.mac_reader.specs.Reader.{most_pdus};
 ghost use Rattle.sched_words.specs.Words.{word_at};
-ghost use Rattle.header_words.specs.HeaderWords.{header_word_count, list_word_count, header_words, address_read, resource_read};
+ghost use Rattle.header_words.specs.HeaderWords.{header_words, address_read, resource_read};
 ghost use Rattle.header_words.specs.HeaderWords.{placed_words, list_words, resource_words, WordsWrittenAs};
 
-use mac_pdus::{Address, MacEndDl, MacFragDl, PduHeader, ResourceHeader};
+use mac_pdus::{Address, MacEndDl, MacFragDl, MacResource, PduHeader, ResourceHeader};
 use mac_reader::{MOST_PDUS, PlacedHeader};
 use questions::Refusal;
-use sched_words::queue;
 use sched_words::word::Field;
+use sched_words::{ALLOC_WORDS, queue};
 
 // The words of a header, and of the headers that a block may have.
 pub const HEADER_WORDS: usize = 24;
 
 pub const LIST_WORDS: usize = HEADER_WORDS * MOST_PDUS;
 
-// ---- a header as words
+// Where in a header's words its channel allocation begins.
+const HEADER_ALLOC: usize = 13;
 
-// Kept: the words are spelled out, as a record's are.
+// ---- a header as words
+// Kept: words by their number, as those of a record (queue.rt of sched_words).
+
 fn resource_words(at: u32, r: ResourceHeader) -> [u32; HEADER_WORDS]
     ensures { result ≡ header_words at (PduHeader.Resource r) }
 {
-    let h = mac_on_air::offered(r);
-    let a = queue::alloc_words(r.chan_alloc_element);
-    [
+    let h = MacResource::from(r);
+    let mut words = [0; HEADER_WORDS];
+    words[..HEADER_ALLOC].copy_from_slice(&[
         at,
         0,
         r.fill_bits.word(),
@@ -42,40 +45,37 @@ fn resource_words(at: u32, r: ResourceHeader) -> [u32; HEADER_WORDS]
         h.usage_marker.unwrap_or(0).word(),
         r.power_control_element.word(),
         r.slot_granting_element.word(),
-        a[0],
-        a[1],
-        a[2],
-        a[3],
-        a[4],
-        a[5],
-        a[6],
-        a[7],
-        a[8],
-        a[9],
-        0,
-    ]
+    ]);
+    words[HEADER_ALLOC..HEADER_ALLOC + ALLOC_WORDS].copy_from_slice(&queue::alloc_words(
+        r.chan_alloc_element,
+    ));
+    words
 }
 
 #[tactic(auto, unfolding(crate::specs::HeaderWords::header_words))]
 fn frag_words(at: u32, f: MacFragDl) -> [u32; HEADER_WORDS]
     ensures { result ≡ header_words at (PduHeader.Frag f) }
 {
-    let fill = f.fill_bits.word();
-    [
-        at, 1, fill, 0, 0, 0, 0, 0, 0, 0, 0, 0, 0, 0, 0, 0, 0, 0, 0, 0, 0, 0, 0, 0,
-    ]
+    let mut words = [0; HEADER_WORDS];
+    words[..3].copy_from_slice(&[at, 1, f.fill_bits.word()]);
+    words
 }
 
 #[tactic(auto, unfolding(crate::specs::HeaderWords::header_words))]
 fn end_words(at: u32, e: MacEndDl) -> [u32; HEADER_WORDS]
     ensures { result ≡ header_words at (PduHeader.End e) }
 {
-    let fill = e.fill_bits.word();
-    let position = e.pos_of_grant.word();
-    let len = e.length_ind.word();
-    [
-        at, 2, fill, position, 0, 0, len, 0, 0, 0, 0, 0, 0, 0, 0, 0, 0, 0, 0, 0, 0, 0, 0, 0,
-    ]
+    let mut words = [0; HEADER_WORDS];
+    words[..7].copy_from_slice(&[
+        at,
+        2,
+        e.fill_bits.word(),
+        e.pos_of_grant.word(),
+        0,
+        0,
+        e.length_ind.word(),
+    ]);
+    words
 }
 
 fn header_words(at: u32, h: PduHeader) -> [u32; HEADER_WORDS]
@@ -98,8 +98,7 @@ fn placed_words(p: PlacedHeader) -> [u32; HEADER_WORDS]
 
 // ---- and back
 
-fn address_read(words: &[u32]) -> Address
-    requires { length words.now ≡ header_word_count }
+fn address_read(words: &[u32; HEADER_WORDS]) -> Address
     ensures { result ≡ address_read (word_at words.now 7) words.now }
 {
     let number = words[8];
@@ -117,8 +116,7 @@ fn address_read(words: &[u32]) -> Address
     }
 }
 
-fn resource_read(words: &[u32]) -> ResourceHeader
-    requires { length words.now ≡ header_word_count }
+fn resource_read(words: &[u32; HEADER_WORDS]) -> ResourceHeader
     ensures { result ≡ resource_read words.now }
 {
     ResourceHeader {
@@ -130,29 +128,29 @@ fn resource_read(words: &[u32]) -> ResourceHeader
         address: address_read(words),
         power_control_element: Field::from_word(words[11]),
         slot_granting_element: Field::from_word(words[12]),
-        chan_alloc_element: queue::alloc_from(&words[13..]),
+        chan_alloc_element: queue::alloc_from(words[HEADER_ALLOC..].first_chunk().unwrap()),
     }
 }
 
 // Whether the words are those of the MAC-RESOURCE that is read from them: they are written again and compared.
-fn is_resource(words: &[u32], r: ResourceHeader) -> bool
-    requires { (length words.now ≡ header_word_count) × (r ≡ resource_read words.now) }
+fn is_resource(words: &[u32; HEADER_WORDS], r: ResourceHeader) -> bool
+    requires { r ≡ resource_read words.now }
     ensures { result ≡ resource_words words.now }
 {
-    let again = resource_words(words[0], r);
-    again.as_slice() == words
+    resource_words(words[0], r) == *words
 }
 
 // ---- the block reader's list
 
-// Stores the words of the first n headers, and zeros behind them.
-pub fn put_headers(words: &mut [u32], n: usize, headers: [PlacedHeader; MOST_PDUS])
-    requires { (length words.old ≡ list_word_count) × (n ≤ most_pdus) × ((i : ℕ) (p : PlacedHeader) → i < length headers
-        → (get_or headers i p).at < 2 ^ 32) }
-    ensures { words.new ≡ list_words n headers }
+// Stores the words of the headers, and zeros behind them.
+pub fn put_headers(words: &mut [u32; LIST_WORDS], headers: &[PlacedHeader])
+    requires { (length headers.now ≤ most_pdus) × ((i : ℕ) (p : PlacedHeader) → i < length headers.now
+        → (get_or headers.now i p).at < 2 ^ 32) }
+    ensures { words.new ≡ list_words (length headers.now) headers.now }
 {
     words.fill(0);
-    for (k, p) in headers[..n].iter().enumerate() {
+    // Kept: the place by `k`, since a proof knows no word after `chunks_exact_mut`.
+    for (k, p) in headers.iter().enumerate() {
         let at = HEADER_WORDS * k;
         words[at..at + HEADER_WORDS].copy_from_slice(&placed_words(*p));
     }
@@ -164,12 +162,10 @@ pub fn put_headers(words: &mut [u32], n: usize, headers: [PlacedHeader; MOST_PDU
 pub fn write_words(buf: &mut [u8], at: usize, words: &[u32]) -> Result<usize, Refusal>
     ensures { WordsWrittenAs buf.old at words.now result buf.new }
 {
-    if words.len() != HEADER_WORDS {
-        return Err(Refusal::Lengths);
-    }
+    let words = words.as_array().ok_or(Refusal::Lengths)?;
     let r = resource_read(words);
     if !is_resource(words, r) {
         return Err(Refusal::Header);
     }
-    mac_header_writer::write_header(buf, at, mac_on_air::offered(r))
+    mac_header_writer::write_header(buf, at, MacResource::from(r))
 }

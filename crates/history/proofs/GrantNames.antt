@@ -74,9 +74,9 @@ address-number zero n label marker = ssi-number n label marker
 address-number (suc zero) n label marker = ssi-number n label marker
 address-number (suc (suc k)) n label marker = ssi-number n label marker
 
-header-number : (r : Record) (fill len : ℕ) → number_of (header_of r fill len).address ≡ r.number
+header-number : (r : Record) (fill len : ℕ) → number_of (header_of r fill len).address ≡ r.address.number
 unfolding header_of on_air
-header-number r fill len = address-number r.address_kind r.number r.header.event_label r.header.usage_marker
+header-number r fill len = address-number r.address.kind r.address.number r.header.event_label r.header.usage_marker
 
 header-grant : (r : Record) (fill len : ℕ) → (header_of r fill len).slot_granting_element ≡ r.header.slot_granting_element
 unfolding header_of on_air
@@ -110,11 +110,11 @@ module _ (R : ℕ → Option ℕ → Option ℕ → Type 0) (bare : (n : ℕ) �
   one_of name false false x y z p q r = r
 
   -- the header of a record
-  header-in : (r : Record) (name : Option ℕ) → R r.number r.header.slot_granting_element name → (fill len : ℕ)
+  header-in : (r : Record) (name : Option ℕ) → R r.address.number r.header.slot_granting_element name → (fill len : ℕ)
       → R (number_of (header_of r fill len).address) (header_of r fill len).slot_granting_element name
   header-in r name k fill len = rw (header-number r fill len, header-grant r fill len) k
 
-  begin-in : (may : Bool) (room : ℕ) (r : Record) (sdu : List ℕ) (name : Option ℕ) → R r.number r.header.slot_granting_element name
+  begin-in : (may : Bool) (room : ℕ) (r : Record) (sdu : List ℕ) (name : Option ℕ) → R r.address.number r.header.slot_granting_element name
       → AllIn name (begin may room r sdu).pdus
   unfolding begin begin_with header
   begin-in may room r sdu name k =
@@ -128,7 +128,7 @@ module _ (R : ℕ → Option ℕ → Option ℕ → Type 0) (bare : (n : ℕ) �
   unfolding continue header
   continue-in room r sdu name = one_of name (leb (end_octets (r.bits - r.sent) * 8) room) (ltb room 16) _ _ _ (bare 0, tt) tt (bare 0, tt)
 
-  next-in : (may : Bool) (room : ℕ) (r : Record) (sdu : List ℕ) (name : Option ℕ) → R r.number r.header.slot_granting_element name
+  next-in : (may : Bool) (room : ℕ) (r : Record) (sdu : List ℕ) (name : Option ℕ) → R r.address.number r.header.slot_granting_element name
       → AllIn name (next may room r sdu).pdus
   unfolding next
   next-in may room r sdu name k = go (is_started r.kind)

@@ -111,15 +111,15 @@ first-writes may room r sdu name e =
 -- a record of this kind and number, with a grant of this name
 record Has (kind : Kind) (number name : ℕ) (y : Item NamedSdu) : Type 0 where
   its-kind : y.rec.kind ≡ kind
-  its-number : y.rec.number ≡ number
+  its-number : y.rec.address.number ≡ number
   its-name : y.load.name ≡ Some name
 
 module _ (number name : ℕ) where
   -- y, queued behind, does not replace it
   abbrev Passes : Kind → Item NamedSdu → Type 0
-  Passes kind y = is_record kind && is_grant y.rec.kind && eqb y.rec.number number ≡ false
+  Passes kind y = is_record kind && is_grant y.rec.kind && eqb y.rec.address.number number ≡ false
 
-  joined-has : (kind : Kind) (g x : Item NamedSdu) → takes_number g.rec.number x.rec ≡ true → Passes kind g → Has kind number name x
+  joined-has : (kind : Kind) (g x : Item NamedSdu) → takes_number g.rec.address.number x.rec ≡ true → Passes kind g → Has kind number name x
       → Has kind number name (item (joined g.rec x.rec) (join_name g x.load))
   unfolding takes_number
   joined-has kind g x e p h = record { its-kind = h.its-kind; its-number = h.its-number; its-name = go g.rec.kind p }
@@ -127,11 +127,11 @@ module _ (number name : ℕ) where
       of-record : is_record kind ≡ true
       of-record = rw (← h.its-kind) (and_parts (is_record x.rec.kind) _ e).0
 
-      same : eqb g.rec.number number ≡ true
-      same = eq-eqb _ _ (sym (eqb-true x.rec.number g.rec.number (and_parts (is_record x.rec.kind) _ e).1) ∙ h.its-number)
+      same : eqb g.rec.address.number number ≡ true
+      same = eq-eqb _ _ (sym (eqb-true x.rec.address.number g.rec.address.number (and_parts (is_record x.rec.kind) _ e).1) ∙ h.its-number)
 
-      go : (k : Kind) → is_record kind && is_grant k && eqb g.rec.number number ≡ false → name_after k g.load.name x.load.name ≡ Some name
-      go Kind.Grant q = let t : is_record kind && is_grant Kind.Grant && eqb g.rec.number number ≡ true = rw (of-record, same) in not-both _ t q
+      go : (k : Kind) → is_record kind && is_grant k && eqb g.rec.address.number number ≡ false → name_after k g.load.name x.load.name ≡ Some name
+      go Kind.Grant q = let t : is_record kind && is_grant Kind.Grant && eqb g.rec.address.number number ≡ true = rw (of-record, same) in not-both _ t q
       go Kind.Ack q = h.its-name
       go Kind.Record q = h.its-name
       go Kind.Waiting q = h.its-name
@@ -141,9 +141,9 @@ module _ (number name : ℕ) where
       → Any (Has kind number name) (put_named g xs)
   unfolding put
   put_keeps kind g p [] h = absurd h
-  put_keeps kind g p (x ∷ xs) h = go (λ k. put_keeps kind g p xs k) (takes_number g.rec.number x.rec) refl h
+  put_keeps kind g p (x ∷ xs) h = go (λ k. put_keeps kind g p xs k) (takes_number g.rec.address.number x.rec) refl h
     where
-      go : (Any (Has kind number name) xs → Any (Has kind number name) (put_named g xs)) → (b : Bool) → takes_number g.rec.number x.rec ≡ b
+      go : (Any (Has kind number name) xs → Any (Has kind number name) (put_named g xs)) → (b : Bool) → takes_number g.rec.address.number x.rec ≡ b
           → Has kind number name x ⊎ Any (Has kind number name) xs
           → Any (Has kind number name) (cond b (item (joined g.rec x.rec) (join_name g x.load) ∷ xs) (x ∷ put_named g xs))
       go below true e (inl k) = inl (joined-has kind g x e p k)
@@ -161,9 +161,9 @@ module _ (number name : ℕ) where
   put_has : (g : Item NamedSdu) → Has Kind.Grant number name g → (xs : List (Item NamedSdu)) → Any (Has Kind.Record number name) (put_named g xs)
   unfolding put takes_number
   put_has g h [] = inl (record { its-kind = refl; its-number = h.its-number; its-name = h.its-name })
-  put_has g h (x ∷ xs) = go (put_has g h xs) (is_record x.rec.kind && eqb x.rec.number g.rec.number) refl
+  put_has g h (x ∷ xs) = go (put_has g h xs) (is_record x.rec.kind && eqb x.rec.address.number g.rec.address.number) refl
     where
-      go : Any (Has Kind.Record number name) (put_named g xs) → (b : Bool) → is_record x.rec.kind && eqb x.rec.number g.rec.number ≡ b
+      go : Any (Has Kind.Record number name) (put_named g xs) → (b : Bool) → is_record x.rec.kind && eqb x.rec.address.number g.rec.address.number ≡ b
           → Any (Has Kind.Record number name) (cond b (item (joined g.rec x.rec) (join_name g x.load) ∷ xs) (x ∷ put_named g xs))
       go below true e =
           inl
@@ -213,7 +213,7 @@ module _ (number name : ℕ) where
   abbrev Fate : List (Option ℕ) → List (Item NamedSdu) → Type 0
   Fate names left = Memᴰ (Some name) names ⊎ Any (Has Kind.Waiting number name) left
 
-  one-sent : (s : Next) (x : Item NamedSdu) (names : List (Option ℕ)) (left : List (Item NamedSdu)) → x.rec.number ≡ number
+  one-sent : (s : Next) (x : Item NamedSdu) (names : List (Option ℕ)) (left : List (Item NamedSdu)) → x.rec.address.number ≡ number
       → x.load.name ≡ Some name → Writes x.load.name s
       → Fate (map (name_in x.load.name) s.pdus ++ names) (staying s.outcome x ++ left)
   one-sent s x names left n e (inl m) = inl (Memᴰ.append_left names (Memᴰ.cast (sym e) m))
@@ -255,15 +255,15 @@ pub sent-or-pending : (w : ℕ) (front back : List (Item NamedSdu)) (g : Item Na
     ⊎ Memᴰ (Some name) (map pending (named_built w (front ++ g ∷ back)).left)
 unfolding named_built build_list
 sent-or-pending w front back g name e k =
-    ⊎_elim inl (λ a. inr (left-pending g.rec.number name (named_built w (front ++ g ∷ back)).left a))
-    (order-keeps g.rec.number name w (merge_named [] (front ++ g ∷ back)) (go g.rec.kind refl e k))
+    ⊎_elim inl (λ a. inr (left-pending g.rec.address.number name (named_built w (front ++ g ∷ back)).left a))
+    (order-keeps g.rec.address.number name w (merge_named [] (front ++ g ∷ back)) (go g.rec.kind refl e k))
   where
     go : (kind : Kind) → g.rec.kind ≡ kind → pending_as kind g.load.name ≡ Some name
-        → ((y : Item NamedSdu) → Memᴰ y back → is_grant kind && is_grant y.rec.kind && eqb y.rec.number g.rec.number ≡ false)
-        → Any (Has Kind.Record g.rec.number name) (merge_named [] (front ++ g ∷ back))
-        ⊎ Any (Has Kind.Waiting g.rec.number name) (merge_named [] (front ++ g ∷ back))
-    go Kind.Grant q n p = inl (merge-grant g.rec.number name front back g (record { its-kind = q; its-number = refl; its-name = n }) p)
+        → ((y : Item NamedSdu) → Memᴰ y back → is_grant kind && is_grant y.rec.kind && eqb y.rec.address.number g.rec.address.number ≡ false)
+        → Any (Has Kind.Record g.rec.address.number name) (merge_named [] (front ++ g ∷ back))
+        ⊎ Any (Has Kind.Waiting g.rec.address.number name) (merge_named [] (front ++ g ∷ back))
+    go Kind.Grant q n p = inl (merge-grant g.rec.address.number name front back g (record { its-kind = q; its-number = refl; its-name = n }) p)
     go Kind.Ack q n p = absurd (no_name n)
     go Kind.Record q n p = absurd (no_name n)
-    go Kind.Waiting q n p = inr (merge-waiting g.rec.number name front back g (record { its-kind = q; its-number = refl; its-name = n }))
+    go Kind.Waiting q n p = inr (merge-waiting g.rec.address.number name front back g (record { its-kind = q; its-number = refl; its-name = n }))
     go Kind.Started q n p = absurd (no_name n)

@@ -49,7 +49,7 @@ bare-good : (x : TdmaTime) (xs : List Call) (t : ℕ) (y : Item NamedSdu) → ab
     → y.load.name ≡ None → Good x xs t y
 bare-good x xs t y e n = rw n (go y.rec.header.slot_granting_element e)
   where
-    go : (grant : Option ℕ) → absent grant ≡ true → Faithful x xs t y.rec.number grant None
+    go : (grant : Option ℕ) → absent grant ≡ true → Faithful x xs t y.rec.address.number grant None
     go None e = tt
     go (Some octet) e = not-both false e refl
 
@@ -76,7 +76,7 @@ origin-more x xs c o =
 good_more : (x : TdmaTime) (xs : List Call) (c : Call) (t : ℕ) (y : Item NamedSdu) → Good x xs t y → Good x (xs ++ c ∷ []) t y
 good_more x xs c t y = go y.rec.header.slot_granting_element y.load.name
   where
-    go : (grant : Option ℕ) (name : Option ℕ) → Faithful x xs t y.rec.number grant name → Faithful x (xs ++ c ∷ []) t y.rec.number grant name
+    go : (grant : Option ℕ) (name : Option ℕ) → Faithful x xs t y.rec.address.number grant name → Faithful x (xs ++ c ∷ []) t y.rec.address.number grant name
     go None None p = tt
     go None (Some k) p = absurd p
     go (Some octet) None p = absurd p

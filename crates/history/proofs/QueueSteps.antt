@@ -13,7 +13,7 @@ use Rattle.dl_queue.proofs.EnqueueLaws.{cell-joins, empty-joins}
 use Rattle.sizes.specs.Sizes.{per_timeslot, cell_octets, timeslot_octets}
 use Rattle.bitbuffer.specs.Bits.{bits_of}
 use Rattle.bitbuffer.proofs.Laws.{length-bits_of}
-use Rattle.uplink.specs.declared.CapAnswer.{CapAnswer}
+use Rattle.uplink.specs.Request.{CapAnswer}
 use Rattle.uplink.specs.declared.Grant.{Grant}
 use Rattle.uplink.specs.Request.{Verdict, no_run, too_late, grant, reply_to, answer}
 use Rattle.dl_record.specs.declared.Record.{Record}
@@ -28,7 +28,8 @@ use Rattle.questions.specs.declared.Refusal.{Refusal}
 use Rattle.questions.specs.Questions.{Question, ask}
 use Rattle.questions.proofs.AskLaws.{ask-both}
 use Rattle.sched_core.specs.Station.{advanced_station}
-use Rattle.sched_core.specs.Questions.{Memory, memory, legal_timeslot, queued_for, request_questions, ack_questions, tma_questions}
+use Rattle.tdma_time.specs.Time.{legal_timeslot}
+use Rattle.sched_core.specs.Questions.{Memory, memory, queued_for, request_questions, ack_questions, tma_questions}
 use Rattle.sched_core.specs.Replies.{done, refused}
 use Rattle.sched_core.specs.Calls.{Outcome, outcome, grant_queued, request_answered, request_call, advance_call, advance_memory}
 use Rattle.sched_core.specs.Calls.{with_record, with_sdu, ack_call, tma_call}

@@ -7,7 +7,7 @@ use native.Mathlib.Omega.{arith}
 use Rattle.tdma_time.specs.declared.TdmaTime.{TdmaTime}
 use Rattle.tdma_time.specs.Time.{Valid, cycle, slot_of, clock, next_time}
 use Rattle.tdma_time.proofs.TimeLaws.{slot_of-time_of, time_of-valid, slot_of-below}
-use Rattle.uplink.specs.declared.CapAnswer.{CapAnswer}
+use Rattle.uplink.specs.Request.{CapAnswer}
 use Rattle.uplink.specs.declared.Uplink.{Uplink}
 use Rattle.uplink.specs.Search.{Run}
 use Rattle.uplink.specs.UplinkEntry.{Table, table_view}

@@ -152,4 +152,4 @@ pending y = pending_as y.rec.kind y.load.name
 
 -- "A grant replaces the grant there": y, queued behind the grant g, is a grant for its number
 abbrev pub replaces : Item NamedSdu → Item NamedSdu → Bool
-replaces y g = is_grant g.rec.kind && is_grant y.rec.kind && eqb y.rec.number g.rec.number
+replaces y g = is_grant g.rec.kind && is_grant y.rec.kind && eqb y.rec.address.number g.rec.address.number

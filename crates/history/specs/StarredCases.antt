@@ -5,7 +5,7 @@ use Rattle.sizes.specs.Sizes.{timeslots, block_width}
 use Rattle.questions.specs.declared.Refusal.{Refusal}
 use Rattle.tdma_time.specs.declared.TdmaTime.{TdmaTime}
 use Rattle.tdma_time.specs.Time.{slot_of, frame, frames_on, next_time}
-use Rattle.uplink.specs.declared.CapAnswer.{CapAnswer}
+use Rattle.uplink.specs.Request.{CapAnswer}
 use Rattle.uplink.specs.declared.Grant.{Grant}
 use Rattle.uplink.specs.declared.Uplink.{Uplink}
 use Rattle.uplink.specs.HalfSlot.{Half, first_half, second_half}
@@ -86,8 +86,7 @@ abbrev pub ssi_only : ℕ → Record
 ssi_only bits =
     record {
       kind = Kind.Record;
-      address_kind = 0;
-      number = 1;
+      address = record { kind = 0; number = 1 };
       tag = None;
       header = grant_header 0 None None;
       bits = bits;

@@ -8,7 +8,7 @@ use lib.ListN.{length, get_or, take, drop, replicate}
 use lib.Seq.{paste}
 use Rattle.lists.proofs.Every.{All, all_take, all_drop, all_append}
 use Rattle.sizes.specs.Sizes.{per_timeslot, cell_octets, block_width}
-use Rattle.uplink.specs.declared.CapAnswer.{CapAnswer}
+use Rattle.uplink.specs.Request.{CapAnswer}
 use Rattle.std.proofs.Common.{Result, Ok, Err}
 use Rattle.uplink.specs.declared.Grant.{Grant}
 use Rattle.questions.specs.declared.Refusal.{Refusal}

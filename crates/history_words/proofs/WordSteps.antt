@@ -152,7 +152,7 @@ module _ (m : Memory) (h : SoundMemory m) (t : All Tagged m.records) where
 
   -- an offer of 23 words
   abbrev offered : ℕ → List ℕ → List ℕ → Memory → Outcome
-  offered n rs sdu x = let r = offered_from rs in tma_call x n r.address_kind r.number r.tag r.header r.bits sdu
+  offered n rs sdu x = let r = offered_from rs in tma_call x n r.address.kind r.address.number r.tag r.header r.bits sdu
 
   abbrev offered_left : ℕ → List ℕ → List ℕ → Memory → Left ℕ
   offered_left n rs sdu x = words_left_by reply_number ws qs st (offered n rs sdu x)
@@ -239,7 +239,7 @@ module _ (m : Memory) (h : SoundMemory m) (t : All Tagged m.records) where
       let r = offered_from rs in
       enqueue-asks n rs sdu ∙ enqueue-yes n rs sdu e
       ∙ left_by reply_number (offered n rs sdu m)
-      (every-queueing-queues.tma m n r.address_kind r.number r.tag r.header r.bits sdu).refusal
+      (every-queueing-queues.tma m n r.address.kind r.address.number r.tag r.header r.bits sdu).refusal
 
   enqueue-same : (n : ℕ) (rs sdu : List ℕ) → left_as (enqueue_left ws qs st n rs sdu)
       ≡ words_left (words_of (run memory_step (calls_of (enqueue n rs sdu)) m)) (reply_in m (enqueue n rs sdu))

@@ -26,7 +26,7 @@ ack_offer t kind n = record { timeslot = t; kind = kind; number = n }
 -- the record that words offer
 abbrev pub record_offer : ℕ → Record → List ℕ → call.RecordOffer
 record_offer t r sdu =
-    record { timeslot = t; kind = r.address_kind; number = r.number; tag = r.tag; header = r.header; bits = r.bits; octets = sdu }
+    record { timeslot = t; kind = r.address.kind; number = r.address.number; tag = r.tag; header = r.header; bits = r.bits; octets = sdu }
 
 -- an offer of another number of words is no call; the owners of a slot are read by three
 abbrev pub calls_of : WordCall → List Call

@@ -1,10 +1,10 @@
 -- A stream that is cut anywhere comes to the same as the whole. Assumes nothing.
-use mathlib.Core.Path.{◌≡◌, refl, sym, ap, ◌∙◌}
+use mathlib.Core.Path.{◌≡◌, refl, sym, ap, subst, ◌∙◌}
 use mathlib.Core.Bool.{Bool, false, cond}
 use mathlib.Core.List.{List, ◌++◌, append_assoc}
 use Prim.Native.Nat.{ℕ, zero, suc, ◌+◌, ◌≤◌, ◌<◌}
 use native.Mathlib.Omega.{arith}
-use lib.ListN.{length, drop, length-append, get_or-append}
+use lib.ListN.{length, take, drop, length-append, length-take, take-append-drop, get_or-append}
 use lib.Seq.{drop-append-le}
 use borrow.Author.Tests.{le-leb}
 use Rattle.std.proofs.Common.{Option, Some, None, Result}
@@ -13,7 +13,7 @@ use Rattle.sched_core.specs.Questions.{Memory}
 use Rattle.interpreter.specs.declared.command.Command.{Command}
 use Rattle.interpreter.specs.declared.command.UnknownCommand.{UnknownCommand}
 use Rattle.interpreter.specs.declared.session.Session.{Session}
-use Rattle.interpreter.specs.Slotrun.{memory_of, Step, step, new_step, request_step, queue_step, staged, stage_line, time_given, octet, two_octets}
+use Rattle.interpreter.specs.Slotrun.{memory_of, Step, step, stepped, new_step, request_step, queue_step, staged, stage_line, time_given, octet, two_octets}
 use Rattle.interpreter.specs.Slotrun.{four_octets, stage_kept, operand_count, with_operands, first_command, is_found, is_whole, step_found, first_step}
 use Rattle.interpreter.specs.Slotrun.{behind_found, behind_first, Ran, ran, printed_before}
 use Rattle.interpreter.specs.Turns.{whole_commands, turn}
@@ -70,6 +70,15 @@ step_cut s Command.Request ops b h = ap (stage_kept s) (request-cut (memory_of s
 step_cut s Command.Stage ops b h = rw (staged-cut s.stage ops b h, stage-line-cut ops b h)
 step_cut s Command.Queue ops b h = ap (stage_kept s) (queue-cut (memory_of s) s.stage ops b h)
 step_cut s Command.Build ops b h = refl
+
+-- what it does by those alone is what it does
+pub step-own : (s s' : Session) (text ops own : List ℕ) (command c : Command) → command ≡ c → operand_count command ≤ length ops
+    → own ≡ take (operand_count c) ops → stepped s' text ≡ step s c own → stepped s' text ≡ step s command ops
+step-own s s' text ops own command c e h o done =
+    let n = operand_count c in
+    let fits : n ≤ length ops = subst (λ (k : Command). operand_count k ≤ length ops) e h in
+    done ∙ ap (step s c) o ∙ sym (step_cut s c (take n ops) (drop n ops) (omega (arith, length-take n ops))) ∙ ap (step s c) (take-append-drop n ops)
+    ∙ ap (λ (k : Command). step s k ops) (sym e)
 
 -- ---- octets behind a whole command
 

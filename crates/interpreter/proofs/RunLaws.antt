@@ -18,6 +18,7 @@ use Rattle.interpreter.specs.declared.command.UnknownCommand.{UnknownCommand}
 use Rattle.interpreter.specs.declared.session.Session.{Session}
 use Rattle.interpreter.specs.Slotrun.{Step, step, stepped, command_of, operand_count, with_operands, first_command, is_found, is_whole, step_found, first_step}
 use Rattle.interpreter.specs.Slotrun.{behind_found, behind_first, Ran, ran, printed_before, commands}
+use Rattle.interpreter.specs.Text.{line_octets}
 use Rattle.interpreter.specs.Runs.{Runs}
 use Rattle.interpreter.proofs.StepLaws.{put_written}
 
@@ -100,7 +101,7 @@ pub record Running (input : List ℕ) (s₀ s : Session) (out₀ out rest : List
   pub text : List ℕ
   pub wrote : Wrote out₀ 0 out count text
   pub run : commands (length input) s₀ input ≡ printed_before text (commands (length rest) s rest)
-  pub room : count + 173 * length rest ≤ 173 * length input
+  pub room : count + line_octets * length rest ≤ line_octets * length input
 
 pub running-start : (input : List ℕ) (s : Session) (out : List ℕ) → Running input s s out out input 0
 unfolding written
@@ -120,7 +121,7 @@ module _ {input : List ℕ} {s₀ s : Session} {out₀ out rest : List ℕ} {cou
   size = ap length f.whole
 
   -- there is room for a line
-  pub room-left : count + 173 ≤ 173 * length input
+  pub room-left : count + line_octets ≤ line_octets * length input
   room-left = omega (arith, k.room, size)
 
   -- as the code takes what is behind the operands
@@ -135,8 +136,8 @@ module _ {input : List ℕ} {s₀ s : Session} {out₀ out rest : List ℕ} {cou
       k.whole ∙ ap (λ (l : List ℕ). k.front ++ l) (f.whole ∙ ap (λ (l : List ℕ). f.octet ∷ l) (sym (take-append-drop m x.1)))
       ∙ sym (append_assoc k.front (f.octet ∷ take m x.1) (drop m x.1))
 
-  next : (s' : Session) (line : List ℕ) (n : ℕ) → stepped s' line ≡ step s x.0 x.1 → length line ≤ 173 → n ≡ length line
-      → 173 * length input ≤ length out
+  next : (s' : Session) (line : List ℕ) (n : ℕ) → stepped s' line ≡ step s x.0 x.1 → length line ≤ line_octets → n ≡ length line
+      → line_octets * length input ≤ length out
       → Running input s₀ s' out₀ (put_mid count n out line) (drop m x.1) (count + length line)
   next s' line n e few num fits =
       record {
@@ -153,8 +154,8 @@ module _ {input : List ℕ} {s₀ s : Session} {out₀ out rest : List ℕ} {cou
         room = omega (arith, k.room, size, length-drop m x.1);
       }
 
-  pub running-turn : (s' : Session) (line copied : List ℕ) (n i end : ℕ) → stepped s' line ≡ step s x.0 x.1 → length line ≤ 173 → copied ≡ line
-      → n ≡ length line → i ≡ m → end ≡ count + length line → 173 * length input ≤ length out
+  pub running-turn : (s' : Session) (line copied : List ℕ) (n i end : ℕ) → stepped s' line ≡ step s x.0 x.1 → length line ≤ line_octets → copied ≡ line
+      → n ≡ length line → i ≡ m → end ≡ count + length line → line_octets * length input ≤ length out
       → Running input s₀ s' out₀ (put_mid count n out copied) (take (length x.1 - i) (drop i x.1)) end
   running-turn s' line copied n i end e few same num many ends fits = rw (same, ends, behind-operands i many) (next s' line n e few num fits)
 

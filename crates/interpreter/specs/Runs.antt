@@ -3,6 +3,7 @@ use Rattle.std.specs.Prelude.{◌≡◌, List, ℕ, ◌*◌, ◌≤◌, length, 
 use Rattle.bitbuffer.specs.Bits.{Wrote}
 use Rattle.interpreter.specs.declared.session.RunAnswer.{RunAnswer}
 use Rattle.interpreter.specs.declared.session.Session.{Session}
+use Rattle.interpreter.specs.Text.{line_octets}
 use Rattle.interpreter.specs.Slotrun.{Ran}
 
 -- a run over `input` has taken the commands at its front, and printed what they print
@@ -11,4 +12,4 @@ pub record Runs (x : Ran) (r : RunAnswer) (input : List ℕ) (s : Session) (out 
   pub printed : Wrote out 0 out' r.count x.printed
   pub left : drop r.taken input ≡ x.left
   pub inside : r.taken ≤ length input
-  pub room : r.count ≤ 173 * length input
+  pub room : r.count ≤ line_octets * length input

@@ -2,6 +2,10 @@
 use Rattle.std.specs.Prelude.{List, [], ◌∷◌, ◌++◌, ℕ, decimal}
 use Rattle.hex.specs.Hex.{encode_lower}
 
+-- the most octets of a line: "B", " 0", a space and the block's 68 digits, sixteen tags of six octets each at most, and the end
+abbrev pub line_octets : ℕ
+line_octets = 173
+
 -- a field in decimal, after a space
 abbrev pub number : ℕ → List ℕ
 number n = 32 ∷ decimal n

@@ -64,11 +64,12 @@ pub fn first_command(input: &[u8]) -> Option<(Command, &[u8])>
 }
 
 // The number of two octets, the high one first.
+// Kept: one function for each size, since `from_be_bytes` is each type's own, and no trait has it.
 pub fn two_octets(s: &[u8], at: usize) -> u16
     requires { at + 2 ≤ length s.now }
     ensures { result ≡ two_octets s.now at }
 {
-    u16::from_be_bytes([s[at], s[at + 1]])
+    u16::from_be_bytes(*s[at..].first_chunk().unwrap())
 }
 
 // The number of four octets, the high one first.
@@ -76,5 +77,5 @@ pub fn four_octets(s: &[u8], at: usize) -> u32
     requires { at + 4 ≤ length s.now }
     ensures { result ≡ four_octets s.now at }
 {
-    u32::from_be_bytes([s[at], s[at + 1], s[at + 2], s[at + 3]])
+    u32::from_be_bytes(*s[at..].first_chunk().unwrap())
 }

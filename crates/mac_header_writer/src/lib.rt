@@ -4,11 +4,9 @@
 ghost use Rattle.std.specs.Prelude.{◌≡◌, ◌≤◌};
 ghost use Rattle.mac_writer.specs.Writer.{room_for, WrittenAs};
 
-use mac_pdus::MacResource;
+use mac_pdus::{MacResource, ResourceHeader};
 use questions::Refusal;
-
-// An address has 24 bits.
-const NUMBERS: u32 = 1 << 24;
+use sizes::ADDRESS_NUMBERS;
 
 // Whether `n` bits from bit `at` on stand in that many octets.
 #[tactic(auto, unfolding(mac_writer::specs::Writer::room_for))]
@@ -23,13 +21,13 @@ fn room_for(octets: usize, at: usize, n: usize) -> bool
 pub fn write_header(buf: &mut [u8], at: usize, h: MacResource) -> Result<usize, Refusal>
     ensures { WrittenAs buf.old at h result buf.new }
 {
-    if h.number >= NUMBERS {
+    if h.number >= ADDRESS_NUMBERS {
         return Err(Refusal::Address);
     }
     if !mac_legal::legal_to_write(h) {
         return Err(Refusal::Header);
     }
-    let r = mac_on_air::on_air(h);
+    let r = ResourceHeader::from(h);
     if !room_for(buf.len(), at, r.compute_header_len()) {
         return Err(Refusal::NoRoom);
     }

@@ -3,9 +3,10 @@
 
 ghost use Rattle.std.specs.Prelude.{◌≡◌};
 ghost use Rattle.mac_pdus.specs.Legal.{opt_below, label_fits, legal_frame18, legal_chan_alloc, legal_opt_chan_alloc, within_widths, all_absent, legal_parts};
-ghost use Rattle.mac_pdus.specs.Legal.{legal_fields, parts_to_write, legal_to_write, queued_kind, legal_queued, legal_offered};
+ghost use Rattle.mac_pdus.specs.Legal.{legal_fields, parts_to_write, legal_to_write, writer_takes, queued_kind, legal_queued, legal_offered};
 
-use mac_pdus::{AddressKind, ChanAllocElement, MacResource};
+use mac_pdus::{AddressKind, ChanAllocElement, MacResource, ResourceHeader};
+use sizes::ADDRESS_NUMBERS;
 
 // Whether an optional number is absent or below the limit.
 pub fn opt_below(limit: u16, number: Option<u8>) -> bool
@@ -64,7 +65,7 @@ fn within_widths(h: MacResource) -> bool
         && h.encryption_mode < 4
         && h.random_access_flag < 2
         && h.length_ind < 64
-        && h.number < 16777216
+        && h.number < ADDRESS_NUMBERS
         && label_fits(h.event_label)
         && opt_below(64, h.usage_marker)
         && opt_below(16, h.power_control_element)
@@ -125,6 +126,14 @@ pub fn legal_to_write(h: MacResource) -> bool
     ensures { result ≡ legal_to_write h }
 {
     legal_fields(h) && 0 < h.length_ind && parts_to_write(h)
+}
+
+// Whether the header writer would take a header of the air.
+#[tactic(auto, unfolding(mac_pdus::specs::Legal::writer_takes))]
+pub fn writer_takes(r: ResourceHeader) -> bool
+    ensures { result ≡ writer_takes r }
+{
+    legal_to_write(MacResource::from(r))
 }
 
 // Whether a queued record can have this kind of address.

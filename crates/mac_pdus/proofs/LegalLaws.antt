@@ -1,5 +1,5 @@
 -- A legal header has its fields within their widths; what is offered comes back from the air, and what is on the air is offered again. Assumes nothing.
-use Rattle.std.proofs.Common.{Option, Some, None}
+use Rattle.std.proofs.Common.{Option, Some, None, IfSome}
 use mathlib.Core.Path.{◌≡◌, refl, sym, ap, ◌∙◌, subst}
 use mathlib.Core.Bool.{Bool, true, not, ◌&&◌, ◌||◌}
 use Prim.Native.Nat.{ℕ, ◌^◌, ◌<◌}
@@ -12,7 +12,7 @@ use Rattle.mac_pdus.specs.declared.ChanAllocElement.{ChanAllocElement}
 use Rattle.mac_pdus.specs.declared.ResourceHeader.{ResourceHeader}
 use Rattle.mac_pdus.specs.declared.MacResource.{MacResource}
 use Rattle.mac_pdus.specs.Headers.{address_type}
-use Rattle.mac_pdus.specs.Within.{OptWithin, AddressWithin, Frame18Within, ChanAllocWithin, OptChanAllocWithin, NullWithin, ResourceWithin}
+use Rattle.mac_pdus.specs.Within.{OptWithin, AddressWithin, Frame18Within, ChanAllocWithin, NullWithin, ResourceWithin}
 use Rattle.mac_pdus.specs.Legal.{fits, absent, opt_fits, label_fits, has_address, legal_frame18, legal_chan_alloc}
 use Rattle.mac_pdus.specs.Legal.{legal_opt_chan_alloc, within_widths, all_absent, legal_parts, legal_fields, parts_to_write, legal_to_write}
 use Rattle.mac_pdus.specs.Legal.{address_on_air, on_air, kind_of, number_of, label_of, usage_marker_of, offered, read_kind, as_read, writer_takes}
@@ -88,7 +88,7 @@ chan-alloc-within c h =
       frame18_mon_pattern = frame18-within c.mon_pattern c.frame18_mon_pattern p.9;
     }
 
-opt-chan-alloc-within : (a : Option ChanAllocElement) → legal_opt_chan_alloc a ≡ true → OptChanAllocWithin a
+opt-chan-alloc-within : (a : Option ChanAllocElement) → legal_opt_chan_alloc a ≡ true → IfSome a ChanAllocWithin
 opt-chan-alloc-within None h = tt
 opt-chan-alloc-within (Some c) h = chan-alloc-within c h
 

@@ -1,6 +1,7 @@
 -- How many bits the header's parts take. Assumes nothing.
-use Rattle.std.proofs.Common.{Option, Some, None}
-use mathlib.Core.Path.{◌≡◌, refl, sym}
+use Rattle.std.proofs.Common.{Option, Some, None, IsSomeAnd, MatchOption}
+use Rattle.std.specs.Option.{option_and}
+use mathlib.Core.Path.{◌≡◌, refl, sym, ap}
 use mathlib.Core.List.{List, [], ◌++◌}
 use Prim.Native.Nat.{ℕ, zero, suc, ◌+◌, ◌≤◌}
 use native.Mathlib.Omega.{arith}
@@ -109,6 +110,17 @@ header-some r a b c d z ea eb ec ed =
     rw (if-not-zero (address_type r.address) 0 (opt_length 4 r.power_control_element + opt_length 8
     r.slot_granting_element + opt_chan_alloc_length r.chan_alloc_element) z)
     (omega arith)
+
+-- an element with its flag, from its own length: one length for all, or each value's
+pub flagged : {A : Type 0} (m : Option A) (k : ℕ) → optional_length (λ n. n) (option_and m (Some k)) ≡ optional_length (λ v. k) m
+flagged None k = refl
+flagged (Some v) k = refl
+
+pub flagged-each : {A : Type 0} (size : A → ℕ) (is : A → ℕ → Type 0) (m : Option A) (n : Option ℕ) → ((v : A) (k : ℕ) → is v k → k ≡ size v)
+    → MatchOption m (n ≡ None) (λ v. IsSomeAnd n (is v)) → optional_length (λ k. k) n ≡ optional_length size m
+flagged-each size is None n f e = ap (optional_length (λ k. k)) e
+flagged-each size is (Some v) None f e = absurd e
+flagged-each size is (Some v) (Some k) f e = ap (λ (i : ℕ). 1 + i) (f v k e)
 
 -- ---- bounds
 

@@ -7,11 +7,10 @@ use native.Mathlib.Omega.{arith}
 use Rattle.bitbuffer.specs.Bits.{bits_value, part, field}
 use Rattle.mac_pdus.specs.declared.Address.{Address}
 use Rattle.mac_pdus.specs.declared.ChanAllocElement.{ChanAllocElement}
-use Rattle.mac_pdus.specs.declared.Elements.{Elements}
 use Rattle.mac_pdus.specs.Headers.{if_zero, address_type, opt_at, address_of, address_at}
 use Rattle.mac_pdus.specs.Headers.{chan_alloc_at, opt_chan_alloc_at, elements_at, opt_length, address_length}
 use Rattle.mac_pdus.specs.Headers.{chan_alloc_length, opt_chan_alloc_length, header_length}
-use Rattle.mac_pdus.proofs.ReadLaws.{opt_read, address_read, chan_alloc_read, opt_chan_alloc_read}
+use Rattle.mac_pdus.proofs.ReadLaws.{Elements, opt_read, address_read, chan_alloc_read, opt_chan_alloc_read}
 use Rattle.mac_pdus.proofs.ReadLaws.{elements_of, elements_read, chan-alloc-run, elements-then, resource_parts}
 use Rattle.mac_pdus.proofs.ReadLaws.{resource_next}
 
@@ -93,8 +92,8 @@ module _ (l : List ℕ) where
       go (suc b) = element
 
   -- how many bits the elements have
-  elements_length : Elements × ℕ → ℕ
-  elements_length t = opt_length 4 t.0.power_control_element + opt_length 8 t.0.slot_granting_element + opt_chan_alloc_length t.0.chan_alloc_element
+  elements_length : Elements → ℕ
+  elements_length t = opt_length 4 t.0.0 + opt_length 8 t.0.1 + opt_chan_alloc_length t.0.2
 
   elements-next : (n at : ℕ) → (elements_read n l at).1 ≡ at + if_zero n 0 (elements_length (elements_read n l at))
   unfolding elements_at elements_length
@@ -103,8 +102,8 @@ module _ (l : List ℕ) where
       let p = opt_read 4 l at in
       let g = opt_read 8 l p.1 in
       let a = opt_chan_alloc_read l g.1 in
-      subst (λ (t : Elements × ℕ). t.1 ≡ at + elements_length t)
-      (elements-then {X = Elements × ℕ} (suc n) l at p g a elements_of (λ z. omega arith) refl refl refl)
+      subst (λ (t : Elements). t.1 ≡ at + elements_length t)
+      (elements-then {X = Elements} (suc n) l at p g a elements_of (λ z. omega arith) refl refl refl)
       (omega (arith, opt-next 4 at, opt-next 8 p.1, opt-chan-alloc-next g.1))
 
   pub resource-next : (at : ℕ) → resource_next l at ≡ at + header_length (resource_parts l at)

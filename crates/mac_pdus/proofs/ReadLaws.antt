@@ -7,7 +7,6 @@ use native.Mathlib.Omega.{arith}
 use Rattle.bitbuffer.specs.Bits.{bits_value, part, field}
 use Rattle.mac_pdus.specs.declared.Address.{Address}
 use Rattle.mac_pdus.specs.declared.ChanAllocElement.{ChanAllocElement}
-use Rattle.mac_pdus.specs.declared.Elements.{Elements}
 use Rattle.mac_pdus.specs.declared.ResourceHeader.{ResourceHeader}
 use Rattle.mac_pdus.specs.Headers.{if_zero, address_type, opt_at, address_of, address_at, chan_alloc_at, opt_chan_alloc_at, elements_at, resource_at}
 
@@ -84,22 +83,26 @@ elements-then n l at p g a k h ep eg ea =
     ∙ goes-on (λ y z. opt_chan_alloc_at l z (λ x z. k p.0 y x z)) eg (opt-run 8 l p.1 _)
     ∙ goes-on (λ w z. opt_at 8 l z (λ y z. opt_chan_alloc_at l z (λ x z. k w y x z))) ep (opt-run 4 l at _))
 
-abbrev pub elements_of : Option ℕ → Option ℕ → Option ChanAllocElement → ℕ → Elements × ℕ
-elements_of p g a next = (record { power_control_element = p; slot_granting_element = g; chan_alloc_element = a }, next)
+-- the optional elements, and the position after them
+abbrev pub Elements : Type 0
+Elements = (Option ℕ × Option ℕ × Option ChanAllocElement) × ℕ
 
-abbrev pub elements_read : ℕ → List ℕ → ℕ → Elements × ℕ
+abbrev pub elements_of : Option ℕ → Option ℕ → Option ChanAllocElement → ℕ → Elements
+elements_of p g a next = ((p, g, a), next)
+
+abbrev pub elements_read : ℕ → List ℕ → ℕ → Elements
 elements_read n l at = elements_at n l at elements_of
 
-pub elements-resume {ℓ} : {X : Type ℓ} (n : ℕ) (l : List ℕ) (at : ℕ) (t : Elements × ℕ) (k : Option ℕ → Option ℕ → Option ChanAllocElement → ℕ → X)
-    → t ≡ elements_read n l at → k t.0.power_control_element t.0.slot_granting_element t.0.chan_alloc_element t.1 ≡ elements_at n l at k
+pub elements-resume {ℓ} : {X : Type ℓ} (n : ℕ) (l : List ℕ) (at : ℕ) (t : Elements) (k : Option ℕ → Option ℕ → Option ChanAllocElement → ℕ → X)
+    → t ≡ elements_read n l at → k t.0.0 t.0.1 t.0.2 t.1 ≡ elements_at n l at k
 unfolding elements_at
-elements-resume zero l at t k e = ap (λ (x : Elements × ℕ). k x.0.power_control_element x.0.slot_granting_element x.0.chan_alloc_element x.1) e
+elements-resume zero l at t k e = ap (λ (x : Elements). k x.0.0 x.0.1 x.0.2 x.1) e
 elements-resume (suc n) l at t k e =
     let p = opt_read 4 l at in
     let g = opt_read 8 l p.1 in
     let a = opt_chan_alloc_read l g.1 in
     let some : suc n ≡ 0 → ⊥ = λ z. omega arith in
-    ap (λ (x : Elements × ℕ). k x.0.power_control_element x.0.slot_granting_element x.0.chan_alloc_element x.1)
+    ap (λ (x : Elements). k x.0.0 x.0.1 x.0.2 x.1)
     (e ∙ sym (elements-then (suc n) l at p g a elements_of some refl refl refl))
     ∙ elements-then (suc n) l at p g a k some refl refl refl
 
@@ -115,9 +118,9 @@ resource_parts l at =
       random_access_flag = bits_value (part l (at + 2 + 1 + 1 + 2) 1);
       length_ind = bits_value (part l (at + 2 + 1 + 1 + 2 + 1) 6);
       address = a.0;
-      power_control_element = t.0.power_control_element;
-      slot_granting_element = t.0.slot_granting_element;
-      chan_alloc_element = t.0.chan_alloc_element;
+      power_control_element = t.0.0;
+      slot_granting_element = t.0.1;
+      chan_alloc_element = t.0.2;
     }
 
 abbrev pub resource_next : List ℕ → ℕ → ℕ

@@ -1,5 +1,5 @@
 -- The header that was written is the header that is read. Assumes nothing.
-use Rattle.std.proofs.Common.{Option, Some, None}
+use Rattle.std.proofs.Common.{Option, Some, None, IfSome}
 use mathlib.Core.Path.{◌≡◌, refl, sym, ap, ◌∙◌}
 use mathlib.Core.List.{List, ◌++◌, append_assoc}
 use Prim.Native.Nat.{ℕ, zero, suc, ◌+◌, ◌≤◌}
@@ -16,7 +16,7 @@ use Rattle.mac_pdus.specs.Headers.{optional_at, opt_bits, opt_at, address_bits, 
 use Rattle.mac_pdus.specs.Headers.{chan_alloc_at, opt_chan_alloc_bits, opt_chan_alloc_at, fixed_bits, resource_bits, resource_at, header_length}
 use Rattle.mac_pdus.proofs.ReadLaws.{resource_parts, resource-parts}
 use Rattle.mac_pdus.proofs.NextLaws.{resource-next}
-use Rattle.mac_pdus.specs.Within.{Frame18Within, NullWithin, OptWithin, AddressWithin, ChanAllocWithin, OptChanAllocWithin, ResourceWithin}
+use Rattle.mac_pdus.specs.Within.{Frame18Within, NullWithin, OptWithin, AddressWithin, ChanAllocWithin, ResourceWithin}
 
 optional-back {ℓ} : {A : Type 0} {X : Type ℓ} (element_at : List ℕ → ℕ → (A → ℕ → X) → X) (bits : A → List ℕ) (m : Option A)
     → ((v : A) → m ≡ Some v → Back element_at (bits v) v) → Back (λ l at k. optional_at element_at l at k) (optional_bits bits m) m
@@ -82,14 +82,14 @@ chan-alloc-back c h l at rest k P e go =
     }) at)
     P e₈ go
 
-pub opt-chan-alloc-back {ℓ} : {X : Type ℓ} (a : Option ChanAllocElement) → OptChanAllocWithin a
+pub opt-chan-alloc-back {ℓ} : {X : Type ℓ} (a : Option ChanAllocElement) → IfSome a ChanAllocWithin
     → Back {X = X} (λ l at k. opt_chan_alloc_at l at k) (opt_chan_alloc_bits a) a
 unfolding opt_chan_alloc_bits opt_chan_alloc_at
 opt-chan-alloc-back a h = optional-back (λ l at k. chan_alloc_at l at k) chan_alloc_bits a λ c e. chan-alloc-back c (rw e at h)
 
 -- ---- the header
 elements-back {ℓ} : {X : Type ℓ} (n : ℕ) (p g : Option ℕ) (a : Option ChanAllocElement) → OptWithin 4 p → OptWithin 8 g
-    → OptChanAllocWithin a → NullWithin n p g a
+    → IfSome a ChanAllocWithin → NullWithin n p g a
     → (l : List ℕ) (at : ℕ) (rest : List ℕ) (k : Option ℕ → Option ℕ → Option ChanAllocElement → ℕ → X) (P : X → Type 0)
     → drop at l ≡ elements_bits n p g a ++ rest
     → ((after : ℕ) → drop after l ≡ rest → P (k p g a after)) → P (elements_at n l at k)

@@ -135,10 +135,10 @@ resource_bits r =
     ++ (address_bits r.address
     ++ elements_bits (address_type r.address) r.power_control_element r.slot_granting_element r.chan_alloc_element)
 
--- the header at `at` of the bits `l`, given to `k` with the position after it
-unfoldable pub resource_at {ℓ} : {X : Type ℓ} → List ℕ → ℕ → (ResourceHeader → ℕ → X) → X
-resource_at l at k =
-    field l at 2 λ t at. field l at 1 λ fill at. field l at 1 λ position at. field l at 2 λ encryption at. field l at 1 λ random at.
+-- the header whose fields behind its type stand at `at` of the bits `l`, given to `k` with the position after it
+abbrev pub resource_fields_at {ℓ} : {X : Type ℓ} → List ℕ → ℕ → (ResourceHeader → ℕ → X) → X
+resource_fields_at l at k =
+    field l at 1 λ fill at. field l at 1 λ position at. field l at 2 λ encryption at. field l at 1 λ random at.
     field l at 6 λ length at. address_at l at λ address at. elements_at (address_type address) l at λ power grant alloc at.
     k
     (record {
@@ -153,6 +153,10 @@ resource_at l at k =
       chan_alloc_element = alloc;
     })
     at
+
+-- the header at `at`
+unfoldable pub resource_at {ℓ} : {X : Type ℓ} → List ℕ → ℕ → (ResourceHeader → ℕ → X) → X
+resource_at l at k = field l at 2 λ t at. resource_fields_at l at k
 
 -- "a null PDU (octets 00 10 hexadecimal)"
 abbrev pub null_header : ResourceHeader

@@ -1,5 +1,5 @@
 -- Headers whose fields have their widths: what can be written, and is read back. Assumes nothing.
-use Rattle.std.specs.Prelude.{◌≡◌, ℕ, ◌^◌, ◌<◌, Option, Some, None}
+use Rattle.std.specs.Prelude.{◌≡◌, ℕ, ◌^◌, ◌<◌, Option, Some, None, IfSome}
 use Rattle.mac_pdus.specs.declared.Address.{Address}
 use Rattle.mac_pdus.specs.declared.Address.TheVariants.{Null, Ssi, EventLabel, Ussi, Smi, SsiEventLabel, SsiUsageMarker, SmiEventLabel}
 use Rattle.mac_pdus.specs.declared.ChanAllocElement.{ChanAllocElement}
@@ -8,8 +8,7 @@ use Rattle.mac_pdus.specs.declared.MacEndDl.{MacEndDl}
 use Rattle.mac_pdus.specs.Headers.{if_zero, address_type}
 
 abbrev pub OptWithin : ℕ → Option ℕ → Type 0
-OptWithin w None = Unit
-OptWithin w (Some v) = v < 2 ^ w
+OptWithin w o = IfSome o (λ v. v < 2 ^ w)
 
 abbrev pub AddressWithin : Address → Type 0
 AddressWithin Null = Unit
@@ -37,10 +36,6 @@ pub record ChanAllocWithin (c : ChanAllocElement) : Type 0 where
   pub mon_pattern : c.mon_pattern < 2 ^ 2
   pub frame18_mon_pattern : Frame18Within c.mon_pattern c.frame18_mon_pattern
 
-abbrev pub OptChanAllocWithin : Option ChanAllocElement → Type 0
-OptChanAllocWithin None = Unit
-OptChanAllocWithin (Some c) = ChanAllocWithin c
-
 -- a null has no elements
 abbrev pub NullWithin : ℕ → Option ℕ → Option ℕ → Option ChanAllocElement → Type 0
 NullWithin type power grant alloc = if_zero type ((power ≡ None) × (grant ≡ None) × (alloc ≡ None)) Unit
@@ -54,7 +49,7 @@ pub record ResourceWithin (r : ResourceHeader) : Type 0 where
   pub address : AddressWithin r.address
   pub power_control_element : OptWithin 4 r.power_control_element
   pub slot_granting_element : OptWithin 8 r.slot_granting_element
-  pub chan_alloc_element : OptChanAllocWithin r.chan_alloc_element
+  pub chan_alloc_element : IfSome r.chan_alloc_element ChanAllocWithin
   pub null : NullWithin (address_type r.address) r.power_control_element r.slot_granting_element r.chan_alloc_element
 
 pub record EndWithin (e : MacEndDl) : Type 0 where

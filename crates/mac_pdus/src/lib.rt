@@ -1,8 +1,10 @@
 // The headers of the downlink signalling PDUs (EN 300 392-2, 21.4.3): MAC-RESOURCE with the null PDU, MAC-FRAG and MAC-END, and how many bits they have.
 #![tactic(auto)]
 
-ghost use Rattle.std.specs.Prelude.{◌≡◌, ◌+◌, ◌≤◌};
-ghost use Rattle.mac_pdus.specs.Headers.{address_type, opt_length, address_length, chan_alloc_length, opt_chan_alloc_length, header_length};
+ghost use Rattle.std.specs.Prelude.{◌≡◌, ◌≤◌, eqb, IfSome};
+ghost use Rattle.mac_pdus.specs.Headers.{address_type, optional_length, address_length, chan_alloc_length, header_length};
+
+mod air;
 
 // ---- types
 
@@ -20,7 +22,7 @@ pub enum Address {
 }
 
 // A channel allocation element (21.5.2).
-#[derive(Clone, Copy)]
+#[derive(Clone, Copy, PartialEq, Eq)]
 pub struct ChanAllocElement {
     pub alloc_type: u8,
     pub ts_assigned: u8,
@@ -34,6 +36,10 @@ pub struct ChanAllocElement {
 }
 
 // A MAC-RESOURCE header (21.4.3.1) as the air carries it; the null PDU is the one with address type 0.
+// Kept: the last three fields stand flat, as in the table of 21.4.3.1 and in the Rust original. As one struct they would save four lines in the two
+// conversions of `air`, and each place that speaks of one of them, some forty here and above, would name that struct as well.
+// Kept: a flag is a number, here and in the other headers, as each field is one of so many bits: all are read, written, printed and put into words by
+// their width alone, and question 6 refuses an offered flag above 1. As a bool each of these places would turn it into a number or back.
 #[derive(Clone, Copy)]
 pub struct ResourceHeader {
     pub fill_bits: u8,
@@ -79,6 +85,8 @@ pub enum AddressKind {
 }
 
 // A MAC-RESOURCE header as a caller offers it; one without a kind of address has a label alone, or is the null PDU.
+// Kept: the elements stand flat, as in `ResourceHeader`.
+// Kept: the number stands beside an optional kind, since question 6 refuses a number without a kind: as one option of both it could not be offered.
 #[derive(Clone, Copy)]
 pub struct MacResource {
     pub fill_bits: u8,
@@ -95,12 +103,22 @@ pub struct MacResource {
     pub chan_alloc_element: Option<ChanAllocElement>,
 }
 
-// The elements that may follow an address.
-#[derive(Clone, Copy)]
-pub struct Elements {
-    pub power_control_element: Option<u8>,
-    pub slot_granting_element: Option<u8>,
-    pub chan_alloc_element: Option<ChanAllocElement>,
+impl MacResource {
+    // The null PDU.
+    pub const NULL: MacResource = MacResource {
+        fill_bits: 0,
+        pos_of_grant: 0,
+        encryption_mode: 0,
+        random_access_flag: 0,
+        length_ind: 2,
+        address_kind: None,
+        number: 0,
+        event_label: None,
+        usage_marker: None,
+        power_control_element: None,
+        slot_granting_element: None,
+        chan_alloc_element: None,
+    };
 }
 
 // ---- lengths
@@ -123,6 +141,14 @@ impl Address {
         }
     }
 
+    // Whether it is that of a null PDU: none.
+    #[tactic(auto, unfolding(crate::specs::Headers::address_type))]
+    pub fn is_null(self) -> bool
+        ensures { result ≡ eqb (address_type self) 0 }
+    {
+        matches!(self, Address::Null)
+    }
+
     // How many bits the address type and the address take.
     fn length(self) -> usize
         ensures { (result ≡ address_length self) × (result ≤ 37) }
@@ -137,14 +163,6 @@ impl Address {
     }
 }
 
-// How many bits an optional element of `width` bits takes with its flag.
-fn opt_length(width: usize, element: Option<u8>) -> usize
-    requires { width ≤ 64 }
-    ensures { (result ≡ opt_length width element) × (result ≤ 1 + width) }
-{
-    element.map_or(1, |_| 1 + width)
-}
-
 impl ChanAllocElement {
     // How many bits a channel allocation element takes: two more with the frame-18 pattern.
     fn length(self) -> usize
@@ -154,11 +172,12 @@ impl ChanAllocElement {
     }
 }
 
-// How many bits an optional channel allocation takes with its flag.
-fn opt_chan_alloc_length(alloc: Option<ChanAllocElement>) -> usize
-    ensures { (result ≡ opt_chan_alloc_length alloc) × (result ≤ 28) }
+// How many bits an optional element takes with its flag, from how many it takes itself.
+fn with_flag(length: Option<usize>) -> usize
+    requires { IfSome length (λ n. n ≤ 27) }
+    ensures { (result ≡ optional_length (λ n. n) length) × (result ≤ 28) }
 {
-    alloc.map_or(1, |c| 1 + c.length())
+    length.map_or(1, |n| 1 + n)
 }
 
 impl ResourceHeader {
@@ -167,12 +186,12 @@ impl ResourceHeader {
         ensures { (result ≡ header_length self) × (result ≤ 92) }
     {
         let before = 13 + self.address.length();
-        if self.address.addr_type() == 0 {
+        if self.address.is_null() {
             return before;
         }
         before
-            + opt_length(4, self.power_control_element)
-            + opt_length(8, self.slot_granting_element)
-            + opt_chan_alloc_length(self.chan_alloc_element)
+            + with_flag(self.power_control_element.and(Some(4)))
+            + with_flag(self.slot_granting_element.and(Some(8)))
+            + with_flag(self.chan_alloc_element.map(ChanAllocElement::length))
     }
 }

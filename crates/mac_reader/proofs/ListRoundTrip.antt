@@ -1,4 +1,5 @@
 -- The headers of a block that was built are the headers that are read. Assumes nothing.
+use Rattle.std.proofs.Common.{Ok, Some, None}
 use mathlib.Core.Path.{◌≡◌, refl, sym, ap, ◌∙◌}
 use mathlib.Core.Bool.{true, or-true}
 use mathlib.Core.Logic.{◌⊎◌, ⊎_elim}
@@ -14,14 +15,12 @@ use Rattle.mac_pdus.specs.Headers.{address_type, fixed_bits, resource_bits, frag
 use Rattle.mac_pdus.proofs.RoundTrip.{resource-back}
 use Rattle.mac_pdus.proofs.ShortHeaders.{null_size}
 use Rattle.mac_pdus.specs.declared.PduHeader.{PduHeader}
-use Rattle.mac_reader.specs.declared.PduStep.{PduStep}
-use Rattle.mac_reader.specs.declared.PduStep.TheVariants.{Last, More}
 use Rattle.mac_pdus.specs.declared.MacFragDl.{MacFragDl}
 use Rattle.mac_pdus.specs.declared.MacEndDl.{MacEndDl}
 use Rattle.mac_pdus.specs.Within.{ResourceWithin, EndWithin}
 use Rattle.mac_pdus.specs.Legal.{within_widths, all_absent, legal_parts, legal_fields, legal_to_write, offered, writer_takes}
 use Rattle.mac_pdus.proofs.LegalLaws.{taken-within}
-use Rattle.mac_reader.specs.Reader.{octets_inside, header_end, starts_fragment, well_placed, resource_step}
+use Rattle.mac_reader.specs.Reader.{Step, octets_inside, header_end, starts_fragment, well_placed, resource_step}
 use Rattle.mac_reader.specs.Reader.{end_step, end_at, fragment_at, pdu_at, headers, before}
 use Rattle.mac_reader.specs.Reader.{read_pdus}
 use Rattle.mac_reader.proofs.Steps.{limit-end, limit-block, at-end, last-read, more-read}
@@ -39,29 +38,29 @@ pub resource-pdu : (r : ResourceHeader) (w at : ℕ) (l rest : List ℕ) → Res
     → pdu_at w l at ≡ resource_step w at r (at + length (resource_bits r))
 unfolding pdu_at resource_bits fixed_bits
 resource-pdu r w at l rest h e some =
-    field_back {X = PduStep} 2 0 (omega arith) l at _ _ (λ x. x ≡ resource_step w at r (at + length (resource_bits r))) (simp append_assoc at e) λ a d.
-    resource-back {X = PduStep} r h l at rest _ (λ x. x ≡ resource_step w at r (at + length (resource_bits r))) e λ after d.
+    field_back {X = Step} 2 0 (omega arith) l at _ _ (λ x. x ≡ resource_step w at r (at + length (resource_bits r))) (simp append_assoc at e) λ a d.
+    resource-back {X = Step} r h l at rest _ (λ x. x ≡ resource_step w at r (at + length (resource_bits r))) e λ after d.
     ap (resource_step w at r) (after_is l (resource_bits r) rest at after e d some)
 
-pub frag-pdu : (f : MacFragDl) (w at : ℕ) (l rest : List ℕ) → f.fill_bits < 2 → drop at l ≡ frag_bits f ++ rest → pdu_at w l at ≡ Last (PduHeader.Frag f)
+pub frag-pdu : (f : MacFragDl) (w at : ℕ) (l rest : List ℕ) → f.fill_bits < 2 → drop at l ≡ frag_bits f ++ rest → pdu_at w l at ≡ Ok (PduHeader.Frag f, None)
 unfolding pdu_at frag_bits fragment_at
 frag-pdu f w at l rest h e =
-    let P : PduStep → Type 0 = λ x. x ≡ Last (PduHeader.Frag f) in
-    field_back {X = PduStep} 2 1 (omega arith) l at _ _ P (simp append_assoc at e) λ a₁ e₁.
-    field_back {X = PduStep} 1 0 (omega arith) l a₁ _ _ P e₁ λ a₂ e₂.
-    field_back {X = PduStep} 1 f.fill_bits h l a₂ _ _ P e₂ λ a₃ e₃. refl
+    let P : Step → Type 0 = λ x. x ≡ Ok (PduHeader.Frag f, None) in
+    field_back {X = Step} 2 1 (omega arith) l at _ _ P (simp append_assoc at e) λ a₁ e₁.
+    field_back {X = Step} 1 0 (omega arith) l a₁ _ _ P e₁ λ a₂ e₂.
+    field_back {X = Step} 1 f.fill_bits h l a₂ _ _ P e₂ λ a₃ e₃. refl
 
 pub final-pdu : (m : MacEndDl) (w at : ℕ) (l rest : List ℕ) → EndWithin m → drop at l ≡ end_bits m ++ rest → pdu_at w l at ≡ end_step w at m 0 0
 unfolding pdu_at end_bits fragment_at end_at
 final-pdu m w at l rest h e =
-    let P : PduStep → Type 0 = λ x. x ≡ end_step w at m 0 0 in
-    field_back {X = PduStep} 2 1 (omega arith) l at _ _ P (simp append_assoc at e) λ a₁ e₁.
-    field_back {X = PduStep} 1 1 (omega arith) l a₁ _ _ P e₁ λ a₂ e₂.
-    field_back {X = PduStep} 1 m.fill_bits h.fill_bits l a₂ _ _ P e₂ λ a₃ e₃.
-    field_back {X = PduStep} 1 m.pos_of_grant h.pos_of_grant l a₃ _ _ P e₃ λ a₄ e₄.
-    field_back {X = PduStep} 6 m.length_ind h.length_ind l a₄ _ _ P e₄ λ a₅ e₅.
-    field_back {X = PduStep} 1 0 (omega arith) l a₅ _ _ P e₅ λ a₆ e₆.
-    field_back {X = PduStep} 1 0 (omega arith) l a₆ _ _ P e₆ λ a₇ e₇. refl
+    let P : Step → Type 0 = λ x. x ≡ end_step w at m 0 0 in
+    field_back {X = Step} 2 1 (omega arith) l at _ _ P (simp append_assoc at e) λ a₁ e₁.
+    field_back {X = Step} 1 1 (omega arith) l a₁ _ _ P e₁ λ a₂ e₂.
+    field_back {X = Step} 1 m.fill_bits h.fill_bits l a₂ _ _ P e₂ λ a₃ e₃.
+    field_back {X = Step} 1 m.pos_of_grant h.pos_of_grant l a₃ _ _ P e₃ λ a₄ e₄.
+    field_back {X = Step} 6 m.length_ind h.length_ind l a₄ _ _ P e₄ λ a₅ e₅.
+    field_back {X = Step} 1 0 (omega arith) l a₅ _ _ P e₅ λ a₆ e₆.
+    field_back {X = Step} 1 0 (omega arith) l a₆ _ _ P e₆ λ a₇ e₇. refl
 
 -- ---- what is asked of it
 
@@ -88,7 +87,7 @@ whole-placed w at head size r h k =
     (or-true (starts_fragment r))
 
 whole-step : (w at head size : ℕ) (r : ResourceHeader) → WholeFits w at r size → head ≤ size → resource_step w at r (at + head)
-    ≡ More (PduHeader.Resource r) (at + 8 * r.length_ind)
+    ≡ Ok (PduHeader.Resource r, Some (at + 8 * r.length_ind))
 unfolding resource_step
 whole-step w at head size r h k =
     rw (
@@ -98,7 +97,7 @@ whole-step w at head size r h k =
           (λ z. omega arith),
     )
 
-first_step : (w at head size : ℕ) (r : ResourceHeader) → FirstFits w at r size → head ≤ size → resource_step w at r (at + head) ≡ Last (PduHeader.Resource r)
+first_step : (w at head size : ℕ) (r : ResourceHeader) → FirstFits w at r size → head ≤ size → resource_step w at r (at + head) ≡ Ok (PduHeader.Resource r, None)
 unfolding resource_step well_placed
 first_step w at head size r h k =
     rw (
@@ -113,12 +112,12 @@ null-taken : writer_takes null_header ≡ true
 unfolding writer_takes offered legal_to_write legal_fields within_widths legal_parts all_absent
 null-taken = refl
 
-null-step : (w at : ℕ) → at + 16 ≤ w → resource_step w at null_header (at + 16) ≡ Last (PduHeader.Resource null_header)
+null-step : (w at : ℕ) → at + 16 ≤ w → resource_step w at null_header (at + 16) ≡ Ok (PduHeader.Resource null_header, None)
 unfolding resource_step well_placed address_type
 null-step w at h =
     rw (null-taken, le-leb (at + 16) w h, octets-pass w at 2 (omega arith) (omega arith) h, le-leb (at + 16) (header_end w (at + 16)) (limit-end w (at + 16) h))
 
-final-step : (w at : ℕ) (m : MacEndDl) (size : ℕ) → FinalFits w at m size → end_step w at m 0 0 ≡ More (PduHeader.End m) (at + 8 * m.length_ind)
+final-step : (w at : ℕ) (m : MacEndDl) (size : ℕ) → FinalFits w at m size → end_step w at m 0 0 ≡ Ok (PduHeader.End m, Some (at + 8 * m.length_ind))
 unfolding end_step
 final-step w at m size h = rw (octets-pass w at m.length_ind h.low h.high (omega arith))
 
@@ -158,32 +157,32 @@ none-behind w at (null ∷ ps) h f = absurd (omega arith)
 -- what the reader finds where each kind of PDU stands
 module _ (w at : ℕ) (l : List ℕ) (ps : List Pdu) (rest : List ℕ) (some : 0 < length rest) where
   whole-at : (r : ResourceHeader) (b : List ℕ) → WholeFits w at r (length (pdu_bits (whole r b))) → drop at l ≡ block_bits (whole r b ∷ ps) ++ rest
-      → pdu_at w l at ≡ More (PduHeader.Resource r) (at + 8 * r.length_ind)
+      → pdu_at w l at ≡ Ok (PduHeader.Resource r, Some (at + 8 * r.length_ind))
   unfolding header header_bits
   whole-at r b f e =
       resource-pdu r w at l _ (taken-within r f.sound.taken) (front l at (whole r b) ps rest e) (some_left (whole r b) ps rest some)
       ∙ whole-step w at (length (resource_bits r)) _ r f (head-size (whole r b))
 
   first-at : (r : ResourceHeader) (b : List ℕ) → FirstFits w at r (length (pdu_bits (first r b))) → drop at l ≡ block_bits (first r b ∷ ps) ++ rest
-      → pdu_at w l at ≡ Last (PduHeader.Resource r)
+      → pdu_at w l at ≡ Ok (PduHeader.Resource r, None)
   unfolding header header_bits
   first-at r b f e =
       resource-pdu r w at l _ (taken-within r f.sound.taken) (front l at (first r b) ps rest e) (some_left (first r b) ps rest some)
       ∙ first_step w at (length (resource_bits r)) _ r f (head-size (first r b))
 
-  null-at : at + 16 ≤ w → drop at l ≡ block_bits (null ∷ ps) ++ rest → pdu_at w l at ≡ Last (PduHeader.Resource null_header)
+  null-at : at + 16 ≤ w → drop at l ≡ block_bits (null ∷ ps) ++ rest → pdu_at w l at ≡ Ok (PduHeader.Resource null_header, None)
   unfolding header header_bits
   null-at h e =
       resource-pdu null_header w at l _ (taken-within null_header null-taken) (front l at null ps rest e) (some_left null ps rest some)
       ∙ ap (λ (n : ℕ). resource_step w at null_header (at + n)) null_size ∙ null-step w at h
 
   frag-at : (i : MacFragDl) (b : List ℕ) → FragFits w at i (length (pdu_bits (frag i b))) → drop at l ≡ block_bits (frag i b ∷ ps) ++ rest
-      → pdu_at w l at ≡ Last (PduHeader.Frag i)
+      → pdu_at w l at ≡ Ok (PduHeader.Frag i, None)
   unfolding header header_bits
   frag-at i b f e = frag-pdu i w at l _ f.fills (front l at (frag i b) ps rest e)
 
   final-at : (m : MacEndDl) (b : List ℕ) → FinalFits w at m (length (pdu_bits (final m b))) → drop at l ≡ block_bits (final m b ∷ ps) ++ rest
-      → pdu_at w l at ≡ More (PduHeader.End m) (at + 8 * m.length_ind)
+      → pdu_at w l at ≡ Ok (PduHeader.End m, Some (at + 8 * m.length_ind))
   unfolding header header_bits
   final-at m b f e =
       let h = f.high in

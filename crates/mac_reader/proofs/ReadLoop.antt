@@ -1,12 +1,13 @@
 -- The loop that reads a block. Assumes nothing.
+use Rattle.std.proofs.Common.{Ok, Err, Some, None}
 use mathlib.Core.Path.{◌≡◌, refl, sym, ap, ◌∙◌, subst}
 use mathlib.Core.Bool.{Bool, true, false, cond, ◌&&◌, ◌||◌}
 use mathlib.Core.List.{List, [], ◌∷◌, ◌++◌, append-nil}
 use Prim.Native.Nat.{ℕ, zero, suc, ◌+◌, ◌-◌, ◌*◌, ◌≤◌, ◌<◌}
 use native.Mathlib.Nat.{zero-add, suc-add}
 use native.Mathlib.Omega.{arith}
-use lib.ListN.{length, set, replicate, length-append}
-use lib.Seq.{append_snoc, set_at}
+use lib.ListN.{length, length-append}
+use lib.Seq.{append_snoc}
 use lib.Dec.{ltb, leb, eqb}
 use Rattle.sizes.specs.Sizes.{block_width}
 use Rattle.bitbuffer.specs.Bits.{bits_value, part, field}
@@ -14,38 +15,38 @@ use Rattle.mac_pdus.specs.declared.ResourceHeader.{ResourceHeader}
 use Rattle.mac_pdus.specs.Headers.{if_zero, address_type}
 use Rattle.mac_pdus.proofs.ReadLaws.{resource-parts, resource_parts, resource_next}
 use Rattle.mac_pdus.specs.declared.PduHeader.{PduHeader}
-use Rattle.mac_reader.specs.declared.PduStep.{PduStep}
-use Rattle.mac_reader.specs.declared.PduStep.TheVariants.{Malformed, Last, More}
+use Rattle.questions.specs.declared.Refusal.{Refusal}
+use Rattle.questions.specs.Questions.{refusal_number}
 use Rattle.mac_reader.specs.declared.PlacedHeader.{PlacedHeader}
 use Rattle.mac_pdus.specs.declared.MacEndDl.{MacEndDl}
 use Rattle.mac_pdus.specs.Legal.{writer_takes}
 use Rattle.mac_pdus.proofs.Conjunctions.{and2, and3}
-use Rattle.mac_reader.specs.Reader.{octets_inside, header_end, starts_fragment, stops_after, well_placed, resource_step, end_step, end_at, fragment_at, of_type}
-use Rattle.mac_reader.specs.Reader.{pdu_at, Listing, refused, headers, before, on_step, read_pdus, reading, no_header, no_headers, reply_of, most_pdus}
+use Rattle.mac_reader.specs.Reader.{Step, octets_inside, header_end, starts_fragment, stops_after, well_placed, resource_step, end_step, end_at, fragment_at, of_type}
+use Rattle.mac_reader.specs.Reader.{pdu_at, Listing, refused, headers, before, on_step, read_pdus, no_headers, reply_of, most_pdus}
 use Rattle.mac_reader.specs.Stands.{Octets}
 use Rattle.mac_reader.proofs.Steps.{at-end, last-read, more-read, refused-read, none_left, octets-true, or-false, neither}
 
--- ---- a PDU that is not the last ends 16 bits or more behind its start, and inside the block
+-- ---- a PDU that is not the last ends 16 bits or more behind its start, and inside the block; what may not stand there is refused as malformed
 
-abbrev pub Onward : ℕ → ℕ → PduStep → Type 0
-Onward w at Malformed = Unit
-Onward w at (Last h) = Unit
-Onward w at (More h next) = (at + most_pdus ≤ next) × (next ≤ w)
+abbrev pub Onward : ℕ → ℕ → Step → Type 0
+Onward w at (Err r) = r ≡ Refusal.Malformed
+Onward w at (Ok (h, None)) = Unit
+Onward w at (Ok (h, Some next)) = (at + most_pdus ≤ next) × (next ≤ w)
 
-octets-on : (w at len : ℕ) (h : PduHeader) → Octets w at len → Onward w at (More h (at + 8 * len))
+octets-on : (w at len : ℕ) (h : PduHeader) → Octets w at len → Onward w at (Ok (h, Some (at + 8 * len)))
 octets-on w at len h o = (omega arith, omega arith)
 
 -- behind a test nothing else is said
-cond-on : (w at : ℕ) (b : Bool) (s : PduStep) → (b ≡ true → Onward w at s) → Onward w at (cond b s Malformed)
+cond-on : (w at : ℕ) (b : Bool) (s : Step) → (b ≡ true → Onward w at s) → Onward w at (cond b s (Err Refusal.Malformed))
 cond-on w at true s h = h refl
-cond-on w at false s h = tt
+cond-on w at false s h = refl
 
 resource-on : (w at : ℕ) (r : ResourceHeader) (after : ℕ) → Onward w at (resource_step w at r after)
 unfolding resource_step well_placed
 resource-on w at r after = cond-on w at (well_placed w at r after) _ λ e. go (stops_after r) refl e
   where
     go : (b : Bool) → stops_after r ≡ b → well_placed w at r after ≡ true
-        → Onward w at (cond b (Last (PduHeader.Resource r)) (More (PduHeader.Resource r) (at + 8 * r.length_ind)))
+        → Onward w at (Ok (PduHeader.Resource r, cond b None (Some (at + 8 * r.length_ind))))
     go true q e = tt
     go false q e =
         let inside = octets_inside w at r.length_ind in
@@ -65,7 +66,7 @@ fragment-on : (w : ℕ) (l : List ℕ) (start at : ℕ) → Onward w start (frag
 unfolding fragment_at end_at field
 fragment-on w l start at = go (bits_value (part l at 1))
   where
-    go : (n : ℕ) → Onward w start (if_zero n (Last (PduHeader.Frag (record { fill_bits = bits_value (part l (at + 1) 1) }))) (end_at w l start (at + 1)))
+    go : (n : ℕ) → Onward w start (if_zero n (Ok (PduHeader.Frag (record { fill_bits = bits_value (part l (at + 1) 1) }), None)) (end_at w l start (at + 1)))
     go zero = tt
     go (suc n) = end_on w start _ _ _
 
@@ -74,13 +75,13 @@ type-on zero w l start at =
     subst (Onward w start) (resource-parts l start (λ r after. resource_step w start r after))
     (resource-on w start (resource_parts l start) (resource_next l start))
 type-on (suc zero) w l start at = fragment-on w l start at
-type-on (suc (suc t)) w l start at = tt
+type-on (suc (suc t)) w l start at = refl
 
 pub pdu-on : (w : ℕ) (l : List ℕ) (at : ℕ) → Onward w at (pdu_at w l at)
 unfolding pdu_at field
 pdu-on w l at = type-on (bits_value (part l at 2)) w l at (at + 2)
 
-more-on : (w : ℕ) (l : List ℕ) (at next : ℕ) (h : PduHeader) → pdu_at w l at ≡ More h next → next ≤ w
+more-on : (w : ℕ) (l : List ℕ) (at next : ℕ) (h : PduHeader) → pdu_at w l at ≡ Ok (h, Some next) → next ≤ w
 more-on w l at next h e = (subst (Onward w at) e (pdu-on w l at)).1
 
 -- ---- the loop that reads
@@ -89,89 +90,61 @@ abbrev pub listed_after : List PlacedHeader → Listing → Listing
 listed_after ds refused = refused
 listed_after ds (headers ps) = headers (ds ++ ps)
 
--- what is read when `n` PDUs are: those in the array's front, and what is left to read from `at` on gives the whole
-pub record Got (w : ℕ) (l : List ℕ) (pdus : List PlacedHeader) (n at : ℕ) : Type 0 where
-  pub ds : List PlacedHeader
-  pub size : length ds ≡ n
-  pub holds : pdus ≡ ds ++ replicate (most_pdus - n) no_header
-  pub few : n ≤ most_pdus
+-- what is read so far, up to `at`: with what is left to read from there on it gives the whole
+pub record Got (w : ℕ) (l : List ℕ) (ds : List PlacedHeader) (at : ℕ) : Type 0 where
+  pub few : length ds ≤ most_pdus
   pub inside : at ≤ w
-  pub left : read_pdus most_pdus w l 0 ≡ listed_after ds (read_pdus (most_pdus - n) w l at)
-
-listed-after-none : (r : Listing) → r ≡ listed_after [] r
-listed-after-none refused = refl
-listed-after-none (headers ps) = refl
+  pub left : read_pdus most_pdus w l 0 ≡ listed_after ds (read_pdus (most_pdus - length ds) w l at)
 
 listed-after-one : (ds : List PlacedHeader) (p : PlacedHeader) (r : Listing) → listed_after ds (before p r) ≡ listed_after (ds ++ (p ∷ [])) r
 listed-after-one ds p refused = refl
 listed-after-one ds p (headers ps) = ap headers (sym (append_snoc ds p ps))
 
-pub got-start : (w : ℕ) (l : List ℕ) → Got w l (replicate most_pdus no_header) 0 0
-got-start w l = record { ds = []; size = refl; holds = refl; few = omega arith; inside = omega arith; left = listed-after-none (read_pdus most_pdus w l 0) }
+module _ (w : ℕ) (l : List ℕ) (ds : List PlacedHeader) (at : ℕ) (g : Got w l ds at) where
+  one : length ds < most_pdus → most_pdus - length ds ≡ suc (most_pdus - (length ds + 1))
+  one h = omega arith
 
--- the reply, once all is read
-reply : (ds pdus : List PlacedHeader) (n : ℕ) → length ds ≡ n → pdus ≡ ds ++ replicate (most_pdus - n) no_header
-    → reading 0 n pdus ≡ reply_of (headers ds)
-reply ds pdus n s h = rw (h, ← s)
+  nothing-left : read_pdus (most_pdus - length ds) w l at ≡ headers [] → reply_of (headers ds) ≡ reply_of (read_pdus most_pdus w l 0)
+  nothing-left e = ap reply_of (ap headers (sym (append-nil ds)) ∙ ap (listed_after ds) (sym e) ∙ sym g.left)
 
-module _ (w : ℕ) (l : List ℕ) (pdus : List PlacedHeader) (n at : ℕ) (g : Got w l pdus n at) where
-  less : n < most_pdus → most_pdus - n ≡ suc (most_pdus - (n + 1))
-  less h = omega arith
+  pub got-end : w < at + 16 → reply_of (headers ds) ≡ reply_of (read_pdus most_pdus w l 0)
+  got-end h = nothing-left (at-end (most_pdus - length ds) w l at h)
 
-  pub got-end : w < at + 16 → reading 0 n pdus ≡ reply_of (read_pdus most_pdus w l 0)
-  got-end h =
-      reply g.ds pdus n g.size g.holds
-      ∙ ap reply_of (ap headers (sym (append-nil g.ds)) ∙ ap (listed_after g.ds) (sym (at-end (most_pdus - n) w l at h)) ∙ sym g.left)
+  pub got-full : most_pdus ≤ length ds → reply_of (headers ds) ≡ reply_of (read_pdus most_pdus w l 0)
+  got-full h = nothing-left (none_left (most_pdus - length ds) w l at (omega arith))
 
-  pub got-full : most_pdus ≤ n → reading 0 most_pdus pdus ≡ reply_of (read_pdus most_pdus w l 0)
-  got-full h =
-      ap (λ (m : ℕ). reading 0 m pdus) (let few = g.few in omega arith) ∙ reply g.ds pdus n g.size g.holds
-      ∙ ap reply_of (ap headers (sym (append-nil g.ds)) ∙ ap (listed_after g.ds) (sym (none_left (most_pdus - n) w l at (omega arith))) ∙ sym g.left)
+  pub got-refused : (r : Refusal) → length ds < most_pdus → at + 16 ≤ w → pdu_at w l at ≡ Err r
+      → no_headers (refusal_number r) ≡ reply_of (read_pdus most_pdus w l 0)
+  got-refused r k h e =
+      ap (λ (x : Refusal). no_headers (refusal_number x)) (subst (Onward w at) e (pdu-on w l at))
+      ∙ ap reply_of (ap (listed_after ds) (sym (ap (λ (m : ℕ). read_pdus m w l at) (one k) ∙ refused-read (most_pdus - (length ds + 1)) w l at r h e)) ∙ sym g.left)
 
-  pub got-refused : n < most_pdus → at + 16 ≤ w → pdu_at w l at ≡ Malformed → no_headers 12 ≡ reply_of (read_pdus most_pdus w l 0)
-  got-refused k h e =
-      ap reply_of (ap (listed_after g.ds) (sym (ap (λ (m : ℕ). read_pdus m w l at) (less k) ∙ refused-read (most_pdus - (n + 1)) w l at h e)) ∙ sym g.left)
-
-  -- the array, with one more
-  stored : n < most_pdus → (p : PlacedHeader) → set pdus n p ≡ (g.ds ++ (p ∷ [])) ++ replicate (most_pdus - (n + 1)) no_header
-  stored k p =
-      ap (λ (x : List PlacedHeader). set x n p) (g.holds ∙ ap (λ (m : ℕ). g.ds ++ replicate m no_header) (less k))
-      ∙ set_at g.ds no_header (replicate (most_pdus - (n + 1)) no_header) p n g.size
-      ∙ sym (append_snoc g.ds p (replicate (most_pdus - (n + 1)) no_header))
-
-  counted : (p : PlacedHeader) → length (g.ds ++ (p ∷ [])) ≡ n + 1
-  counted p = length-append g.ds (p ∷ []) ∙ ap (λ (m : ℕ). m + 1) g.size
-
-  pub got_last : (h : PduHeader) → n < most_pdus → at + 16 ≤ w → pdu_at w l at ≡ Last h
-      → reading 0 (n + 1) (set pdus n (record { at = at; header = h })) ≡
-      (reply_of (read_pdus most_pdus w l 0))
+  pub got_last : (h : PduHeader) → length ds < most_pdus → at + 16 ≤ w → pdu_at w l at ≡ Ok (h, None)
+      → reply_of (headers (ds ++ (record { at = at; header = h } ∷ []))) ≡ reply_of (read_pdus most_pdus w l 0)
   got_last h k i e =
-      let p : PlacedHeader = record { at = at; header = h } in
-      reply (g.ds ++ (p ∷ [])) (set pdus n p) (n + 1) (counted p) (stored k p)
-      ∙ ap reply_of (ap (listed_after g.ds) (sym (ap (λ (m : ℕ). read_pdus m w l at) (less k) ∙ last-read (most_pdus - (n + 1)) w l at h i e)) ∙ sym g.left)
+      ap reply_of (ap (listed_after ds) (sym (ap (λ (m : ℕ). read_pdus m w l at) (one k) ∙ last-read (most_pdus - (length ds + 1)) w l at h i e)) ∙ sym g.left)
 
-  pub got-more : (h : PduHeader) (next : ℕ) → n < most_pdus → at + 16 ≤ w → pdu_at w l at ≡ More h next
-      → Got w l (set pdus n (record { at = at; header = h })) (n + 1) next
+  pub got-more : (h : PduHeader) (next : ℕ) → length ds < most_pdus → at + 16 ≤ w → pdu_at w l at ≡ Ok (h, Some next)
+      → Got w l (ds ++ (record { at = at; header = h } ∷ [])) next
   got-more h next k i e =
       let p : PlacedHeader = record { at = at; header = h } in
+      let size : length (ds ++ (p ∷ [])) ≡ length ds + 1 = length-append ds (p ∷ []) in
       record {
-        ds = g.ds ++ (p ∷ []);
-        size = counted p;
-        holds = stored k p;
         few = omega arith;
         inside = more-on w l at next h e;
         left =
-            g.left ∙ ap (listed_after g.ds) (ap (λ (m : ℕ). read_pdus m w l at) (less k) ∙ more-read (most_pdus - (n + 1)) w l at next h i e)
-            ∙ listed-after-one g.ds p (read_pdus (most_pdus - (n + 1)) w l next);
+            g.left ∙ ap (listed_after ds) (ap (λ (m : ℕ). read_pdus m w l at) (one k) ∙ more-read (most_pdus - (length ds + 1)) w l at next h i e)
+            ∙ listed-after-one ds p (read_pdus (most_pdus - (length ds + 1)) w l next)
+            ∙ ap (λ (m : ℕ). listed_after (ds ++ (p ∷ [])) (read_pdus (most_pdus - m) w l next)) (sym size);
       }
 
 -- ---- sixteen are enough: each PDU that is not the last takes 16 bits or more
 
-same_step : (s : PduStep) (w at : ℕ) (j k : ℕ → Listing) → Onward w at s
+same_step : (s : Step) (w at : ℕ) (j k : ℕ → Listing) → Onward w at s
     → ((next : ℕ) → at + most_pdus ≤ next → j next ≡ k next) → on_step s at j ≡ on_step s at k
-same_step Malformed w at j k o h = refl
-same_step (Last x) w at j k o h = refl
-same_step (More x next) w at j k o h = ap (before (record { at = at; header = x })) (h next o.0)
+same_step (Err r) w at j k o h = refl
+same_step (Ok (x, None)) w at j k o h = refl
+same_step (Ok (x, Some next)) w at j k o h = ap (before (record { at = at; header = x })) (h next o.0)
 
 pub enough : (n m w : ℕ) (l : List ℕ) (at : ℕ) → w < at + 16 * (n + 1) → read_pdus n w l at ≡ read_pdus (n + m) w l at
 unfolding read_pdus

@@ -1,4 +1,5 @@
 -- What the reader lists stands in the bits that it read (`Stands`), header by header. Assumes nothing.
+use Rattle.std.proofs.Common.{Ok, Err, Some, None}
 use mathlib.Core.Path.{◌≡◌, refl, subst}
 use mathlib.Core.Bool.{Bool, true, false, cond, not, ◌&&◌, ◌||◌}
 use mathlib.Core.Logic.{inl, inr, ⊎_elim}
@@ -15,22 +16,21 @@ use Rattle.mac_pdus.specs.Headers.{if_zero, address_type, resource_bits, frag_bi
 use Rattle.mac_pdus.specs.Legal.{writer_takes}
 use Rattle.mac_pdus.proofs.Conjunctions.{and2, and3}
 use Rattle.mac_pdus.proofs.Found.{Between, joined, ends-behind, cut_out, field_found, resource-found}
-use Rattle.mac_reader.specs.declared.PduStep.{PduStep}
-use Rattle.mac_reader.specs.declared.PduStep.TheVariants.{Malformed, Last, More}
+use Rattle.questions.specs.declared.Refusal.{Refusal}
 use Rattle.mac_reader.specs.declared.PlacedHeader.{PlacedHeader}
-use Rattle.mac_reader.specs.Reader.{octets_inside, header_end, starts_fragment, well_placed, resource_step, end_step, end_at, fragment_at, of_type, pdu_at}
+use Rattle.mac_reader.specs.Reader.{Step, octets_inside, header_end, starts_fragment, well_placed, resource_step, end_step, end_at, fragment_at, of_type, pdu_at}
 use Rattle.mac_reader.specs.Reader.{Listing, refused, headers, before, on_step, read_pdus}
 use Rattle.mac_reader.specs.Stands.{BitsStand, HeaderInside, Stands}
 use Rattle.mac_reader.proofs.Steps.{octets-true, limit-only, same-list, never-listed}
 
 -- what stands from `at` on, after a step of the reader
-abbrev StepStands : ℕ → List ℕ → ℕ → PduStep → Type 0
-StepStands w l at Malformed = Unit
-StepStands w l at (Last h) = Stands w l at (record { at = at; header = h } ∷ [])
-StepStands w l at (More h next) =
+abbrev StepStands : ℕ → List ℕ → ℕ → Step → Type 0
+StepStands w l at (Err r) = Unit
+StepStands w l at (Ok (h, None)) = Stands w l at (record { at = at; header = h } ∷ [])
+StepStands w l at (Ok (h, Some next)) =
     (next % 8 ≡ 0) × (at + 16 ≤ next) × ((ps : List PlacedHeader) → Stands w l next ps → Stands w l at (record { at = at; header = h } ∷ ps))
 
-cond-stands : (w : ℕ) (l : List ℕ) (at : ℕ) (b : Bool) (s : PduStep) → (b ≡ true → StepStands w l at s) → StepStands w l at (cond b s Malformed)
+cond-stands : (w : ℕ) (l : List ℕ) (at : ℕ) (b : Bool) (s : Step) → (b ≡ true → StepStands w l at s) → StepStands w l at (cond b s (Err Refusal.Malformed))
 cond-stands w l at true s h = h refl
 cond-stands w l at false s h = tt
 
@@ -58,7 +58,7 @@ module _ (w : ℕ) (l : List ℕ) (four : w % 8 ≡ 4) (bits : AreBits l) (room 
     where
       go : (a c : Bool) → eqb (address_type r.address) 0 ≡ a → eqb r.length_ind 63 ≡ c → writer_takes r ≡ true → after ≤ w
           → (not a && c) || (octets_inside w at r.length_ind && leb after (header_end w (at + 8 * r.length_ind))) ≡ true
-          → StepStands w l at (cond (a || c) (Last (PduHeader.Resource r)) (More (PduHeader.Resource r) (at + 8 * r.length_ind)))
+          → StepStands w l at (Ok (PduHeader.Resource r, cond (a || c) None (Some (at + 8 * r.length_ind))))
       go true c ea ec taken inside t =
           let p = and2 (octets_inside w at r.length_ind) (leb after (header_end w (at + 8 * r.length_ind))) t in (
             refl,
@@ -126,7 +126,7 @@ module _ (w : ℕ) (l : List ℕ) (four : w % 8 ≡ 4) (bits : AreBits l) (room 
   fragment-stands at k h e₁ = field_found 1 l (at + 2) _ (StepStands w l at) bits (omega arith) sub
     where
       sub : (v : ℕ) → v < 2 ^ 1 → Between l (at + 2) (value_bits 1 v) (at + 2 + 1)
-          → StepStands w l at (if_zero v (field l (at + 2 + 1) 1 λ fill at. Last (PduHeader.Frag (record { fill_bits = fill }))) (end_at w l at (at + 2 + 1)))
+          → StepStands w l at (if_zero v (field l (at + 2 + 1) 1 λ fill at. Ok (PduHeader.Frag (record { fill_bits = fill }), None)) (end_at w l at (at + 2 + 1)))
       sub zero s e₂ =
           field_found 1 l (at + 2 + 1) _ (StepStands w l at) bits (omega arith) λ v s₃ e₃.
           (refl, h, there at _ (PduHeader.Frag (record { fill_bits = v })) h (omega arith) (joined e₁ (joined e₂ e₃)), (s₃, refl))
@@ -144,12 +144,12 @@ module _ (w : ℕ) (l : List ℕ) (four : w % 8 ≡ 4) (bits : AreBits l) (room 
 
   -- ---- the list
 
-  step-listed : (at : ℕ) (s : PduStep) (k : ℕ → Listing) (hs : List PlacedHeader) → StepStands w l at s
+  step-listed : (at : ℕ) (s : Step) (k : ℕ → Listing) (hs : List PlacedHeader) → StepStands w l at s
       → ((next : ℕ) (ps : List PlacedHeader) → next % 8 ≡ 0 → at + 16 ≤ next → k next ≡ headers ps → Stands w l next ps) → on_step s at k ≡ headers hs
       → Stands w l at hs
-  step-listed at Malformed k hs st ih e = never-listed e
-  step-listed at (Last h) k hs st ih e = subst (Stands w l at) (same-list e) st
-  step-listed at (More h next) k hs st ih e = go (k next) refl e
+  step-listed at (Err r) k hs st ih e = never-listed e
+  step-listed at (Ok (h, None)) k hs st ih e = subst (Stands w l at) (same-list e) st
+  step-listed at (Ok (h, Some next)) k hs st ih e = go (k next) refl e
     where
       go : (r : Listing) → k next ≡ r → before (record { at = at; header = h }) r ≡ headers hs → Stands w l at hs
       go refused q e = never-listed e

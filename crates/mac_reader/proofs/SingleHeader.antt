@@ -1,4 +1,5 @@
 -- What the theorems of `TakenExactly` say of a single header: of a null, of each header that is listed, of the first, of one that is alone. Assumes nothing.
+use Rattle.std.proofs.Common.{Ok, Err, Some, None}
 use mathlib.Core.Path.{◌≡◌, refl, sym, ap, ◌∙◌, subst}
 use mathlib.Core.Bool.{Bool, true, false, cond}
 use mathlib.Core.Logic.{inl, inr}
@@ -14,10 +15,9 @@ use Rattle.mac_pdus.specs.declared.ResourceHeader.{ResourceHeader}
 use Rattle.mac_pdus.specs.declared.PduHeader.{PduHeader}
 use Rattle.mac_pdus.specs.Headers.{address_type, resource_bits, header_bits}
 use Rattle.mac_pdus.specs.Legal.{within_widths, all_absent, legal_parts, legal_fields, legal_to_write, offered, writer_takes}
-use Rattle.mac_reader.specs.declared.PduStep.{PduStep}
-use Rattle.mac_reader.specs.declared.PduStep.TheVariants.{Malformed, Last, More}
+use Rattle.questions.specs.declared.Refusal.{Refusal}
 use Rattle.mac_reader.specs.declared.PlacedHeader.{PlacedHeader}
-use Rattle.mac_reader.specs.Reader.{Listing, refused, headers, before, on_step, stops_after, well_placed, pdu_at, resource_step, read_pdus, block_pdus}
+use Rattle.mac_reader.specs.Reader.{Step, Listing, refused, headers, before, on_step, stops_after, well_placed, pdu_at, resource_step, read_pdus, block_pdus}
 use Rattle.mac_reader.specs.Stands.{BitsStand, Octets, HeaderStands, Stands, Leads, null_of}
 use Rattle.mac_reader.proofs.Steps.{same-list, never-listed}
 use Rattle.mac_reader.proofs.StandsRead.{null-length, resource-read}
@@ -57,7 +57,7 @@ stands-bits w l (p ∷ ps) at s =
 
 -- the header that a step of the reader begins its list with
 step-first : (b c : Bool) (x : PduHeader) (next at : ℕ) (k : ℕ → Listing) (hs : List PlacedHeader)
-    → on_step (cond b (cond c (Last x) (More x next)) Malformed) at k ≡ headers hs
+    → on_step (cond b (Ok (x, cond c None (Some next))) (Err Refusal.Malformed)) at k ≡ headers hs
     → (ps : List PlacedHeader) × (hs ≡ record { at = at; header = x } ∷ ps)
 step-first true true x next at k hs e = ([], sym (same-list e))
 step-first true false x next at k hs e = go (k next) e
@@ -116,7 +116,7 @@ module _ (o : ℕ) (s : List ℕ) (some : 0 < o) (few : o ≤ block_octets) (siz
       let inside = b.inside in
       let here : BitsStand w l 0 (PduHeader.Resource r) = record { bits = padded-part s 0 _ (omega arith) ∙ b.bits; inside = inside } in
       resource-first w 0 r (0 + length (resource_bits r)) (λ next. read_pdus 15 w l next) hs
-      (ap (λ (x : PduStep). on_step x 0 (λ next. read_pdus 15 w l next)) (sym (resource-read w l (omega arith) 0 r here taken))
+      (ap (λ (x : Step). on_step x 0 (λ next. read_pdus 15 w l next)) (sym (resource-read w l (omega arith) 0 r here taken))
       ∙ sym (step-read 15 w l 0 h) ∙ e)
 
   -- a header that stands alone in the block is all that the reader lists

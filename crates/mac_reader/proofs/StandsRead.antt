@@ -1,4 +1,5 @@
 -- The headers that stand in the bits of a block (`Stands`) are those that the reader lists. Assumes nothing.
+use Rattle.std.proofs.Common.{Ok, Some, None}
 use mathlib.Core.Path.{◌≡◌, refl, sym, ap, ◌∙◌}
 use mathlib.Core.Bool.{true, or-true}
 use mathlib.Core.Logic.{inl, inr}
@@ -18,7 +19,6 @@ use Rattle.mac_pdus.specs.Legal.{writer_takes}
 use Rattle.mac_pdus.proofs.LengthLaws.{header-size, header-none}
 use Rattle.mac_pdus.proofs.LegalLaws.{taken-within}
 use Rattle.mac_pdus.proofs.Found.{cut-between}
-use Rattle.mac_reader.specs.declared.PduStep.TheVariants.{Last, More}
 use Rattle.mac_reader.specs.declared.PlacedHeader.{PlacedHeader}
 use Rattle.mac_reader.specs.Reader.{octets_inside, header_end, starts_fragment, well_placed, resource_step, end_step, pdu_at, headers, before, read_pdus}
 use Rattle.mac_reader.specs.Stands.{BitsStand, Octets, HeaderInside, NullStands, FirstStands, WholeStands, EndStands, HeaderStands, Stands}
@@ -53,7 +53,7 @@ module _ (w at : ℕ) where
   octets-stand code o = octets-pass w at code o.low o.high o.inside
 
   null-stands : (r : ResourceHeader) → NullStands w at r → at + length (resource_bits r) ≤ w
-      → resource_step w at r (at + length (resource_bits r)) ≡ Last (PduHeader.Resource r)
+      → resource_step w at r (at + length (resource_bits r)) ≡ Ok (PduHeader.Resource r, None)
   unfolding resource_step well_placed
   null-stands r n h =
       let code = r.length_ind in
@@ -68,7 +68,7 @@ module _ (w at : ℕ) where
       )
 
   first-stands : (r : ResourceHeader) → FirstStands r → at + length (resource_bits r) ≤ w
-      → resource_step w at r (at + length (resource_bits r)) ≡ Last (PduHeader.Resource r)
+      → resource_step w at r (at + length (resource_bits r)) ≡ Ok (PduHeader.Resource r, None)
   unfolding resource_step well_placed
   first-stands r f h =
       rw (
@@ -92,7 +92,7 @@ module _ (w at : ℕ) where
       (or-true (starts_fragment r))
 
   whole-stands : (r : ResourceHeader) → WholeStands w at r → at + length (resource_bits r) ≤ w
-      → resource_step w at r (at + length (resource_bits r)) ≡ More (PduHeader.Resource r) (at + 8 * r.length_ind)
+      → resource_step w at r (at + length (resource_bits r)) ≡ Ok (PduHeader.Resource r, Some (at + 8 * r.length_ind))
   unfolding resource_step
   whole-stands r s h =
       rw (
@@ -101,7 +101,7 @@ module _ (w at : ℕ) where
         ne_eqb r.length_ind 63 (λ z. omega (arith, s.octets.high)),
       )
 
-  end-stands : (e : MacEndDl) → EndStands w at e → end_step w at e 0 0 ≡ More (PduHeader.End e) (at + 8 * e.length_ind)
+  end-stands : (e : MacEndDl) → EndStands w at e → end_step w at e 0 0 ≡ Ok (PduHeader.End e, Some (at + 8 * e.length_ind))
   unfolding end_step
   end-stands e s = rw (octets-stand e.length_ind s.octets)
 

@@ -1,4 +1,5 @@
 -- One step of the reader. Assumes nothing.
+use Rattle.std.proofs.Common.{Ok, Err, Some, None}
 use mathlib.Core.Path.{◌≡◌, refl, ap}
 use mathlib.Core.Bool.{Bool, true, false, cond, not, ◌&&◌, ◌||◌}
 use mathlib.Core.Logic.{◌⊎◌, inl, inr}
@@ -10,7 +11,7 @@ use borrow.Author.Tests.{ltb-true, lt-ltb, le-ltb, leb-true}
 use Rattle.mac_pdus.specs.declared.MacEndDl.{MacEndDl}
 use Rattle.mac_pdus.proofs.Conjunctions.{false-not-true, and3}
 use Rattle.mac_pdus.specs.declared.PduHeader.{PduHeader}
-use Rattle.mac_reader.specs.declared.PduStep.TheVariants.{Malformed, Last, More}
+use Rattle.questions.specs.declared.Refusal.{Refusal}
 use Rattle.mac_reader.specs.Reader.{octets_inside, header_end, end_step, of_type, pdu_at, refused, headers, before, is_list, read_pdus}
 use Rattle.mac_reader.specs.declared.PlacedHeader.{PlacedHeader}
 use Rattle.mac_reader.specs.Stands.{Octets}
@@ -22,19 +23,19 @@ at-end zero w l at h = refl
 at-end (suc n) w l at h = rw (lt-ltb w (at + 16) h)
 
 -- a step that is the last, and one that is not
-pub last-read : (n w : ℕ) (l : List ℕ) (at : ℕ) (h : PduHeader) → at + 16 ≤ w → pdu_at w l at ≡ Last h → read_pdus (suc n) w l at
+pub last-read : (n w : ℕ) (l : List ℕ) (at : ℕ) (h : PduHeader) → at + 16 ≤ w → pdu_at w l at ≡ Ok (h, None) → read_pdus (suc n) w l at
     ≡ headers (record { at = at; header = h } ∷ [])
 unfolding read_pdus
 last-read n w l at h k e = rw (le-ltb w (at + 16) k, e)
 
-pub more-read : (n w : ℕ) (l : List ℕ) (at next : ℕ) (h : PduHeader) → at + 16 ≤ w → pdu_at w l at ≡ More h next
+pub more-read : (n w : ℕ) (l : List ℕ) (at next : ℕ) (h : PduHeader) → at + 16 ≤ w → pdu_at w l at ≡ Ok (h, Some next)
     → read_pdus (suc n) w l at ≡ before (record { at = at; header = h }) (read_pdus n w l next)
 unfolding read_pdus
 more-read n w l at next h k e = rw (le-ltb w (at + 16) k, e)
 
-pub refused-read : (n w : ℕ) (l : List ℕ) (at : ℕ) → at + 16 ≤ w → pdu_at w l at ≡ Malformed → read_pdus (suc n) w l at ≡ refused
+pub refused-read : (n w : ℕ) (l : List ℕ) (at : ℕ) (r : Refusal) → at + 16 ≤ w → pdu_at w l at ≡ Err r → read_pdus (suc n) w l at ≡ refused
 unfolding read_pdus
-refused-read n w l at k e = rw (le-ltb w (at + 16) k, e)
+refused-read n w l at r k e = rw (le-ltb w (at + 16) k, e)
 
 -- no more than that many
 pub none_left : (n w : ℕ) (l : List ℕ) (at : ℕ) → n ≤ 0 → read_pdus n w l at ≡ headers []
@@ -77,7 +78,7 @@ limit-only w after end h = go _ h (omega arith)
         tested true q h = let near = ltb-true w n q in inr (omega arith, h)
         tested false q h = inl h
 
-pub other-type : (t w : ℕ) (l : List ℕ) (start at : ℕ) → (t ≡ 0 → ⊥) → (t ≡ 1 → ⊥) → Malformed ≡ of_type t w l start at
+pub other-type : (t w : ℕ) (l : List ℕ) (start at : ℕ) → (t ≡ 0 → ⊥) → (t ≡ 1 → ⊥) → Err Refusal.Malformed ≡ of_type t w l start at
 other-type zero w l start at p q = absurd (p refl)
 other-type (suc zero) w l start at p q = absurd (q refl)
 other-type (suc (suc t)) w l start at p q = refl
@@ -92,12 +93,12 @@ neither false b h = h
 
 -- a MAC-END that is refused, and one that is taken
 pub end_refused : (w at : ℕ) (m : MacEndDl) (x y : ℕ) (b : Bool) → b ≡ octets_inside w at m.length_ind → (eqb x 0 && eqb y 0 && b) ≡ false
-    → Malformed ≡ end_step w at m x y
+    → Err Refusal.Malformed ≡ end_step w at m x y
 unfolding end_step
 end_refused w at m x y b e h = rw (← e, h)
 
 pub end-taken : (w at : ℕ) (m : MacEndDl) (x y : ℕ) (b : Bool) → b ≡ octets_inside w at m.length_ind → (eqb x 0 && eqb y 0 && b) ≡ true
-    → More (PduHeader.End m) (at + 8 * m.length_ind) ≡ end_step w at m x y
+    → Ok (PduHeader.End m, Some (at + 8 * m.length_ind)) ≡ end_step w at m x y
 unfolding end_step
 end-taken w at m x y b e h = rw (← e, h)
 

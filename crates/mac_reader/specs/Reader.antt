@@ -1,6 +1,6 @@
 -- What the block reader lists and refuses (document 01, section "Block" and questions 2 and 12). Assumes nothing.
 use Rattle.std.specs.Prelude.{Bool, true, false, cond, not, ◌&&◌, ◌||◌, ℕ, zero, suc, ◌+◌, ◌-◌, ◌*◌}
-use Rattle.std.specs.Prelude.{◌%◌, List, [], ◌∷◌, ◌++◌, length, get_or, replicate, ltb, leb, eqb, Result, Ok, Err}
+use Rattle.std.specs.Prelude.{◌%◌, List, [], ◌∷◌, ◌++◌, length, get_or, replicate, ltb, leb, eqb, Result, Ok, Err, Option, Some, None}
 use Rattle.questions.specs.declared.Refusal.{Refusal}
 use Rattle.questions.specs.Questions.{Question, question, refusal_number, ask}
 use Rattle.bitbuffer.specs.Bits.{bits_of, field}
@@ -9,10 +9,8 @@ use Rattle.mac_pdus.specs.declared.MacEndDl.{MacEndDl}
 use Rattle.mac_pdus.specs.declared.PduHeader.{PduHeader}
 use Rattle.mac_pdus.specs.Headers.{if_zero, address_type, resource_at}
 use Rattle.mac_pdus.specs.Legal.{writer_takes}
-use Rattle.mac_reader.specs.declared.PduStep.{PduStep}
-use Rattle.mac_reader.specs.declared.PduStep.TheVariants.{Malformed, Last, More}
 use Rattle.mac_reader.specs.declared.PlacedHeader.{PlacedHeader}
-use Rattle.mac_reader.specs.declared.BlockHeaders.{BlockHeaders}
+use Rattle.arrayvec.specs.ArrayVec.{ArrayVec}
 
 -- ---- question 12: one PDU, from bit `at` of a block of `w` bits
 
@@ -40,36 +38,41 @@ well_placed w at r after =
 abbrev pub stops_after : ResourceHeader → Bool
 stops_after r = eqb (address_type r.address) 0 || eqb r.length_ind 63
 
+-- the header at a position, and where the next PDU begins, or none if the reader stops after this one
+abbrev pub Step : Type 0
+Step = Result (PduHeader × Option ℕ) Refusal
+
 -- "lists headers by length code"
-unfoldable pub resource_step : ℕ → ℕ → ResourceHeader → ℕ → PduStep
+unfoldable pub resource_step : ℕ → ℕ → ResourceHeader → ℕ → Step
 resource_step w at r after =
     cond (well_placed w at r after)
-    (cond (stops_after r) (Last (PduHeader.Resource r)) (More (PduHeader.Resource r) (at + 8 * r.length_ind)))
-    Malformed
+    (Ok (PduHeader.Resource r, cond (stops_after r) None (Some (at + 8 * r.length_ind))))
+    (Err Refusal.Malformed)
 
 -- "MAC-END flags 0", "codes 2–34"
-unfoldable pub end_step : ℕ → ℕ → MacEndDl → ℕ → ℕ → PduStep
+unfoldable pub end_step : ℕ → ℕ → MacEndDl → ℕ → ℕ → Step
 end_step w at e grant_flag alloc_flag =
-    cond (eqb grant_flag 0 && eqb alloc_flag 0 && octets_inside w at e.length_ind) (More (PduHeader.End e) (at + 8 * e.length_ind)) Malformed
+    cond (eqb grant_flag 0 && eqb alloc_flag 0 && octets_inside w at e.length_ind) (Ok (PduHeader.End e, Some (at + 8 * e.length_ind)))
+    (Err Refusal.Malformed)
 
 -- a MAC-END that begins at `start`, behind its first three bits
-unfoldable pub end_at : ℕ → List ℕ → ℕ → ℕ → PduStep
+unfoldable pub end_at : ℕ → List ℕ → ℕ → ℕ → Step
 end_at w l start at =
     field l at 1 λ fill at. field l at 1 λ position at. field l at 6 λ length at. field l at 1 λ grant_flag at. field l at 1 λ alloc_flag at.
     end_step w start (record { fill_bits = fill; pos_of_grant = position; length_ind = length }) grant_flag alloc_flag
 
 -- type 01: MAC-FRAG or MAC-END, by the third bit
-unfoldable pub fragment_at : ℕ → List ℕ → ℕ → ℕ → PduStep
+unfoldable pub fragment_at : ℕ → List ℕ → ℕ → ℕ → Step
 fragment_at w l start at =
-    field l at 1 λ sub at. if_zero sub (field l at 1 λ fill at. Last (PduHeader.Frag (record { fill_bits = fill }))) (end_at w l start at)
+    field l at 1 λ sub at. if_zero sub (field l at 1 λ fill at. Ok (PduHeader.Frag (record { fill_bits = fill }), None)) (end_at w l start at)
 
 -- "type 00 or 01"
-abbrev pub of_type : ℕ → ℕ → List ℕ → ℕ → ℕ → PduStep
+abbrev pub of_type : ℕ → ℕ → List ℕ → ℕ → ℕ → Step
 of_type zero w l start at = resource_at l start λ r after. resource_step w start r after
 of_type (suc zero) w l start at = fragment_at w l start at
-of_type (suc (suc n)) w l start at = Malformed
+of_type (suc (suc n)) w l start at = Err Refusal.Malformed
 
-unfoldable pub pdu_at : ℕ → List ℕ → ℕ → PduStep
+unfoldable pub pdu_at : ℕ → List ℕ → ℕ → Step
 pdu_at w l start = field l start 2 λ t at. of_type t w l start at
 
 -- ---- the list of headers
@@ -82,10 +85,10 @@ abbrev pub before : PlacedHeader → Listing → Listing
 before p refused = refused
 before p (headers ps) = headers (p ∷ ps)
 
-abbrev pub on_step : PduStep → ℕ → (ℕ → Listing) → Listing
-on_step Malformed at k = refused
-on_step (Last h) at k = headers (record { at = at; header = h } ∷ [])
-on_step (More h next) at k = before (record { at = at; header = h }) (k next)
+abbrev pub on_step : Step → ℕ → (ℕ → Listing) → Listing
+on_step (Err r) at k = refused
+on_step (Ok (h, None)) at k = headers (record { at = at; header = h } ∷ [])
+on_step (Ok (h, Some next)) at k = before (record { at = at; header = h }) (k next)
 
 -- the PDUs from `at` on, at most `n`; "stops .. under 16 bits left"
 unfoldable pub read_pdus : ℕ → ℕ → List ℕ → ℕ → Listing
@@ -119,14 +122,14 @@ no_header = record { at = 0; header = PduHeader.Frag (record { fill_bits = 0 }) 
 abbrev pub no_headers : ℕ → Reading
 no_headers n = reading n 0 (replicate most_pdus no_header)
 
--- "When an answer is an enum, a definition gives this paper's number and values for each of its cases."
-abbrev pub reading_of : Result BlockHeaders Refusal → Reading
-reading_of (Ok b) = reading 0 b.count b.headers
-reading_of (Err r) = no_headers (refusal_number r)
-
 abbrev pub reply_of : Listing → Reading
 reply_of refused = no_headers 12
 reply_of (headers ps) = reading 0 (length ps) (ps ++ replicate (most_pdus - length ps) no_header)
+
+-- "When an answer is an enum, a definition gives this paper's number and values for each of its cases."
+abbrev pub reading_of : Result (ArrayVec PlacedHeader) Refusal → Reading
+reading_of (Ok b) = reply_of (headers b.items)
+reading_of (Err r) = no_headers (refusal_number r)
 
 -- "the block's last four bits zero"
 abbrev pub last_four_zero : ℕ → List ℕ → Bool

@@ -4,9 +4,10 @@
 ghost use Rattle.std.specs.Prelude.{◌≡◌, ◌+◌, ◌*◌, ◌<◌, ◌≤◌, ◌^◌, length};
 ghost use Rattle.sizes.specs.Sizes.{block_octets};
 ghost use Rattle.bitbuffer.specs.Bits.{bits_of};
-ghost use Rattle.mac_reader.specs.Reader.{octets_inside, header_end, starts_fragment, stops_after, well_placed, resource_step, end_step, end_at};
+ghost use Rattle.mac_reader.specs.Reader.{octets_inside, header_end, starts_fragment, stops_after, well_placed, resource_step, end_at};
 ghost use Rattle.mac_reader.specs.Reader.{fragment_at, pdu_at, read_pdus, most_pdus, reply_of, reading_of, read_block};
 
+use arrayvec::ArrayVec;
 use mac_pdus::{MacEndDl, MacFragDl, PduHeader, ResourceHeader};
 use mac_resource_reader::Cursor;
 use questions::Refusal;
@@ -22,22 +23,22 @@ pub struct PlacedHeader {
     pub header: PduHeader,
 }
 
-// The headers of a block, `count` of them.
-#[derive(Clone, Copy)]
-pub struct BlockHeaders {
-    pub count: usize,
-    pub headers: [PlacedHeader; MOST_PDUS],
+// What `ArrayVec` puts where no header stands.
+impl Default for PlacedHeader {
+    ghost use Rattle.mac_reader.specs.Reader.{no_header};
+
+    ghost is_default = { λ p. p ≡ no_header };
+
+    fn default() -> PlacedHeader {
+        PlacedHeader {
+            at: 0,
+            header: PduHeader::Frag(MacFragDl { fill_bits: 0 }),
+        }
+    }
 }
 
-// What stands at a position of a block: nothing that may stand there, a PDU after which the reader stops, or one with the position of the next.
-// Kept: a `Result<PduStep, Refusal>` of two steps is no plainer, each definition would say `Ok (Last h)`, `Err Refusal.Malformed` in place of
-// `Last h`, `Malformed`.
-#[derive(Clone, Copy)]
-pub enum PduStep {
-    Malformed,
-    Last(PduHeader),
-    More(PduHeader, usize),
-}
+// The header at a position of a block, and where the next PDU begins, or none if the reader stops after this one.
+type PduStep = Result<(PduHeader, Option<usize>), Refusal>;
 
 // Where the header of a PDU that ends at `end` may end, in a block of `w` bits.
 fn header_end(w: usize, end: usize) -> usize
@@ -50,13 +51,13 @@ fn header_end(w: usize, end: usize) -> usize
 fn starts_fragment(r: ResourceHeader) -> bool
     ensures { result ≡ starts_fragment r }
 {
-    r.address.addr_type() != 0 && r.length_ind == 63
+    !r.address.is_null() && r.length_ind == 63
 }
 
 fn stops_after(r: ResourceHeader) -> bool
     ensures { result ≡ stops_after r }
 {
-    r.address.addr_type() == 0 || r.length_ind == 63
+    r.address.is_null() || r.length_ind == 63
 }
 
 // A position in a block of `w` bits, where a PDU begins.
@@ -90,7 +91,7 @@ impl Start {
     {
         let limit = header_end(self.w, self.end(r.length_ind));
         let inside = self.octets_inside(r.length_ind);
-        mac_on_air::writer_takes(r)
+        mac_legal::writer_takes(r)
             && after <= self.w
             && (starts_fragment(r) || (inside && after <= limit))
     }
@@ -101,28 +102,18 @@ impl Start {
         ensures { result ≡ resource_step self.w self.at r after }
     {
         if !self.well_placed(r, after) {
-            PduStep::Malformed
-        } else if stops_after(r) {
-            PduStep::Last(PduHeader::Resource(r))
-        } else {
-            PduStep::More(PduHeader::Resource(r), self.end(r.length_ind))
+            return Err(Refusal::Malformed);
         }
-    }
-
-    // A MAC-END, with the flags of its slot grant and its channel allocation.
-    #[tactic(auto, unfolding(crate::specs::Reader::end_step))]
-    fn end_step(self, e: MacEndDl, grant_flag: u8, alloc_flag: u8) -> PduStep
-        ensures { result ≡ end_step self.w self.at e grant_flag alloc_flag }
-    {
-        if grant_flag == 0 && alloc_flag == 0 && self.octets_inside(e.length_ind) {
-            PduStep::More(PduHeader::End(e), self.end(e.length_ind))
+        let next = if stops_after(r) {
+            None
         } else {
-            PduStep::Malformed
-        }
+            Some(self.end(r.length_ind))
+        };
+        Ok((PduHeader::Resource(r), next))
     }
 
     // Reads a MAC-END from its fourth bit on.
-    #[tactic(auto, unfolding(crate::specs::Reader::end_at, bitbuffer::specs::Bits::field))]
+    #[tactic(auto, unfolding(crate::specs::Reader::end_at, crate::specs::Reader::end_step, bitbuffer::specs::Bits::field))]
     fn read_end(self, cursor: &mut Cursor) -> PduStep
         requires { cursor.old.at + 10 ≤ 8 * length cursor.old.octets.now }
         ensures { result ≡ end_at self.w (bits_of cursor.old.octets.now) self.at cursor.old.at }
@@ -132,9 +123,12 @@ impl Start {
             pos_of_grant: cursor.read(1) as u8,
             length_ind: cursor.read(6) as u8,
         };
-        let grant_flag = cursor.read(1) as u8;
-        let alloc_flag = cursor.read(1) as u8;
-        self.end_step(e, grant_flag, alloc_flag)
+        let granted = cursor.read(1) != 0;
+        let allocated = cursor.read(1) != 0;
+        if granted || allocated || !self.octets_inside(e.length_ind) {
+            return Err(Refusal::Malformed);
+        }
+        Ok((PduHeader::End(e), Some(self.end(e.length_ind))))
     }
 
     // Reads a MAC-FRAG or MAC-END from its third bit on.
@@ -145,7 +139,7 @@ impl Start {
     {
         if cursor.read(1) == 0 {
             let fill_bits = cursor.read(1) as u8;
-            return PduStep::Last(PduHeader::Frag(MacFragDl { fill_bits }));
+            return Ok((PduHeader::Frag(MacFragDl { fill_bits }), None));
         }
         self.read_end(cursor)
     }
@@ -162,54 +156,36 @@ impl Start {
         };
         match cursor.read(2) {
             0 => {
-                let (r, after) = mac_resource_reader::read_resource(s, self.at);
-                self.resource_step(r, after)
+                let r = cursor.read_resource();
+                self.resource_step(r, cursor.at)
             }
             1 => self.read_fragment(&mut cursor),
-            _ => PduStep::Malformed,
+            _ => Err(Refusal::Malformed),
         }
     }
 }
 
 // Lists the headers of the PDUs in the first `w` bits, at most 16.
-fn read_list(s: &[u8], w: usize) -> Result<BlockHeaders, Refusal>
+fn read_list(s: &[u8], w: usize) -> Result<ArrayVec<PlacedHeader, MOST_PDUS>, Refusal>
     requires { (w + 76 ≤ 8 * length s.now) × (8 * length s.now + 4096 < 2 ^ 64) }
     ensures { reading_of result ≡ reply_of (read_pdus most_pdus w (bits_of s.now) 0) }
 {
-    let none = PlacedHeader {
-        at: 0,
-        header: PduHeader::Frag(MacFragDl { fill_bits: 0 }),
-    };
-    let mut headers = [none; MOST_PDUS];
+    let mut headers = ArrayVec::new();
     let mut at = 0;
-    for n in 0..MOST_PDUS {
-        if w < at + 16 {
-            return Ok(BlockHeaders { count: n, headers });
-        }
+    while at + 16 <= w && !headers.is_full() {
         let start = Start { w, at };
-        match start.read_pdu(s) {
-            PduStep::Malformed => return Err(Refusal::Malformed),
-            PduStep::Last(header) => {
-                headers[n] = PlacedHeader { at, header };
-                return Ok(BlockHeaders {
-                    count: n + 1,
-                    headers,
-                });
-            }
-            PduStep::More(header, next) => {
-                headers[n] = PlacedHeader { at, header };
-                at = next;
-            }
+        let (header, next) = start.read_pdu(s)?;
+        headers.push(PlacedHeader { at, header });
+        match next {
+            None => return Ok(headers),
+            Some(next) => at = next,
         }
     }
-    Ok(BlockHeaders {
-        count: MOST_PDUS,
-        headers,
-    })
+    Ok(headers)
 }
 
 // Reads a block: the headers of its PDUs with their bit positions, or a refusal.
-pub fn read_block(block: &[u8]) -> Result<BlockHeaders, Refusal>
+pub fn read_block(block: &[u8]) -> Result<ArrayVec<PlacedHeader, MOST_PDUS>, Refusal>
     ensures { reading_of result ≡ read_block block_octets block.now }
 {
     if block.len() != BLOCK_OCTETS {

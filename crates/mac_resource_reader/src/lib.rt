@@ -1,14 +1,15 @@
 // The reader of one MAC-RESOURCE header, part by part (EN 300 392-2, 21.4.3.1).
 #![tactic(auto)]
 
-ghost use Rattle.std.specs.Prelude.{◌≡◌, ℕ, Option, ◌+◌, ◌*◌, ◌<◌, ◌≤◌, ◌^◌, length};
+ghost use Rattle.std.specs.Fn.{FnOnceReturnsAtMut};
+ghost use Rattle.std.specs.Prelude.{◌≡◌, ◌≢◌, ℕ, Option, IfNone, IfSome, ◌+◌, ◌*◌, ◌<◌, ◌≤◌, ◌^◌, length};
 ghost use Rattle.bitbuffer.specs.Bits.{bits_of, bits_value, part};
 ghost use Rattle.mac_pdus.specs.declared.Address.{Address};
 ghost use Rattle.mac_pdus.specs.declared.ChanAllocElement.{ChanAllocElement};
-ghost use Rattle.mac_pdus.specs.declared.Elements.{Elements};
-ghost use Rattle.mac_pdus.specs.Headers.{opt_at, address_at, chan_alloc_at, opt_chan_alloc_at, elements_at, resource_at};
+ghost use Rattle.mac_pdus.specs.declared.ResourceHeader.{ResourceHeader};
+ghost use Rattle.mac_pdus.specs.Headers.{address_type, opt_at, address_at, chan_alloc_at, elements_at, resource_fields_at};
 
-use mac_pdus::{Address, ChanAllocElement, Elements, ResourceHeader};
+use mac_pdus::{Address, ChanAllocElement, ResourceHeader};
 
 // A run of octets, and the bit that is read next.
 #[derive(Drop)]
@@ -18,8 +19,11 @@ pub struct Cursor<'a> {
     pub ghost bounded: { 8 * length octets.now < 2 ^ 64 },
 }
 
-impl Cursor<'_> {
+impl<'a> Cursor<'a> {
+    ghost use Rattle.mac_resource_reader.specs.declared.Cursor.{Cursor};
+
     // Reads a field of `width` bits and goes behind it.
+    // Kept: that the octets stay is said by each reader: a type can't say that a call moves the position alone.
     pub fn read(&mut self, width: usize) -> u64
         requires { (self.old.at + width ≤ 8 * length self.old.octets.now) × (width ≤ 64) }
         ensures value { (result ≡ bits_value (part (bits_of self.old.octets.now) self.old.at width)) × (result < 2 ^ width) }
@@ -30,20 +34,30 @@ impl Cursor<'_> {
         value
     }
 
+    // Reads a flag, and the element behind it if the flag is 1.
+    fn read_optional<T, F: FnOnce(&mut Cursor<'a>) -> T>(&mut self, element: F) -> Option<T>
+        requires flag { self.old.at + 1 ≤ 8 * length self.old.octets.now }
+        requires element { (c : _) → c.now.octets ≡ self.old.octets → c.now.at ≡ self.old.at + 1 → F.pre element c }
+        ensures none { IfNone result ((bits_value (part (bits_of self.old.octets.now) self.old.at 1) ≡ 0) × (self.new.octets ≡ self.old.octets)
+            × (self.new.at ≡ self.old.at + 1)) }
+        ensures some { IfSome result (λ v. (bits_value (part (bits_of self.old.octets.now) self.old.at 1) ≢ 0)
+            × (c : Cursor) × (c.octets ≡ self.old.octets) × (c.at ≡ self.old.at + 1) × FnOnceReturnsAtMut F.FnOnce element c v self.new) }
+    {
+        if self.read(1) == 0 {
+            None
+        } else {
+            Some(element(self))
+        }
+    }
+
     // Reads a flag, and the element of `width` bits if the flag is 1.
-    // Kept: a twin of `read_opt_chan_alloc`. Tried: `(self.read(1) == 1).then(|| ..)`; the proof didn't close, what the closure
-    // leaves in the cursor was left open.
     #[tactic(auto, unfolding(mac_pdus::specs::Headers::opt_at, bitbuffer::specs::Bits::field))]
     fn read_opt_u8(&mut self, width: usize) -> Option<u8>
         requires { (self.old.at + 1 + width ≤ 8 * length self.old.octets.now) × (width ≤ 8) }
         ensures value { opt_at {X = Option ℕ × ℕ} width (bits_of self.old.octets.now) self.old.at (λ m next. (m, next)) ≡ (result, self.new.at) }
         ensures place { (self.new.octets ≡ self.old.octets) × (self.new.at ≤ self.old.at + 1 + width) }
     {
-        if self.read(1) == 0 {
-            None
-        } else {
-            Some(self.read(width) as u8)
-        }
+        self.read_optional(|c| c.read(width) as u8)
     }
 
     // Reads the address type, and the address with its label or marker.
@@ -98,71 +112,51 @@ impl Cursor<'_> {
         }
     }
 
-    // Reads the flag of a channel allocation, and the element if the flag is 1.
-    #[tactic(auto, unfolding(mac_pdus::specs::Headers::opt_chan_alloc_at, bitbuffer::specs::Bits::field))]
-    fn read_opt_chan_alloc(&mut self) -> Option<ChanAllocElement>
-        requires { self.old.at + 28 ≤ 8 * length self.old.octets.now }
-        ensures value { opt_chan_alloc_at {X = Option ChanAllocElement × ℕ} (bits_of self.old.octets.now) self.old.at (λ a next. (a, next))
-            ≡ (result, self.new.at) }
-        ensures place { (self.new.octets ≡ self.old.octets) × (self.new.at ≤ self.old.at + 28) }
-    {
-        if self.read(1) == 0 {
-            None
-        } else {
-            Some(self.read_chan_alloc())
-        }
-    }
-
-    // Reads the elements that follow an address of this type: a null has none.
+    // Reads the elements that follow an address, power control, slot granting and channel allocation: a null has none.
     #[tactic(auto, unfolding(mac_pdus::specs::Headers::elements_at))]
-    fn read_elements(&mut self, code: u8) -> Elements
+    fn read_elements(
+        &mut self,
+        address: Address,
+    ) -> (Option<u8>, Option<u8>, Option<ChanAllocElement>)
         requires { self.old.at + 42 ≤ 8 * length self.old.octets.now }
-        ensures value { elements_at {X = Elements × ℕ} code (bits_of self.old.octets.now) self.old.at
-            (λ p g a next. (record { power_control_element = p; slot_granting_element = g; chan_alloc_element = a }, next)) ≡ (result, self.new.at) }
+        ensures value { elements_at {X = (Option ℕ × Option ℕ × Option ChanAllocElement) × ℕ} (address_type address) (bits_of self.old.octets.now) self.old.at
+            (λ p g a next. ((p, g, a), next)) ≡ (result, self.new.at) }
         ensures place { (self.new.octets ≡ self.old.octets) × (self.new.at ≤ self.old.at + 42) }
     {
-        if code == 0 {
-            return Elements {
-                power_control_element: None,
-                slot_granting_element: None,
-                chan_alloc_element: None,
-            };
+        if address.is_null() {
+            return (None, None, None);
         }
-        Elements {
-            power_control_element: self.read_opt_u8(4),
-            slot_granting_element: self.read_opt_u8(8),
-            chan_alloc_element: self.read_opt_chan_alloc(),
+        (
+            self.read_opt_u8(4),
+            self.read_opt_u8(8),
+            self.read_optional(Cursor::read_chan_alloc),
+        )
+    }
+
+    // Reads a MAC-RESOURCE header from behind its type on; the longest has 90 bits there.
+    pub fn read_resource(&mut self) -> ResourceHeader
+        requires { self.old.at + 90 ≤ 8 * length self.old.octets.now }
+        ensures { resource_fields_at {X = ResourceHeader × ℕ} (bits_of self.old.octets.now) self.old.at (λ r next. (r, next)) ≡ (result, self.new.at) }
+    {
+        let fill_bits = self.read(1) as u8;
+        let pos_of_grant = self.read(1) as u8;
+        let encryption_mode = self.read(2) as u8;
+        let random_access_flag = self.read(1) as u8;
+        let length_ind = self.read(6) as u8;
+        let address = self.read_address();
+        let (power_control_element, slot_granting_element, chan_alloc_element) = self.read_elements(
+            address,
+        );
+        ResourceHeader {
+            fill_bits,
+            pos_of_grant,
+            encryption_mode,
+            random_access_flag,
+            length_ind,
+            address,
+            power_control_element,
+            slot_granting_element,
+            chan_alloc_element,
         }
     }
-}
-
-// Reads the MAC-RESOURCE header at `at`, behind which there is room for the longest, 92 bits, and the position after it.
-pub fn read_resource(s: &[u8], at: usize) -> (ResourceHeader, usize)
-    requires { (at + 92 ≤ 8 * length s.now) × (8 * length s.now < 2 ^ 64) }
-    ensures { result ≡ resource_at (bits_of s.now) at (λ r next. (r, next)) }
-{
-    // Its type, 00, has two bits.
-    let mut cursor = Cursor {
-        octets: s,
-        at: at + 2,
-    };
-    let fill_bits = cursor.read(1) as u8;
-    let pos_of_grant = cursor.read(1) as u8;
-    let encryption_mode = cursor.read(2) as u8;
-    let random_access_flag = cursor.read(1) as u8;
-    let length_ind = cursor.read(6) as u8;
-    let address = cursor.read_address();
-    let elements = cursor.read_elements(address.addr_type());
-    let header = ResourceHeader {
-        fill_bits,
-        pos_of_grant,
-        encryption_mode,
-        random_access_flag,
-        length_ind,
-        address,
-        power_control_element: elements.power_control_element,
-        slot_granting_element: elements.slot_granting_element,
-        chan_alloc_element: elements.chan_alloc_element,
-    };
-    (header, cursor.at)
 }

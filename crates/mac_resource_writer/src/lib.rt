@@ -23,19 +23,19 @@ fn fixed_piece(r: ResourceHeader) -> Piece
 }
 
 // The address type, and the address with its label or marker.
-#[tactic(auto, using(std::proofs::lemmas::List::append_assoc), unfolding(mac_pdus::specs::Headers::address_bits))]
+#[tactic(auto, using(std::proofs::lemmas::List::append_assoc), unfolding(mac_pdus::specs::Headers::address_bits, mac_pdus::specs::Headers::address_type))]
 fn address_piece(a: Address) -> Piece
     ensures { value_bits result.width result.value ≡ address_bits a }
 {
+    let code = Piece::field(3, a.addr_type() as u64);
     match a {
-        Address::Null => Piece::field(3, 0),
-        Address::Ssi(n) => Piece::field(3, 1).then(24, n as u64),
-        Address::EventLabel(e) => Piece::field(3, 2).then(10, e as u64),
-        Address::Ussi(n) => Piece::field(3, 3).then(24, n as u64),
-        Address::Smi(n) => Piece::field(3, 4).then(24, n as u64),
-        Address::SsiEventLabel(n, e) => Piece::field(3, 5).then(24, n as u64).then(10, e as u64),
-        Address::SsiUsageMarker(n, m) => Piece::field(3, 6).then(24, n as u64).then(6, m as u64),
-        Address::SmiEventLabel(n, e) => Piece::field(3, 7).then(24, n as u64).then(10, e as u64),
+        Address::Null => code,
+        Address::EventLabel(e) => code.then(10, e as u64),
+        Address::Ssi(n) | Address::Ussi(n) | Address::Smi(n) => code.then(24, n as u64),
+        Address::SsiUsageMarker(n, m) => code.then(24, n as u64).then(6, m as u64),
+        Address::SsiEventLabel(n, e) | Address::SmiEventLabel(n, e) => {
+            code.then(24, n as u64).then(10, e as u64)
+        }
     }
 }
 
@@ -77,13 +77,14 @@ fn opt_chan_alloc_piece(alloc: Option<ChanAllocElement>) -> Piece
 }
 
 // Writes a MAC-RESOURCE header from `at` on and answers the position after it.
+// Kept: octets and position stand apart, and each part's position is handed on: see `Piece::put`.
 pub fn put_resource(s: &mut [u8], at: usize, r: ResourceHeader) -> usize
     requires { (at + length (resource_bits r) ≤ 8 * length s.old) × (at + length (resource_bits r) < 2 ^ 64) × ResourceWithin r }
     ensures { Wrote (bits_of s.old) at (bits_of s.new) result (resource_bits r) }
 {
     let next = fixed_piece(r).put(s, at);
     let next = address_piece(r.address).put(s, next);
-    if r.address.addr_type() == 0 {
+    if r.address.is_null() {
         return next;
     }
     let next = opt_piece(4, r.power_control_element).put(s, next);

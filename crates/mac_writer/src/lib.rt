@@ -21,6 +21,7 @@ impl Piece {
     ghost use Rattle.mac_pdus.specs.Headers.{optional_bits, optional_length};
 
     // A field.
+    // Kept: `width ≤ 64` is asked where a piece is made, by a literal at each call; from there on the type has it.
     pub fn field(width: usize, value: u64) -> Piece
         requires { width ≤ 64 }
         ensures { (result.width ≡ width) × (result.value ≡ value) }
@@ -52,6 +53,8 @@ impl Piece {
     }
 
     // Writes the piece and answers the position after it.
+    // Kept: here and below octets and position stand apart, with `at + n < 2 ^ 64` asked of each. Tried: `Pen<'a> { octets: &'a mut [u8], at: usize }`, as
+    // the readers have a `Cursor`; the proof of a function that makes a pen didn't close, what stands in `s` once the pen is let go was left open.
     pub fn put(self, s: &mut [u8], at: usize) -> usize
         requires { (at + self.width ≤ 8 * length s.old) × (at + self.width < 2 ^ 64) }
         ensures { (result ≡ at + self.width) × Wrote (bits_of s.old) at (bits_of s.new) result (value_bits self.width self.value) }

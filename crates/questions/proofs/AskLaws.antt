@@ -65,18 +65,6 @@ module _ {A : Type 0} (done : A) (refused : ℕ → A) where
   yes-between [] q rest e = rw e
   yes-between (p ∷ qs) q rest e = rw (yes-between qs q rest e)
 
--- what is made of the outcome is made of each case of it
-pub ask-map : {A B : Type 0} (f : A → B) (qs : List Question) (done : A) (refused : ℕ → A)
-    → f (ask qs done refused) ≡ ask qs (f done) (λ n. f (refused n))
-unfolding ask
-ask-map f [] done refused = refl
-ask-map f (q ∷ qs) done refused = go q.holds (ask-map f qs done refused)
-  where
-    go : (b : Bool) → f (ask qs done refused) ≡ ask qs (f done) (λ n. f (refused n))
-        → f (cond b (ask qs done refused) (refused q.number)) ≡ cond b (ask qs (f done) (λ n. f (refused n))) (f (refused q.number))
-    go true e = e
-    go false e = refl
-
 -- what holds of every refusal, and of what follows where every answer is yes, holds of the outcome
 pub ask-elim : {A : Type 0} (P : A → Type 0) (qs : List Question) (done : A) (refused : ℕ → A)
     → ((n : ℕ) → P (refused n)) → (AllYes qs → P done) → P (ask qs done refused)

@@ -17,6 +17,11 @@ refusal_number Refusal.TooLate = 10
 refusal_number Refusal.NoRoom = 11
 refusal_number Refusal.Malformed = 12
 
+-- "number (0 done)" of a reply, with a value or without
+abbrev pub number_of : {A : Type 0} → Result A Refusal → ℕ
+number_of (Ok x) = 0
+number_of (Err r) = refusal_number r
+
 -- "On a no, the number is the whole reply": a reply with a value in its numbers, 0 and the value where every answer is yes
 abbrev pub reply : Result ℕ Refusal → List ℕ
 reply (Ok n) = 0 ∷ n ∷ []

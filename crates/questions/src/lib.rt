@@ -2,7 +2,7 @@
 #![tactic(auto)]
 
 ghost use Rattle.std.specs.Prelude.{◌≡◌};
-ghost use Rattle.questions.specs.Questions.{refusal_number};
+ghost use Rattle.questions.specs.Questions.{refusal_number, number_of};
 
 // The question that was answered no. No call asks them all.
 #[derive(Clone, Copy, Debug, PartialEq, Eq)]
@@ -27,5 +27,15 @@ impl From<Refusal> for u8 {
 
     fn from(r: Refusal) -> u8 {
         r as u8
+    }
+}
+
+// The number of a reply: 0 for done.
+pub fn number_of<T: Copy>(reply: Result<T, Refusal>) -> u8
+    ensures { result ≡ number_of reply }
+{
+    match reply {
+        Ok(_) => 0,
+        Err(refusal) => u8::from(refusal),
     }
 }

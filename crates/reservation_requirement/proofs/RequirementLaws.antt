@@ -1,14 +1,12 @@
 -- Laws of reservation requirements: code and case are inverse. Assumes nothing.
 use mathlib.Core.Path.{◌≡◌, refl}
-use mathlib.Core.Bool.{true, false}
 use Prim.Native.Nat.{ℕ, ◌≤◌, ◌<◌}
-use lib.Dec.{leb, lit<}
+use lib.Dec.{lit<}
 use lib.ListN.{take}
 use Rattle.slot_codes.proofs.TableLaws.{past-the-last, agree-below}
-use Rattle.slot_codes.proofs.CodesLaws.{code-read-back, code-reads, code-unread}
+use Rattle.slot_codes.proofs.CodesLaws.{code-read-back}
 use Rattle.reservation_requirement.specs.declared.ReservationRequirement.{ReservationRequirement}
-use Rattle.slot_codes.specs.declared.UnknownCode.{UnknownCode}
-use Rattle.std.proofs.Common.{Ok, Err}
+use Rattle.std.proofs.Common.{Ok}
 use Rattle.reservation_requirement.specs.Requirement.{requirements, requirement_at, requirement_code, requirement_read}
 
 -- every number from 15 on is read as the last case
@@ -47,10 +45,3 @@ requirement-code-of-read = agree-below (λ k. requirement_code (requirement_at k
 -- what was coded is read back
 pub requirement-read-back : (r : ReservationRequirement) → requirement_read (requirement_code r) ≡ Ok r
 requirement-read-back r = code-read-back requirement_at requirement_code r (requirement-code-below-16 r) (requirement-of-its-code r)
-
--- a number that is read as a case is a code, that of the case; one that is not is none
-pub requirement-reads : (x : ℕ) (r : ReservationRequirement) → requirement_read x ≡ Ok r → (leb x 15 ≡ true) × (requirement_code r ≡ x)
-requirement-reads = code-reads requirement_at requirement_code requirement-code-of-read
-
-pub requirement-unread : (x : ℕ) (u : UnknownCode) → requirement_read x ≡ Err u → leb x 15 ≡ false
-requirement-unread = code-unread requirement_at requirement_code

@@ -2,7 +2,7 @@
 #![tactic(auto)]
 
 ghost use Rattle.std.specs.Prelude.{◌≡◌, ◌<◌};
-ghost use Rattle.slot_codes.specs.Codes.{slots_wanted, code_for};
+ghost use Rattle.slot_codes.specs.Codes.{slots_wanted, wants_half, code_for};
 ghost use Rattle.reservation_requirement.specs.Requirement.{requirement_code, requirement_at, requirement_read};
 
 use slot_codes::UnknownCode;
@@ -75,6 +75,13 @@ impl ReservationRequirement {
         ensures { result ≡ slots_wanted (requirement_code self) }
     {
         slot_codes::slots_wanted(self.into())
+    }
+
+    // Is half a slot asked for?
+    pub fn is_halfslot(self) -> bool
+        ensures { result ≡ wants_half (requirement_code self) }
+    {
+        matches!(self, ReservationRequirement::Req1Subslot)
     }
 
     // The least requirement that holds `req` slots; 0 stands for half a slot.

@@ -14,13 +14,14 @@ use Rattle.sizes.specs.Sizes.{latest_delay}
 use Rattle.tdma_time.specs.Time.{slot_of}
 use Rattle.slot_codes.specs.Codes.{slots_wanted, wants_half, capacity_for}
 use Rattle.slot_codes.proofs.CodesLaws.{capacity-below-16}
-use Rattle.uplink.specs.declared.CapAnswer.{CapAnswer}
+use Rattle.uplink.specs.Request.{CapAnswer}
 use Rattle.uplink.specs.declared.Grant.{Grant}
 use Rattle.uplink.specs.declared.Uplink.{Uplink}
 use Rattle.uplink.specs.HalfSlot.{first_half, vacant}
 use Rattle.uplink.specs.Search.{Run}
 use Rattle.uplink.specs.UplinkEntry.{Table, table_view}
-use Rattle.uplink.specs.Request.{Request, Verdict, too_late, grant, earliest_run, settle, verdict, capacity, marker_of, reply_to, given, answer}
+use Rattle.uplink.specs.Request.{Request, Verdict, no_run, too_late, grant, earliest_run, settle, verdict, capacity, marker_of, reply_to}
+use Rattle.uplink.specs.Request.{table_after, counters_after, given, answer}
 use Rattle.sched_core.specs.Questions.{Memory}
 use Rattle.sched_core.specs.Replies.{Numbered}
 use Rattle.sched_core.specs.Calls.{outcome, grant_queued, request_answered}
@@ -80,3 +81,13 @@ pub grant-fits : (u : Uplink) (r : Request) (a : CapAnswer) → a ≡ answer u r
 grant-fits u r a is g e =
     let h = grant-holds u r g (ap (λ (x : CapAnswer). x.reply) (sym is) ∙ e) in
     (h.cap-fits, h.delay-fits)
+
+-- a refusal of the search leaves the uplink
+pub refusal-leaves : (u : Uplink) (r : Request) (a : CapAnswer) → a ≡ answer u r → (x : Refusal) → a.reply ≡ Err x → a.uplink ≡ u
+unfolding answer given table_after counters_after reply_to
+refusal-leaves u r a is x e = ap (λ (y : CapAnswer). y.uplink) is ∙ go (verdict (table_view u.rows) (slot_of u.time) r) (sym (ap (λ (y : CapAnswer). y.reply) is) ∙ e)
+  where
+    go : (w : Verdict) → (given u r w).reply ≡ Err x → (given u r w).uplink ≡ u
+    go no_run h = refl
+    go too_late h = refl
+    go (grant g) h = absurd (cc)

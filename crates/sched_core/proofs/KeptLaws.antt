@@ -16,7 +16,7 @@ use Rattle.sizes.specs.Sizes.{cell_octets, per_timeslot, queue_places, store_oct
 use Rattle.tdma_time.specs.declared.TdmaTime.{TdmaTime}
 use Rattle.tdma_time.specs.Time.{Valid}
 use Rattle.slot_codes.specs.Codes.{grant_octet}
-use Rattle.uplink.specs.declared.CapAnswer.{CapAnswer}
+use Rattle.uplink.specs.Request.{CapAnswer}
 use Rattle.uplink.specs.declared.Grant.{Grant}
 use Rattle.uplink.specs.declared.Uplink.{Uplink}
 use Rattle.uplink.specs.UplinkEntry.{FourRowsOfEighteen, sound_counter, sound_counters}

@@ -14,7 +14,8 @@ use Rattle.questions.specs.declared.Refusal.{Refusal}
 use Rattle.questions.specs.Questions.{Question, ask}
 use Rattle.questions.proofs.AskLaws.{AllYes, Positive, yes-between}
 use Rattle.dl_record.specs.Questions.{legal_address, present_sdu}
-use Rattle.sched_core.specs.Questions.{Memory, asks_lengths, asks_queue, memory_questions, legal_timeslot, has_room}
+use Rattle.tdma_time.specs.Time.{legal_timeslot}
+use Rattle.sched_core.specs.Questions.{Memory, asks_lengths, asks_queue, memory_questions, has_room}
 
 -- a question that let the call pass was answered yes
 pub asked-yes : (b : Bool) (q : Refusal) {x : Unit {0}} {r : Result (Unit {0}) Refusal} → r ≡ cond b (Ok tt) (Err q) → r ≡ Ok x → b ≡ true

@@ -9,7 +9,7 @@ use lib.ListN.{length, get_or, length-set}
 use lib.Seq.{length-paste}
 use Rattle.questions.specs.declared.Refusal.{Refusal}
 use Rattle.sizes.specs.Sizes.{timeslots, per_timeslot, cell_octets, store_octets}
-use Rattle.uplink.specs.declared.CapAnswer.{CapAnswer}
+use Rattle.uplink.specs.Request.{CapAnswer}
 use Rattle.uplink.specs.declared.Grant.{Grant}
 use Rattle.uplink.proofs.Basics.{not-both}
 use Rattle.dl_record.specs.declared.Record.{Record}

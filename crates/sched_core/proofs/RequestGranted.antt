@@ -13,7 +13,7 @@ use Rattle.questions.specs.Questions.{Question, refusal_number}
 use Rattle.questions.proofs.AskLaws.{FirstYes, nth, first-no, every-yes}
 use Rattle.questions.proofs.NumberLaws.{number-positive, number-tells}
 use Rattle.slot_codes.specs.Codes.{wants_half}
-use Rattle.uplink.specs.declared.CapAnswer.{CapAnswer}
+use Rattle.uplink.specs.Request.{CapAnswer}
 use Rattle.uplink.specs.declared.Grant.{Grant}
 use Rattle.uplink.specs.declared.Uplink.{Uplink}
 use Rattle.uplink.specs.HalfSlot.{first_half, vacant}
@@ -23,7 +23,8 @@ use Rattle.uplink.specs.GrantedExactly.{FreeFrom, EarliestFrom, slot_of_run, Res
 use Rattle.uplink.proofs.AnswerLaws.{answer-shape, marker-none}
 use Rattle.uplink.proofs.GrantedExactly.{granted-exactly}
 use Rattle.dl_queue.proofs.EnqueueLaws.{empty-joins}
-use Rattle.sched_core.specs.Questions.{Memory, legal_timeslot, queued_for, memory_questions, request_questions}
+use Rattle.tdma_time.specs.Time.{legal_timeslot}
+use Rattle.sched_core.specs.Questions.{Memory, queued_for, memory_questions, request_questions}
 use Rattle.sched_core.specs.Replies.{Numbered, reply_number}
 use Rattle.sched_core.specs.Calls.{Outcome, outcome, grant_queued, request_answered, request_call}
 use Rattle.sched_core.specs.Invariant.{SoundMemory}

@@ -1,4 +1,5 @@
 -- What question 1 tells of a station. Assumes nothing.
+use Rattle.std.specs.List.{list_all}
 use Rattle.std.proofs.lemmas.Bool.{and_parts}
 use mathlib.Core.Path.{◌≡◌, sym, ap}
 use mathlib.Core.Bool.{true}
@@ -9,7 +10,6 @@ use borrow.Author.Tests.{leb-true}
 use Rattle.sizes.specs.Sizes.{timeslots, per_timeslot}
 use Rattle.tdma_time.specs.Time.{Valid}
 use Rattle.tdma_time.proofs.TimeLaws.{slot_of-timeslot}
-use Rattle.uplink.specs.UplinkEntry.{all}
 use Rattle.uplink.specs.Uplink.{sound_uplink}
 use Rattle.uplink.proofs.Everywhere.{all-at}
 use Rattle.uplink.proofs.SoundLaws.{uplink-parts}
@@ -19,7 +19,7 @@ use Rattle.sched_core.specs.Calls.{current}
 
 pub record StationParts (s : Station) : Type 0 where
   pub uplink : sound_uplink s.uplink ≡ true
-  pub counts : all sound_count s.queued ≡ true
+  pub counts : list_all sound_count s.queued ≡ true
 
 pub station-parts : (s : Station) → sound_station s ≡ true → StationParts s
 unfolding sound_station

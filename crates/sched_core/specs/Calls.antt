@@ -7,7 +7,7 @@ use Rattle.tdma_time.specs.declared.TdmaTime.{TdmaTime}
 use Rattle.tdma_time.specs.Time.{slot_of, timeslot, usable}
 use Rattle.slot_codes.specs.Codes.{grant_octet}
 use Rattle.uplink.specs.declared.PhyBlockNum.{PhyBlockNum}
-use Rattle.uplink.specs.declared.CapAnswer.{CapAnswer}
+use Rattle.uplink.specs.Request.{CapAnswer}
 use Rattle.uplink.specs.declared.Grant.{Grant}
 use Rattle.uplink.specs.UplinkEntry.{entry_at, owner_of}
 use Rattle.uplink.specs.Request.{answer}

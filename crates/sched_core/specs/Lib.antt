@@ -4,4 +4,3 @@ pub mod Replies
 pub mod Calls
 pub mod Invariant
 pub mod RequestGranted
-pub mod Answers

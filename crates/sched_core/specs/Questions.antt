@@ -1,11 +1,11 @@
 -- Document 01, "Questions put to each call": 1 to 8, and which are put to each call. A question is named `asks..`, the test it makes
 -- by what it finds. Assumes nothing.
 use Rattle.std.specs.Prelude.{Bool, ◌&&◌, List, [], ◌∷◌, ◌++◌, ℕ, ◌-◌, leb, ltb, eqb, length, get_or}
-use Rattle.sizes.specs.Sizes.{timeslots, per_timeslot, queue_places, store_octets, block_octets}
+use Rattle.std.specs.List.{list_all}
+use Rattle.sizes.specs.Sizes.{per_timeslot, queue_places, store_octets, block_octets}
 use Rattle.questions.specs.Questions.{Question, question}
 use Rattle.tdma_time.specs.declared.TdmaTime.{TdmaTime}
-use Rattle.tdma_time.specs.Time.{valid}
-use Rattle.uplink.specs.UplinkEntry.{all}
+use Rattle.tdma_time.specs.Time.{valid, legal_timeslot}
 use Rattle.uplink.specs.Uplink.{sound_uplink}
 use Rattle.mac_pdus.specs.Legal.{legal_offered}
 use Rattle.dl_record.specs.declared.Record.{Record}
@@ -29,7 +29,7 @@ sound_count n = leb n per_timeslot
 
 -- "1. Is the state sound: time and counters in range, no second half without a first, a marker (4–62) only in a taken entry, counts up to 16"
 unfoldable pub sound_station : Station → Bool
-sound_station s = sound_uplink s.uplink && all sound_count s.queued
+sound_station s = sound_uplink s.uplink && list_all sound_count s.queued
 
 abbrev pub asks_station : Station → Question
 asks_station s = question (sound_station s) 1
@@ -51,9 +51,6 @@ abbrev pub asks_queue : Memory → Question
 asks_queue m = question (sound_queue m.station.queued m.records m.store) 1
 
 -- "3. Timeslot 1–4?"
-abbrev pub legal_timeslot : ℕ → Bool
-legal_timeslot t = leb 1 t && leb t timeslots
-
 abbrev pub asks_timeslot : ℕ → Question
 asks_timeslot t = question (legal_timeslot t) 3
 
@@ -102,7 +99,7 @@ ack_questions queued t kind n = asks_timeslot t ∷ asks_address kind n ∷ asks
 abbrev pub tma_questions : ℕ → ℕ → Record → List ℕ → List Question
 tma_questions queued t r sdu =
     asks_timeslot t
-    ∷ asks_address r.address_kind r.number
+    ∷ asks_address r.address.kind r.address.number
     ∷ asks_header r
     ∷ asks_sdu r.bits sdu
     ∷ asks_room queued

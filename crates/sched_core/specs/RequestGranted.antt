@@ -13,7 +13,8 @@ use Rattle.dl_record.specs.Questions.{legal_address}
 use Rattle.dl_queue.specs.Queue.{Item, item, zero_cell, queues_of, enqueued}
 use Rattle.dl_queue.specs.Questions.{sound_queue}
 use Rattle.sched_core.specs.Station.{station_of}
-use Rattle.sched_core.specs.Questions.{Memory, memory, sound_station, asks_lengths, legal_timeslot, has_room, queued_for}
+use Rattle.tdma_time.specs.Time.{legal_timeslot}
+use Rattle.sched_core.specs.Questions.{Memory, memory, sound_station, asks_lengths, has_room, queued_for}
 use Rattle.sched_core.specs.Replies.{Numbered}
 use Rattle.sched_core.specs.Calls.{Outcome, outcome, request_call}
 use Rattle.sched_core.specs.Invariant.{SoundMemory}

@@ -1,19 +1,17 @@
 -- A call's plan, question by question. Assumes nothing.
-use Rattle.std.specs.Prelude.{IfOk}
 use Rattle.std.proofs.Common.{Option, Result, Ok, Err}
 use mathlib.Core.Path.{◌≡◌, refl, sym, ap, ◌∙◌, subst}
 use mathlib.Core.Bool.{Bool, true, false, cond}
 use mathlib.Core.List.{List, [], ◌∷◌}
 use Prim.Native.Nat.{ℕ, ◌-◌, ◌≤◌, ◌<◌}
 use native.Mathlib.Omega.{arith}
-use lib.ListN.{length, get_or, set}
+use lib.ListN.{get_or, set}
 use lib.Seq.{set_out}
 use Rattle.sizes.specs.Sizes.{timeslots, per_timeslot, queue_places}
 use Rattle.questions.specs.declared.Refusal.{Refusal}
 use Rattle.questions.specs.Questions.{Question, question, refusal_number, ask}
-use Rattle.questions.proofs.AskLaws.{nth, FirstYes, AllYes, Positive, first-no, every-yes, ask-both}
+use Rattle.questions.proofs.AskLaws.{AllYes, Positive, ask-both}
 use Rattle.questions.proofs.NumberLaws.{number-positive}
-use Rattle.uplink.specs.declared.Uplink.{Uplink}
 use Rattle.dl_record.specs.declared.Record.{Record}
 use Rattle.dl_record.specs.declared.QueuedHeader.{QueuedHeader}
 use Rattle.dl_record.specs.Record.{empty_record, ack_record, offered_record}
@@ -25,8 +23,8 @@ use Rattle.sched_core.specs.Questions.{Memory, memory, sound_station, memory_que
 use Rattle.sched_core.specs.Replies.{Numbered, reply_number}
 use Rattle.sched_core.specs.Calls.{Outcome, outcome, judged, ack_call, tma_call}
 use Rattle.sched_core.proofs.QuestionLaws.{right-lengths, lengths-right, timeslot-range, room-left, memory-passes}
-use Rattle.sched_enqueue.specs.declared.QueuePlan.{QueuePlan}
-use Rattle.sched_enqueue.specs.Plan.{SoundQueue, Joins, Refuses, QueuePlanned, Queued, not_queued, queued_one, ack_queued, tma_queued, plan_queued}
+use Rattle.sched_enqueue.specs.declared.Joining.{Joining}
+use Rattle.sched_enqueue.specs.Plan.{SoundQueue, QueuePlanned, Queued, not_queued, queued_one, ack_queued, tma_queued, joined_queued}
 
 -- the place behind those of a timeslot that has room is in the queue
 pub next-place-below : (ns : List ℕ) (t : ℕ) → 1 ≤ t → t ≤ timeslots → get_or ns (t - 1) 0 < per_timeslot → next_place ns (t - 1) < queue_places
@@ -47,38 +45,6 @@ pub yes-told : (s : Station) (rs : List Record) (st : List ℕ) (lent : Bool)
 yes-told s rs st lent h =
     let both = lengths-right (memory s rs st) h.1.0 in
     record { station = h.0; lengths = h.1.1.0; queue = record { places = both.0; cells = both.1; sound = h.1.1.1.0 } }
-
--- a call that asks its own questions of a sound station, behind those of the memory
-module _ (s : Station) (st : List ℕ) (own : Station → List Question) (fine : Memory → Outcome) (sound : sound_station s ≡ true) where
-  abbrev call : Memory → Outcome
-  call m = judged m (own m.station) (fine m)
-
-  -- its own questions decide
-  own-asked : (rs : List Record) → SoundQueue s rs st → let m = memory s rs st in
-      ask (own s) (fine m) (λ n. outcome (Numbered.refused n) m) ≡ call m
-  own-asked rs q = sym (memory-passes (memory s rs st) [] (own s) _ _ (queue-yes s rs st sound q))
-
-  -- the first that is answered no is the whole reply: the refusal of its number
-  pub no-planned : (k : ℕ) (r : Refusal) → refusal_number r ≡ (nth k (own s)).number → FirstYes k (own s) → (nth k (own s)).holds ≡ false
-      → Refuses call s st st (refusal_number r)
-  no-planned k r e past other =
-      record {
-        whole = λ rs q. ap (λ (n : ℕ). outcome (Numbered.refused n) (memory s rs st)) e ∙ first-no _ _ k (own s) past other ∙ own-asked rs q;
-        store = refl;
-      }
-
-  -- every one is answered yes: what follows decides
-  module _ (all : FirstYes (length (own s)) (own s)) where
-    own-passed : (rs : List Record) → SoundQueue s rs st → fine (memory s rs st) ≡ call (memory s rs st)
-    own-passed rs q = every-yes _ _ (own s) all ∙ own-asked rs q
-
-    pub yes-refused : (after : List ℕ) (n : ℕ) → Refuses fine s st after n → Refuses call s st after n
-    yes-refused after n p = record { whole = λ rs q. p.whole rs q ∙ own-passed rs q; store = p.store }
-
-    pub yes-joined : (after : List ℕ) (reply : Numbered) (next : Station) (place : ℕ) (x : Record) → Joins fine s st after reply next place x
-        → Joins call s st after reply next place x
-    yes-joined after reply next place x p =
-        record { whole = λ rs q. p.whole rs q ∙ own-passed rs q; done = p.done; place-in-queue = p.place-in-queue }
 
 -- ---- queueing, by the counts and the store alone
 
@@ -124,18 +90,15 @@ module _ (s : Station) (st : List ℕ) (own : Station → List Question) (fine :
     refused =
         ask-positive (λ (j : Queued). 1 ≤ reply_number j.reply → j.store ≡ st) (own s) pos _ _ (λ n p z. refl) (λ yes z. absurd (omega (arith, z)))
 
-    pub queued-planned : (after : List ℕ) (p : Result QueuePlan Refusal) → IfOk p (λ j. j.station.uplink ≡ s.uplink) → plan_queued p s after ≡ asked
-        → QueuePlanned judges s st after p
-    queued-planned after (Ok p) u e =
+    pub queued-planned : (after : List ℕ) (p : Result Joining Refusal) → joined_queued p s.queued after ≡ asked → QueuePlanned judges s st after p
+    queued-planned after (Ok j) e =
         record {
-          whole = λ rs q.
-              ap (λ (v : Uplink). outcome Numbered.done (memory (station_of v p.station.queued) (set rs p.place p.«record») after)) u
-              ∙ ap (stored_in rs) e ∙ whole rs q;
+          whole = λ rs q. ap (stored_in rs) e ∙ whole rs q;
           done = refl;
           place-in-queue =
-              subst (λ (k : ℕ). k < queue_places) (ap (λ (j : Queued). j.place) (sym e)) (joins (ap (λ (j : Queued). reply_number j.reply) (sym e)));
+              subst (λ (k : ℕ). k < queue_places) (ap (λ (x : Queued). x.place) (sym e)) (joins (ap (λ (x : Queued). reply_number x.reply) (sym e)));
         }
-    queued-planned after (Err r) u e =
+    queued-planned after (Err r) e =
         let n : Numbered = Numbered.refused (refusal_number r) in
         let left : after ≡ st =
         ap (λ (j : Queued). j.store) e ∙ refused (omega (arith, ap (λ (j : Queued). reply_number j.reply) e, number-positive r)) in
@@ -148,25 +111,25 @@ module _ (s : Station) (st : List ℕ) (own : Station → List Question) (fine :
         }
 
 -- an acknowledgement's
-pub ack-planned : (s : Station) (st : List ℕ) (t kind n : ℕ) (p : Result QueuePlan Refusal) → sound_station s ≡ true
-    → IfOk p (λ j. j.station.uplink ≡ s.uplink) → plan_queued p s st ≡ ack_queued s.queued st t kind n → QueuePlanned (λ m. ack_call m t kind n) s st st p
+pub ack-planned : (s : Station) (st : List ℕ) (t kind n : ℕ) (p : Result Joining Refusal) → sound_station s ≡ true
+    → joined_queued p s.queued st ≡ ack_queued s.queued st t kind n → QueuePlanned (λ m. ack_call m t kind n) s st st p
 unfolding ack_call ack_queued
-ack-planned s st t kind n p sound u e =
+ack-planned s st t kind n p sound e =
     queued-planned s st (λ (x : Station). ack_questions (queued_for x.queued t) t kind n) _ t (ack_record kind n) st sound
     (omega arith, (omega arith, (omega arith, tt)))
     (λ yes. let r = timeslot-range t yes.0 in next-place-below s.queued t r.0 r.1 (room-left (queued_for s.queued t) yes.1.1.0))
-    (λ rs. refl) st p u e
+    (λ rs. refl) st p e
 
 -- a record's
 pub tma-planned : (s : Station) (st st' : List ℕ) (t kind n : ℕ) (tag : Option ℕ) (header : QueuedHeader) (bits : ℕ) (sdu : List ℕ)
-    (p : Result QueuePlan Refusal) → sound_station s ≡ true → IfOk p (λ j. j.station.uplink ≡ s.uplink)
-    → plan_queued p s st' ≡ tma_queued s.queued st t (offered_record kind n tag header bits) sdu
+    (p : Result Joining Refusal) → sound_station s ≡ true
+    → joined_queued p s.queued st' ≡ tma_queued s.queued st t (offered_record kind n tag header bits) sdu
     → QueuePlanned (λ m. tma_call m t kind n tag header bits sdu) s st st' p
 unfolding tma_call tma_queued
-tma-planned s st st' t kind n tag header bits sdu p sound u e =
+tma-planned s st st' t kind n tag header bits sdu p sound e =
     let r = offered_record kind n tag header bits in
     queued-planned s st (λ (x : Station). tma_questions (queued_for x.queued t) t r sdu) _ t r (with_cell st s.queued (t - 1) (cell_of bits sdu)) sound
     (omega arith, (omega arith, (omega arith, (omega arith, (omega arith, tt)))))
     (λ yes. let k = timeslot-range t yes.0 in
     next-place-below s.queued t k.0 k.1 (room-left (queued_for s.queued t) yes.1.1.1.1.0))
-    (λ rs. refl) st' p u e
+    (λ rs. refl) st' p e

@@ -3,19 +3,17 @@ use Rattle.std.specs.Prelude.{◌≡◌, true, List, ℕ, ◌-◌, ◌<◌, leng
 use Rattle.sizes.specs.Sizes.{queue_places, store_octets}
 use Rattle.questions.specs.declared.Refusal.{Refusal}
 use Rattle.questions.specs.Questions.{refusal_number, ask}
-use Rattle.uplink.specs.declared.Uplink.{Uplink}
 use Rattle.dl_record.specs.declared.Record.{Record}
 use Rattle.dl_record.specs.Record.{empty_record, ack_record}
 use Rattle.dl_sdu_store.specs.Cells.{cell_of}
 use Rattle.dl_queue.specs.Queue.{next_place, with_cell}
 use Rattle.dl_queue.specs.Questions.{sound_queue}
 use Rattle.sched_core.specs.declared.Station.{Station}
-use Rattle.sched_core.specs.Station.{station_of}
+use Rattle.sched_core.specs.Station.{with_queued}
 use Rattle.sched_core.specs.Questions.{Memory, memory, queued_for, ack_questions, tma_questions}
 use Rattle.sched_core.specs.Replies.{Numbered, reply_number}
 use Rattle.sched_core.specs.Calls.{Outcome, outcome}
 use Rattle.sched_core.specs.Invariant.{one_more}
-use Rattle.sched_enqueue.specs.declared.QueuePlan.{QueuePlan}
 use Rattle.sched_enqueue.specs.declared.Joining.{Joining}
 
 -- a queue and a store that question 2 and question 1 for records and cells let pass
@@ -37,9 +35,9 @@ pub record Joins (call : Memory → Outcome) (s : Station) (before after : List 
   pub done : reply_number reply ≡ 0
   pub place-in-queue : place < queue_places
 
--- the plan of queueing an acknowledgement or a record
-abbrev pub QueuePlanned : (Memory → Outcome) → Station → List ℕ → List ℕ → Result QueuePlan Refusal → Type 0
-QueuePlanned call s before after (Ok p) = Joins call s before after Numbered.done p.station p.place p.«record»
+-- the plan of queueing an acknowledgement or a record: the station has the plan's counts
+abbrev pub QueuePlanned : (Memory → Outcome) → Station → List ℕ → List ℕ → Result Joining Refusal → Type 0
+QueuePlanned call s before after (Ok j) = Joins call s before after Numbered.done (with_queued s j.queued) j.place j.«record»
 QueuePlanned call s before after (Err x) = Refuses call s before after (refusal_number x)
 
 -- ---- queueing, by the counts and the store alone: the same whatever the queue
@@ -74,20 +72,6 @@ abbrev pub joined_queued : Result Joining Refusal → List ℕ → List ℕ → 
 joined_queued (Ok j) ns st = record { reply = Numbered.done; queued = j.queued; place = j.place; «record» = j.«record»; store = st }
 joined_queued (Err x) ns st = not_queued ns st (refusal_number x)
 
--- and for a station
-abbrev pub plan_queued : Result QueuePlan Refusal → Station → List ℕ → Queued
-plan_queued (Ok p) s st = record { reply = Numbered.done; queued = p.station.queued; place = p.place; «record» = p.«record»; store = st }
-plan_queued (Err x) s st = not_queued s.queued st (refusal_number x)
-
 -- a record joins the queue of timeslot t
 abbrev pub joined_joining : List ℕ → ℕ → Record → Joining
 joined_joining ns t r = record { queued = one_more ns t; place = next_place ns (t - 1); «record» = r }
-
--- the plan for a station with that uplink
-abbrev pub plan_for : Uplink → Joining → QueuePlan
-plan_for u j = record { station = station_of u j.queued; place = j.place; «record» = j.«record» }
-
--- and of what was answered
-abbrev pub plan_of : Uplink → Result Joining Refusal → Result QueuePlan Refusal
-plan_of u (Ok j) = Ok (plan_for u j)
-plan_of u (Err x) = Err x

@@ -1,6 +1,6 @@
 -- A request needs of the uplink table only the row of its timeslot: its plan on a station with that row alone (`row_alone`), with the row
 -- put back, is its plan on the whole station (`row-planned`). Assumes nothing.
-use Rattle.std.specs.Prelude.{IfOk}
+use Rattle.std.specs.Prelude.{IfOk, IfErr}
 use Rattle.std.proofs.Common.{Result, Ok, Err}
 use mathlib.Core.Path.{◌≡◌, refl, sym, ap, ◌∙◌}
 use mathlib.Core.Bool.{true}
@@ -10,7 +10,7 @@ use Rattle.sizes.specs.Sizes.{timeslots, queue_places}
 use Rattle.questions.specs.declared.Refusal.{Refusal}
 use Rattle.questions.specs.Questions.{Question, refusal_number}
 use Rattle.questions.proofs.AskLaws.{ask-both}
-use Rattle.uplink.specs.declared.CapAnswer.{CapAnswer}
+use Rattle.uplink.specs.Request.{CapAnswer}
 use Rattle.uplink.specs.declared.Grant.{Grant}
 use Rattle.uplink.specs.declared.Uplink.{Uplink}
 use Rattle.uplink.specs.Request.{Request, answer}
@@ -19,7 +19,8 @@ use Rattle.uplink.proofs.RowLaws.{row-alone-sound, with-row-alone, answer-by-row
 use Rattle.dl_record.specs.declared.Record.{Record}
 use Rattle.sched_core.specs.declared.Station.{Station}
 use Rattle.sched_core.specs.Station.{station_of}
-use Rattle.sched_core.specs.Questions.{Memory, memory, sound_station, legal_timeslot, queued_for, request_questions}
+use Rattle.tdma_time.specs.Time.{legal_timeslot}
+use Rattle.sched_core.specs.Questions.{Memory, memory, sound_station, queued_for, request_questions}
 use Rattle.sched_core.specs.Replies.{Numbered}
 use Rattle.sched_core.specs.Calls.{Outcome, outcome, grant_queued, request_answered, request_call}
 use Rattle.sched_core.proofs.QuestionLaws.{timeslot-range, memory-passes}
@@ -80,41 +81,33 @@ module _ (s : Station) (i t code kind n : ℕ) (inside : i < timeslots) (rs : Li
       ∙ ap (row_back s i) (sym (memory-passes alone [] own _ _ (queue-yes alone.station rs st (row-station-sound s i sound) same)))
 
 -- what the code answers is the plan of the call
-pub request-planned : (s : Station) (t code kind n : ℕ) (p : Result RequestPlan Refusal) → sound_station s ≡ true
-    → ((rs : List Record) (st : List ℕ) → let m = memory s rs st in planned_outcome p m ≡ request_asked m t code kind n)
-    → IfOk p (λ j. j.place < queue_places) → RequestPlanned (λ m. request_call m t code kind n) s p
+pub request-planned : (s : Station) (t code kind n : ℕ) (u : Uplink) (p : Result RequestPlan Refusal) → sound_station s ≡ true
+    → ((rs : List Record) (st : List ℕ) → let m = memory s rs st in planned_outcome p u m ≡ request_asked m t code kind n)
+    → IfErr p (λ _. u ≡ s.uplink) → IfOk p (λ j. j.joining.place < queue_places) → RequestPlanned (λ m. request_call m t code kind n) s u p
 unfolding request_asked request_call
-request-planned s t code kind n (Ok p) sound whole place = λ store.
+request-planned s t code kind n u (Ok p) sound whole left place = λ store.
     let own : List Question = request_questions (queued_for s.queued t) t code kind n in
     record {
       whole = λ rs q. whole rs store ∙ sym (memory-passes (memory s rs store) [] own _ _ (queue-yes s rs store sound q));
       done = refl;
       place-in-queue = place;
     }
-request-planned s t code kind n (Err x) sound whole place = λ store.
-    let own : List Question = request_questions (queued_for s.queued t) t code kind n in
-    record {
-      whole = λ rs q. whole rs store ∙ sym (memory-passes (memory s rs store) [] own _ _ (queue-yes s rs store sound q));
-      store = refl;
-    }
-
--- a plan, with the row put back into the station's table
-abbrev pub row_put : Station → ℕ → Result RequestPlan Refusal → Result RequestPlan Refusal
-row_put s i (Ok p) =
-    Ok (record {
-      grant = p.grant;
-      station = station_of (with_row_of s.uplink i p.station.uplink) p.station.queued;
-      place = p.place;
-      «record» = p.«record»;
-    })
-row_put s i (Err x) = Err x
+request-planned s t code kind n u (Err x) sound whole left place = (
+  left,
+  λ store.
+      let own : List Question = request_questions (queued_for s.queued t) t code kind n in
+      record {
+        whole = λ rs q. whole rs store ∙ sym (memory-passes (memory s rs store) [] own _ _ (queue-yes s rs store sound q));
+        store = refl;
+      },
+)
 
 -- a request's plan on the row of its timeslot alone, with the row put back, is its plan; for a timeslot that is refused any row will do
-pub row-planned : (s : Station) (i t code kind n : ℕ) (p : Result RequestPlan Refusal) → i < timeslots → (legal_timeslot t ≡ true → i ≡ t - 1)
-    → sound_station s ≡ true
-    → RequestPlanned (λ m. request_call m t code kind n) (station_of (row_alone s.uplink i) s.queued) p
-    → RequestPlanned (λ m. request_call m t code kind n) s (row_put s i p)
-row-planned s i t code kind n (Ok p) inside at sound planned = λ store.
+pub row-planned : (s : Station) (i t code kind n : ℕ) (u : Uplink) (p : Result RequestPlan Refusal) → i < timeslots
+    → (legal_timeslot t ≡ true → i ≡ t - 1) → sound_station s ≡ true
+    → RequestPlanned (λ m. request_call m t code kind n) (station_of (row_alone s.uplink i) s.queued) u p
+    → RequestPlanned (λ m. request_call m t code kind n) s (with_row_of s.uplink i u) p
+row-planned s i t code kind n u (Ok p) inside at sound planned = λ store.
     let k = planned store in
     record {
       whole = λ rs q.
@@ -123,12 +116,15 @@ row-planned s i t code kind n (Ok p) inside at sound planned = λ store.
       done = k.done;
       place-in-queue = k.place-in-queue;
     }
-row-planned s i t code kind n (Err x) inside at sound planned = λ store.
-    let k = planned store in
-    record {
-      whole = λ rs q.
-          refused-back s i t code kind n inside rs store (Numbered.refused (refusal_number x))
-          ∙ ap (row_back s i) (k.whole rs (record { places = q.places; cells = q.cells; sound = q.sound }))
-          ∙ sym (request-by-row s i t code kind n inside rs store at sound q);
-      store = k.store;
-    }
+row-planned s i t code kind n u (Err x) inside at sound planned = (
+  ap (with_row_of s.uplink i) planned.0 ∙ with-row-alone s.uplink i inside,
+  λ store.
+      let k = planned.1 store in
+      record {
+        whole = λ rs q.
+            refused-back s i t code kind n inside rs store (Numbered.refused (refusal_number x))
+            ∙ ap (row_back s i) (k.whole rs (record { places = q.places; cells = q.cells; sound = q.sound }))
+            ∙ sym (request-by-row s i t code kind n inside rs store at sound q);
+        store = k.store;
+      },
+)

@@ -1,51 +1,43 @@
-// A request for capacity: the questions in order, the search, and the grant queued. A plan is what it leaves to a caller that keeps
-// the queue elsewhere.
+// A request for capacity, by the uplink and the counts: the questions in order, the search, and the grant that joins the queue. So it
+// serves a caller that keeps station and queue elsewhere too.
 #![tactic(auto)]
 
-ghost use Rattle.std.specs.Prelude.{◌≡◌, ◌≤◌, ◌<◌, true, false, leb, List, ℕ, Ok, IfOk, IfErr};
+ghost use Rattle.std.specs.Prelude.{◌≡◌, ◌≤◌, ◌<◌, true, false, leb, List, ℕ, IfOk, IfErr};
 ghost use Rattle.sizes.specs.Sizes.{queue_places, latest_delay};
 ghost use Rattle.questions.specs.declared.Refusal.{Refusal};
+ghost use Rattle.tdma_time.specs.Time.{Valid};
+ghost use Rattle.slot_codes.specs.Codes.{grant_octet};
 ghost use Rattle.reservation_requirement.specs.Requirement.{requirement_code};
-ghost use Rattle.uplink.specs.declared.CapAnswer.{CapAnswer};
 ghost use Rattle.dl_record.specs.declared.Record.{Record};
-ghost use Rattle.sched_core.specs.declared.Station.{Station};
+ghost use Rattle.dl_record.specs.Record.{grant_record};
+ghost use Rattle.sched_core.specs.Station.{station_of};
 ghost use Rattle.sched_core.specs.Questions.{memory};
-ghost use Rattle.sched_core.specs.Calls.{grant_queued};
-ghost use Rattle.sched_request.specs.RequestPlan.{planned_outcome, request_asked, Grants};
+ghost use Rattle.sched_request.specs.RequestPlan.{planned_outcome, request_asked};
 
 use basic_slotgrant::BasicSlotgrant;
-use dl_record::Record;
+use dl_record::{Record, TetraAddress};
 use questions::Refusal;
 use reservation_requirement::ReservationRequirement;
-use sched_core::{SoundStation, Station};
-use sched_enqueue::Room;
+use sched_core::ask;
+use sched_enqueue::{Joining, Room};
+use sizes::TIMESLOTS;
+use tdma_time::Timeslot;
 use uplink::{Grant, Uplink};
 
-// The grant, the station after the request, and the record that joins the queue with its place.
+// The grant, and its record that joins the queue.
 #[derive(Clone, Copy)]
 pub struct RequestPlan {
     pub grant: Grant,
-    pub station: Station,
-    pub place: usize,
-    pub record: Record,
+    pub joining: Joining,
 }
 
-// A grant is queued where there is room; the uplink is the one with its reservation.
-fn queue_grant(room: Room, kind: u8, number: u32, uplink: Uplink, grant: Grant) -> RequestPlan
+// A grant as it is queued.
+fn grant_record(address: TetraAddress, grant: Grant) -> Record
     requires { (grant.capacity ≤ 15) × (grant.delay ≤ latest_delay) }
-    ensures { let answer : CapAnswer = record { reply = Ok grant; uplink = uplink } in
-        (s : Station) → s.queued ≡ room.queued → Grants (λ m. grant_queued m room.timeslot kind number answer (Ok grant)) s result }
+    ensures { result ≡ grant_record address.kind address.number (grant_octet grant.capacity grant.delay) grant.usage_marker }
 {
     let octet = u8::from(BasicSlotgrant::of_codes(grant.capacity, grant.delay));
-    RequestPlan {
-        grant,
-        station: Station {
-            uplink,
-            queued: room.one_more(),
-        },
-        place: room.place(),
-        record: Record::grant(kind, number, octet, grant.usage_marker),
-    }
+    Record::grant(address, octet, grant.usage_marker)
 }
 
 // Question 4.
@@ -56,24 +48,26 @@ fn requirement_of(code: u8) -> Result<ReservationRequirement, Refusal>
     ReservationRequirement::try_from(code).map_err(|_| Refusal::Requirement)
 }
 
-// A request for capacity, after questions 1 and 2: its own questions, 9 and 10 by the search, then the grant is queued.
+// A request for capacity, after questions 1 and 2: its own questions, 9 and 10 by the search, then the grant joins the queue.
 #[tactic(auto, unfolding(questions::specs::Questions::ask, crate::specs::RequestPlan::request_asked))]
 pub fn request_plan(
-    s: SoundStation,
+    uplink: &mut Uplink,
+    queued: [u8; TIMESLOTS],
     timeslot: u8,
     code: u8,
-    kind: u8,
-    number: u32,
+    address: TetraAddress,
 ) -> Result<RequestPlan, Refusal>
-    ensures whole { (rs : List Record) (st : List ℕ) → let m = memory s.station rs st in
-        planned_outcome result m ≡ request_asked m timeslot code kind number }
-    ensures place { IfOk result (λ p. p.place < queue_places) }
+    requires { Valid uplink.old.time }
+    ensures whole { (rs : List Record) (st : List ℕ) → let m = memory (station_of uplink.old queued) rs st in
+        planned_outcome result uplink.new m ≡ request_asked m timeslot code address.kind address.number }
+    ensures left { IfErr result (λ _. uplink.new ≡ uplink.old) }
+    ensures place { IfOk result (λ p. p.joining.place < queue_places) }
 {
-    sched_core::ask(sched_core::timeslot_is_legal(timeslot), Refusal::Timeslot)?;
+    let timeslot = Timeslot::try_from(timeslot)?;
     let requirement = requirement_of(code)?;
-    sched_core::ask(dl_record::address_is_legal(kind, number), Refusal::Address)?;
-    let room = Room::of(s.station.queued, timeslot)?;
-    let mut uplink = s.station.uplink;
-    let grant = ul_grant::ul_process_cap_req(&mut uplink, timeslot, requirement, number)?;
-    Ok(queue_grant(room, kind, number, uplink, grant))
+    ask(address.is_legal(), Refusal::Address)?;
+    let room = Room::of(queued, timeslot)?;
+    let grant = ul_grant::ul_process_cap_req(uplink, timeslot, requirement, address.number)?;
+    let joining = room.joined(grant_record(address, grant));
+    Ok(RequestPlan { grant, joining })
 }

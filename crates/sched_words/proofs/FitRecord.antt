@@ -128,7 +128,7 @@ empty-words ws size =
 -- ---- only the first 23 words are read
 
 -- an allocation is read of ten words
-alloc-same : (v w : List ℕ) → ((i : ℕ) → i < 10 → get_or v i 0 ≡ get_or w i 0) → alloc_from v ≡ alloc_from w
+pub alloc-same : (v w : List ℕ) → ((i : ℕ) → i < 10 → get_or v i 0 ≡ get_or w i 0) → alloc_from v ≡ alloc_from w
 alloc-same v w f = ap (λ (n : ℕ). alloc_by n v) (f 0 (omega arith)) ∙ go (get_or w 0 0)
   where
     go : (n : ℕ) → alloc_by n v ≡ alloc_by n w
@@ -153,8 +153,7 @@ read-front ws h =
     let w : (k : ℕ) → k < record_word_count → get_or front k 0 ≡ get_or ws k 0 = λ k l. get_or-take record_word_count ws k 0 l in
     λ i. record {
       kind = kind_from (w 0 (omega arith) i);
-      address_kind = w 1 (omega arith) i % 256;
-      number = w 2 (omega arith) i;
+      address = record { kind = w 1 (omega arith) i % 256; number = w 2 (omega arith) i };
       tag = opt_low 65536 (w 3 (omega arith) i);
       header = record {
         pos_of_grant = w 4 (omega arith) i % 256;

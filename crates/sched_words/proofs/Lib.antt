@@ -6,6 +6,7 @@ pub mod RoundTrip
 pub mod SoundStation
 pub mod StationWords
 pub mod FitRecord
+pub mod FrontLaws
 pub mod QueueRoundTrip
 pub mod WordsQueue
 pub mod TimeslotWords

@@ -16,7 +16,7 @@ above most low w h k = go (leb w most)
 
 module _ (ws : List ℕ) where
   -- an address kind above 2: 5
-  pub wide-kind : 2 < word_at ws 1 → (n : ℕ) → legal_address (offered_from ws).address_kind n ≡ false
+  pub wide-kind : 2 < word_at ws 1 → (n : ℕ) → legal_address (offered_from ws).address.kind n ≡ false
   unfolding offered_from legal_address
   wide-kind h n = ap (λ (b : Bool). b && fits 24 n) (lt-leb (saturated 255 (word_at ws 1)) 2 (above 255 2 (word_at ws 1) h (omega arith)))
 

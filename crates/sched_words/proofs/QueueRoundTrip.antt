@@ -48,7 +48,7 @@ AllocFits None = Unit
 AllocFits (Some c) = ChanAllocFits c
 
 pub record RecordFits (r : Record) : Type 0 where
-  pub address : r.address_kind < 256
+  pub address : r.address.kind < 256
   pub tag : OptWithin 16 r.tag
   pub position : r.header.pos_of_grant < 256
   pub encryption : r.header.encryption_mode < 256
@@ -105,8 +105,7 @@ record-read-back r f rest =
     let o = h.chan_alloc_element in
     λ i. record {
       kind = kind-back r.kind i;
-      address_kind = small 256 r.address_kind f.address i;
-      number = r.number;
+      address = record { kind = small 256 r.address.kind f.address i; number = r.address.number };
       tag = opt-back 16 r.tag (omega arith) f.tag i;
       header = record {
         pos_of_grant = small 256 h.pos_of_grant f.position i;
@@ -166,7 +165,7 @@ alloc-fits (Some c) h =
       frame18 = frame18-fits c.mon_pattern c.frame18_mon_pattern p.9;
     }
 
-module _ (r : Record) (kind-small : r.address_kind < 256) (tag-Fits : OptWithin 16 r.tag) where
+module _ (r : Record) (kind-small : r.address.kind < 256) (tag-Fits : OptWithin 16 r.tag) where
   -- a grant or an ack
   bare-fits : holds_grant_only r ≡ true → OptWithin 8 r.header.slot_granting_element → OptWithin 8 r.header.usage_marker → RecordFits r
   unfolding holds_grant_only header_holds_grant_only
@@ -235,9 +234,9 @@ module _ (r : Record) (kind-small : r.address_kind < 256) (tag-Fits : OptWithin 
 pub sound-fits : (r : Record) → sound_record r ≡ true → OptWithin 16 r.tag → RecordFits r
 unfolding sound_record legal_address
 sound-fits r e t =
-    let a = (and_parts (leb r.address_kind 2 && fits 24 r.number) (sound_as r.kind r) e).0 in
-    let k : r.address_kind ≤ 2 = leb-true _ _ (and_parts (leb r.address_kind 2) (fits 24 r.number) a).0 in
-    as-kind r (omega arith) t r.kind (and_parts (leb r.address_kind 2 && fits 24 r.number) (sound_as r.kind r) e).1
+    let a = (and_parts (leb r.address.kind 2 && fits 24 r.address.number) (sound_as r.kind r) e).0 in
+    let k : r.address.kind ≤ 2 = leb-true _ _ (and_parts (leb r.address.kind 2) (fits 24 r.address.number) a).0 in
+    as-kind r (omega arith) t r.kind (and_parts (leb r.address.kind 2 && fits 24 r.address.number) (sound_as r.kind r) e).1
 
 -- the record of an empty place
 pub empty-fits : RecordFits empty_record

@@ -1,5 +1,6 @@
 -- Words stand for one station and one queue, and these for one list of words. So what one call leaves is what the next one gets, and a history over words is
 -- a history of document 01. Assumes nothing.
+use Rattle.std.specs.List.{list_all}
 use Rattle.std.proofs.lemmas.Bool.{and_parts}
 use Rattle.std.proofs.Common.{◌≡◌, ℕ, zero, suc, ◌+◌, ◌%◌, ◌^◌, ◌<◌, ◌≤◌, Bool, true, false}
 use Rattle.std.proofs.Common.{cond, eqb, leb, List, [], ◌∷◌, ◌++◌, length, get_or, drop, Option, Some, None}
@@ -9,7 +10,7 @@ use Rattle.sizes.specs.Sizes.{timeslots, per_timeslot}
 use Rattle.tdma_time.specs.Time.{valid}
 use Rattle.mac_pdus.specs.Within.{OptWithin}
 use Rattle.uplink.specs.declared.Entry.{Entry}
-use Rattle.uplink.specs.UplinkEntry.{Table, FourRowsOfEighteen, all, sound_owner, sound_counter, sound_marker, sound_entry, sound_row}
+use Rattle.uplink.specs.UplinkEntry.{Table, FourRowsOfEighteen, sound_owner, sound_counter, sound_marker, sound_entry, sound_row}
 use Rattle.uplink.specs.Uplink.{uplink_of, sound_uplink}
 use Rattle.uplink.proofs.Basics.{not-both, four}
 use Rattle.uplink.proofs.Everywhere.{all-at}
@@ -54,9 +55,9 @@ module _ {A : Type 0} (write : A → List ℕ) (read : List ℕ → A) (none : A
 
 -- ---- elements one after another
 
-pub every-all : {A : Type 0} (p : A → Bool) (xs : List A) → all p xs ≡ true → All (λ (x : A). p x ≡ true) xs
+pub every-all : {A : Type 0} (p : A → Bool) (xs : List A) → list_all p xs ≡ true → All (λ (x : A). p x ≡ true) xs
 every-all p [] h = tt
-every-all p (x ∷ xs) h = ((and_parts (p x) (all p xs) h).0, every-all p xs (and_parts (p x) (all p xs) h).1)
+every-all p (x ∷ xs) h = ((and_parts (p x) (list_all p xs) h).0, every-all p xs (and_parts (p x) (list_all p xs) h).1)
 
 module _ {A : Type 0} (f : A → List ℕ) (g : List ℕ → A) (k : ℕ) (size : (x : A) → length (f x) ≡ k) (P : A → Type 0)
     (back : (x : A) → P x → (rest : List ℕ) → g (f x ++ rest) ≡ x) where

@@ -16,13 +16,6 @@ use Rattle.mac_pdus.specs.declared.ChanAllocElement.{ChanAllocElement}
 
 -- ---- single words
 
--- the words of a channel allocation, one by one
-pub ten-words : (a : List ℕ) (o : Option ChanAllocElement) (rest : List ℕ) → a ≡ alloc_words o
-    → get_or a 0 0 ∷ get_or a 1 0 ∷ get_or a 2 0 ∷ get_or a 3 0 ∷ get_or a 4 0 ∷ get_or a 5 0 ∷ get_or a 6 0 ∷ get_or a 7 0 ∷ get_or a 8 0 ∷ get_or a 9 0 ∷ rest
-    ≡ alloc_words o ++ rest
-ten-words a None rest e = rw e
-ten-words a (Some c) rest e = rw e
-
 pub ten-long : (o : Option ChanAllocElement) → length (alloc_words o) ≡ 10
 ten-long None = refl
 ten-long (Some c) = refl

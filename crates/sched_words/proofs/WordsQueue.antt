@@ -1,15 +1,16 @@
 -- The queue that words stand for, place by place: it is sound exactly if the words of each place are those of a record that is sound there. A record stored in
 -- its words is one set in the queue. Assumes nothing.
 use Rattle.std.proofs.lemmas.Bool.{and_parts, and_from}
-use Rattle.std.proofs.Common.{◌≡◌, ℕ, zero, suc, ◌+◌, ◌-◌, ◌*◌, ◌/◌, ◌%◌, ◌<◌, ◌≤◌, Bool, true, false, cond, ◌&&◌, ltb, List, [], ◌∷◌, length, get_or}
+use Rattle.std.proofs.Common.{◌≡◌, ℕ, zero, suc, ◌+◌, ◌*◌, ◌/◌, ◌%◌, ◌<◌, ◌≤◌, Bool, true, false, cond, ◌&&◌, ltb, List, [], ◌∷◌, length, get_or}
 use Rattle.std.proofs.Common.{take, drop, set, replicate, sym, refl, ap, ◌∙◌, ap₂, arith, length-drop, drop-drop}
 use mathlib.Core.Bool.{and_assoc}
 use lib.Seq.{sets}
-use Rattle.sizes.specs.Sizes.{cell_octets, timeslots, per_timeslot, queue_places}
+use Rattle.std.specs.Simd.{first_chunks}
+use Rattle.sizes.specs.Sizes.{cell_octets, timeslots, per_timeslot, queue_places, store_octets}
 use Rattle.uplink.proofs.Basics.{not-both}
 use Rattle.dl_record.specs.declared.Record.{Record}
 use Rattle.dl_record.specs.Record.{empty_record}
-use Rattle.dl_record.specs.Questions.{sound_record, is_empty}
+use Rattle.dl_record.specs.Questions.{is_empty}
 use Rattle.dl_sdu_store.specs.Cells.{all_zero, clean_past}
 use Rattle.dl_queue.specs.Questions.{sound_place, sound_queue}
 use Rattle.dl_queue.proofs.PlaceLaws.{empty-bits}
@@ -25,6 +26,7 @@ use Rattle.sched_words.proofs.QueueRoundTrip.{no-queue}
 use Rattle.sched_words.specs.Front.{begins}
 use Rattle.sched_words.proofs.FitLaws.{begins-whole, begins-take, parts-turn}
 use Rattle.sched_words.proofs.FitRecord.{empty-words, read-front}
+use Rattle.sched_words.proofs.FrontLaws.{run-at}
 
 -- ---- the words of a place
 
@@ -162,11 +164,6 @@ module _ (ns s ws : List ℕ) (counts : length ns ≡ timeslots) (size : length 
 
 -- ---- the tests of the code
 
-pub filled-place : (ws cell : List ℕ) (r : Record) (a b d : Bool) → r ≡ record_read ws → a ≡ fit ws → b ≡ sound_record r → d ≡ clean_past r.bits cell
-    → a && b && d ≡ fit ws && sound_place true (record_read ws) cell
-unfolding sound_place
-filled-place ws cell r a b d e fa fb fd = and_assoc a b d ∙ ap₂ ◌&&◌ fa (ap₂ ◌&&◌ fb fd ∙ ap (λ (x : Record). sound_record x && clean_past x.bits cell) e)
-
 pub unfilled-place : (ws cell : List ℕ) (a d : Bool) → length ws ≡ record_word_count → a ≡ all_zero ws → d ≡ clean_past 0 cell → a && d ≡ fit ws
     && sound_place false (record_read ws) cell
 unfolding sound_place
@@ -176,17 +173,13 @@ unfilled-place ws cell a d size fa fd =
     ∙ ap (λ (b : Bool). fit ws && b) (empty-bits r (λ (n : ℕ). clean_past n cell))
 
 -- place p, as the code lends it
-pub place-told : (ws s : List ℕ) (b filled : Bool) (p : ℕ)
-    → b ≡ fit (take (record_word_count * p + record_word_count - record_word_count * p) (drop (record_word_count * p) ws))
-    && sound_place filled (record_read (take (record_word_count * p + record_word_count - record_word_count * p) (drop (record_word_count * p) ws)))
-    (take (cell_octets * p + cell_octets - cell_octets * p) (drop (cell_octets * p) s))
-    → (t : Bool) → t ≡ filled → b ≡ sound_at t ws s p
-place-told ws s b filled p e t f =
-    let m : record_word_count * p + record_word_count - record_word_count * p ≡ record_word_count = omega arith in
-    let n : cell_octets * p + cell_octets - cell_octets * p ≡ cell_octets = omega arith in
-    e ∙ ap₂ (λ (i j : ℕ). fit (take i (drop (record_word_count * p) ws))
-    && sound_place filled (record_read (take i (drop (record_word_count * p) ws))) (take j (drop (cell_octets * p) s))) m n
-    ∙ ap (λ (x : Bool). sound_at x ws s p) (sym f)
+pub place-told : (ws s : List ℕ) → length ws ≡ queue_word_count → length s ≡ store_octets → (filled : Bool) (p : ℕ) → p < queue_places
+    → (rs cs : List (List ℕ)) → rs ≡ first_chunks record_word_count (length ws / record_word_count) ws → cs ≡ first_chunks cell_octets (length s / cell_octets) s
+    → (b : Bool) → b ≡ fit (get_or rs p []) && sound_place filled (record_read (get_or rs p [])) (get_or cs p []) → b ≡ sound_at filled ws s p
+place-told ws s size octets filled p h rs cs er ec b e =
+    let w = run-at record_word_count queue_places (length ws / record_word_count) p ws rs er (omega (arith, size)) h in
+    let c = run-at cell_octets queue_places (length s / cell_octets) p s cs ec (omega (arith, octets)) h in
+    e ∙ ap₂ (λ (l m : List ℕ). fit l && sound_place filled (record_read l) m) w c
 
 unsound : (b : Bool) → (b ≡ true → ⊥) → false ≡ b
 unsound true f = absurd (f refl)

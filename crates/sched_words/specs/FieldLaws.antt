@@ -1,4 +1,4 @@
--- A field, and the word that it stands in. Assumes nothing.
+-- A field, and the word that it stands in. The laws of each type stand here, since the implementations of `Field` name them. Assumes nothing.
 use Rattle.std.specs.Prelude.{◌≡◌, ℕ, zero, suc, ◌+◌, ◌^◌, ◌<◌, ◌≤◌, min, refl}
 use Rattle.std.proofs.Common.{arith, mod-lt, mod-eq_of_lt}
 use Rattle.sched_words.specs.Words.{low, itself, word_or_zero, unless_zero, kind_word, kind_from}

@@ -1,8 +1,7 @@
 -- The station and the queue as words of 32 bits, for callers in C: the table of include/bs_sched.h. Assumes nothing.
-use Rattle.std.specs.Prelude.{◌≡◌, ℕ, zero, suc, ◌+◌, ◌*◌, ◌%◌, ◌^◌, Bool, true, false, cond}
+use Rattle.std.specs.Prelude.{ℕ, zero, suc, ◌+◌, ◌*◌, ◌%◌, ◌^◌, Bool, true, false, cond}
 use Rattle.std.specs.Prelude.{◌&&◌, List, [], ◌∷◌, ◌++◌, length, drop, replicate, ◌==◌, nat_le, Option, Some, None}
 use Rattle.std.specs.Prelude.{slice_index, slice_index_or}
-use Rattle.std.proofs.lemmas.List.Edits.{sets}
 use Rattle.sizes.specs.Sizes.{timeslots, queue_places}
 use Rattle.tdma_time.specs.declared.TdmaTime.{TdmaTime}
 use Rattle.uplink.specs.declared.Entry.{Entry}
@@ -83,11 +82,6 @@ words_of_all f (x ∷ xs) = f x ++ words_of_all f xs
 unfoldable pub read_all : {A : Type 0} → (List ℕ → A) → ℕ → ℕ → List ℕ → List A
 read_all f k zero ws = []
 read_all f k (suc n) ws = f ws ∷ read_all f k n (drop k ws)
-
--- the n words ws stored over those of l from `at` on
-pub record Stored (l : List ℕ) (at : ℕ) (l' ws : List ℕ) (n : ℕ) : Type 0 where
-  pub words : l' ≡ sets l at ws
-  pub size : length ws ≡ n
 
 abbrev pub word_at : List ℕ → ℕ → ℕ
 word_at ws i = slice_index ws i
@@ -177,7 +171,7 @@ queued_header_words tag h =
 
 -- words 0 to 2: kind, address kind, number; 3 to 20: tag and header; 21 and 22: bits, sent
 unfoldable pub record_words : Record → List ℕ
-record_words r = kind_word r.kind ∷ r.address_kind ∷ r.number ∷ (queued_header_words r.tag r.header ++ r.bits ∷ r.sent ∷ [])
+record_words r = kind_word r.kind ∷ r.address.kind ∷ r.address.number ∷ (queued_header_words r.tag r.header ++ r.bits ∷ r.sent ∷ [])
 
 abbrev pub header_from : List ℕ → QueuedHeader
 header_from ws =
@@ -196,8 +190,7 @@ unfoldable pub record_read : List ℕ → Record
 record_read ws =
     record {
       kind = kind_from (word_at ws 0);
-      address_kind = word_at ws 1 % 256;
-      number = word_at ws 2;
+      address = record { kind = word_at ws 1 % 256; number = word_at ws 2 };
       tag = opt_low 65536 (word_at ws 3);
       header = header_from ws;
       bits = word_at ws 21 % 65536;
@@ -226,7 +219,7 @@ no_station = station_of (uplink_of (record { t = 0; f = 0; m = 0; h = 0 }) empty
 
 -- a record that no place may hold: its kind of address is none
 abbrev pub no_record : Record
-no_record = record { kind = Kind.Grant; address_kind = 255; number = 0; tag = None; header = empty_header; bits = 0; sent = 0 }
+no_record = record { kind = Kind.Grant; address = record { kind = 255; number = 0 }; tag = None; header = empty_header; bits = 0; sent = 0 }
 
 -- the station that words stand for: words that are no station's stand for one that is refused
 unfoldable pub station_from : List ℕ → Station

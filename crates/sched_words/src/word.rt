@@ -124,6 +124,7 @@ impl Field for Kind {
 
     ghost most = { 4 };
 
+    // Kept: by a match, since a number is no kind without one, and `Kind` has a word of its own only here.
     fn from_word(w: u32) -> Kind {
         match w {
             0 => Kind::Grant,
@@ -135,13 +136,7 @@ impl Field for Kind {
     }
 
     fn word(self) -> u32 {
-        match self {
-            Kind::Grant => 0,
-            Kind::Ack => 1,
-            Kind::Record => 2,
-            Kind::Waiting => 3,
-            Kind::Started => 4,
-        }
+        self as u32
     }
 
     fn most() -> u32 {
@@ -168,6 +163,7 @@ pub fn saturated<T: Field>(w: u32) -> T
 // ---- words
 
 // Whether each word is 0: they are or-ed, with no branch for a word.
+// Kept: `dl_sdu_store` has the same of octets: one over a type would ask for a zero and an or of the type, with their laws.
 pub fn all_zero(words: &[u32]) -> bool
     ensures { result ≡ all_zero words.now }
 {

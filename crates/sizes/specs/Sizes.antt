@@ -1,9 +1,17 @@
 -- Document 01's sizes, each under its sentence. The constants of src/ have the same values under the same names. Assumes nothing.
-use Rattle.std.specs.Prelude.{ℕ, ◌*◌}
+use Rattle.std.specs.Prelude.{ℕ, ◌*◌, ◌^◌}
 
 -- "Timeslot t 1–4"
 abbrev pub timeslots : ℕ
 timeslots = 4
+
+-- "frame f 1–18"
+abbrev pub frames : ℕ
+frames = 18
+
+-- "Address kind 0–2 and number below 2^24": how many numbers an address may have
+abbrev pub address_numbers : ℕ
+address_numbers = 2 ^ 24
 
 -- "a lent run of 64 records, sixteen to a timeslot": the places of a timeslot, and those of the queue
 abbrev pub per_timeslot : ℕ

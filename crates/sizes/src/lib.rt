@@ -1,7 +1,14 @@
 // Document 01's sizes. specs/Sizes.antt has the sentence over each.
+// Kept: each value stands there too, since a definition can't name a constant of src; each use is held to the definition's by a proof.
 #![tactic(auto)]
 
 pub const TIMESLOTS: usize = 4;
+
+// The frames of a multiframe.
+pub const FRAMES: usize = 18;
+
+// How many numbers an address may have.
+pub const ADDRESS_NUMBERS: u32 = 1 << 24;
 
 // The places of a timeslot, and those of the queue.
 pub const PER_TIMESLOT: usize = 16;

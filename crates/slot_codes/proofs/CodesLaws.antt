@@ -1,17 +1,18 @@
 -- Laws of the codes as numbers: what is granted is what was asked for, and the octet holds its halves. Assumes nothing.
 use mathlib.Core.Path.{◌≡◌, refl, sym, ap, ◌∙◌}
-use Rattle.std.proofs.Common.{Result, Ok, Err}
+use Rattle.std.proofs.Common.{Ok}
 use mathlib.Core.Bool.{Bool, true, false, cond}
-use mathlib.Core.List.{[], ◌∷◌, map}
+use mathlib.Core.List.{List, [], ◌∷◌, map}
 use Prim.Native.Nat.{ℕ, zero, suc, ◌+◌, ◌≤◌, ◌<◌}
 use native.Mathlib.Nat.{le_of_suc-le-suc, not-suc-le-zero, min-eq_left, min-eq_right}
 use native.Mathlib.Omega.{arith}
 use lib.Dec.{leb, ltb, lit<, eqb-suc-zero}
-use lib.ListN.{get_or-eq_default}
-use borrow.Author.Tests.{leb-true, ltb-true, ltb-false, le-leb, eq-eqb}
+use lib.ListN.{length, get_or, get_or-eq_default}
+use Rattle.std.specs.List.Sorted.{IsPartitionedBy, IsPartitionPoint}
+use Rattle.std.proofs.lemmas.List.Sorted.{IsPartitionedBy-ltb, IsNonDecreasingBy-from_all_adjacent}
+use borrow.Author.Tests.{leb-true, ltb-true, ltb-false, le-leb, lt-leb, eq-eqb}
 use Rattle.slot_codes.specs.Codes.{slot_counts, slots_of, slots_wanted, slots_granted, capacity_for, first_holding, code_for, code_read, grant_octet, capacity_of, delay_of}
-use Rattle.slot_codes.specs.declared.UnknownCode.{UnknownCode}
-use Rattle.slot_codes.proofs.TableLaws.{agree-below}
+use Rattle.slot_codes.proofs.TableLaws.{at_each, agree-below}
 
 -- past the table: over 68 is taken as 68, and the second half counts as one slot
 pub slots-past-table : (past code : ℕ) → 15 ≤ code → slots_of past code ≡ past
@@ -29,6 +30,21 @@ capacity-of-slots (suc c) second p h = rw (eqb-suc-zero c) (min-eq_left h)
 pub capacity-of-68 : (code : ℕ) (second : Bool) → 14 ≤ code → capacity_for code second ≡ 14
 capacity-of-68 zero second h = absurd (not-suc-le-zero h)
 capacity-of-68 (suc c) second h = rw (eqb-suc-zero c) (min-eq_right h)
+
+-- the counts rise, so those below a need stand before the others
+counts-rise : (k d : ℕ) → k < 13 → get_or slot_counts k d ≤ get_or slot_counts (k + 1) d
+counts-rise k d h = leb-true _ _ (at_each (λ k. leb (get_or slot_counts k d) (get_or slot_counts (k + 1) d)) 13 refl k h)
+
+pub counts-apart : (n : ℕ) → IsPartitionedBy (λ y. ltb y n) slot_counts
+counts-apart n = IsPartitionedBy-ltb (λ x. x) slot_counts n (IsNonDecreasingBy-from_all_adjacent (λ x. x) slot_counts (λ k d h. counts-rise k d (omega arith)))
+
+-- where they end the first stands that holds it
+pub first-above : (n : ℕ) (xs : List ℕ) (i : ℕ) → i ≤ length xs → IsPartitionPoint (λ y. ltb y n ≡ true) (λ y. ltb y n ≡ false) xs i → i ≡ first_holding xs n
+first-above n [] i h p = omega arith
+first-above n (x ∷ xs) zero h p = rw (le-leb n x (ltb-false x n (p.1 0 0 (omega arith) (omega arith))))
+first-above n (x ∷ xs) (suc i) h p =
+    let e : i ≡ first_holding xs n = first-above n xs i (omega arith) (λ k d a b. p.0 (suc k) d (omega arith) (omega arith), λ k d a b. p.1 (suc k) d (omega arith) (omega arith)) in
+    rw (lt-leb n x (ltb-true x n (p.0 0 0 (omega arith) (omega arith)))) (omega arith)
 
 -- the code of a need: one past the place of the first count that holds it
 pub code-of-some : (n : ℕ) → (n ≡ 0 → ⊥) → 1 + first_holding slot_counts n ≡ code_for n
@@ -71,24 +87,6 @@ module _ {C : Type 0} (case : ℕ → C) (code : C → ℕ) where
   -- what was coded is read back
   pub code-read-back : (c : C) → code c < 16 → case (code c) ≡ c → code_read case (code c) ≡ Ok c
   code-read-back c low same = rw (le-leb (code c) 15 (omega arith)) (ap Ok same)
-
-  -- a number that is read as a case is a code, that of the case; one that is not is none
-  pub code-reads : ((x : ℕ) → x < 16 → code (case x) ≡ x) → (x : ℕ) (c : C) → code_read case x ≡ Ok c → (leb x 15 ≡ true) × (code c ≡ x)
-  code-reads coded x c e = go (leb x 15) refl e
-    where
-      go : (b : Bool) → leb x 15 ≡ b → cond {A = Result C UnknownCode} b (Ok (case x)) (Err (record { 0 = x })) ≡ Ok c → (leb x 15 ≡ true) × (code c ≡ x)
-      go true h e =
-          let same : case x ≡ c = cc in
-          let low : x ≤ 15 = leb-true x 15 h in
-          (h, ap code (sym same) ∙ coded x (omega arith))
-      go false h e = absurd (let z : ◌≡◌ {A = ℕ} 0 1 = cc in omega arith)
-
-  pub code-unread : (x : ℕ) (u : UnknownCode) → code_read case x ≡ Err u → leb x 15 ≡ false
-  code-unread x u e = go (leb x 15) refl e
-    where
-      go : (b : Bool) → leb x 15 ≡ b → cond {A = Result C UnknownCode} b (Ok (case x)) (Err (record { 0 = x })) ≡ Err u → leb x 15 ≡ false
-      go true h e = absurd (let z : ◌≡◌ {A = ℕ} 0 1 = cc in omega arith)
-      go false h e = h
 
 -- the octet holds its halves, and every octet is that of its halves
 pub capacity-in-octet : (c d : ℕ) → d < 16 → capacity_of (grant_octet c d) ≡ c

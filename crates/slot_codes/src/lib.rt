@@ -1,4 +1,5 @@
 // The codes of reservation requirements and granted capacities as plain numbers (EN 300 392-2, clauses 21.5.4 and 21.5.6).
+// Kept: numbers, since the two kinds share their table of slots; `ReservationRequirement` and `BasicSlotgrantCapAlloc`, above, are the kinds.
 #![tactic(auto)]
 
 ghost use Rattle.std.specs.Prelude.{◌≡◌};
@@ -49,8 +50,5 @@ pub fn code_for(req: usize) -> u8
     if req == 0 {
         return 0;
     }
-    1 + SLOTS[1..]
-        .iter()
-        .position(|&slots| req <= slots)
-        .unwrap_or(14) as u8
+    1 + SLOTS[1..].partition_point(|&slots| slots < req) as u8
 }

@@ -9,7 +9,8 @@ use interpreter::session::Session;
 use std::io::Read;
 
 // The session, what is read at a time behind the `held` octets that were kept of the last, and what is printed of it.
-// Kept: `input` with the count `held` beside it, since the project has fixed memory; how much of a command is kept changes with each read.
+// Kept: `input` with the count `held` beside it, since a read goes behind the octets held, in place; an `ArrayVec` lends no room behind its items, so
+// each read would need a second array and a copy.
 #[derive(Drop)]
 struct Program {
     session: Session,
@@ -88,6 +89,7 @@ impl Program {
 fn main(rt: HostRuntime) {
     let mut reader = rt.stdin();
     let mut program = Program::start();
+    // Kept: up to a count that no input reaches; a loop without end, `rt.forever()`, needs a handle, and the project has none.
     for _ in 0..u64::MAX {
         if !program.turn(&rt, &mut reader) {
             return;

@@ -94,10 +94,6 @@ time_of-same a b e = sym (slot_of-time_of a) ∙ ap slot_of e ∙ slot_of-time_o
 pub same-time_of : (a b : ℕ) → clock a ≡ clock b → time_of a ≡ time_of b
 same-time_of a b e = sym (time_of-clock a) ∙ ap time_of e ∙ time_of-clock b
 
--- a valid time is the one that slot n shows if its number is n's on the clock
-pub time-at : (x : TdmaTime) (n : ℕ) → Valid x → slot_of x ≡ clock n → x ≡ time_of n
-time-at x n v e = sym (time_of-slot_of x v) ∙ ap time_of e ∙ time_of-clock n
-
 -- a valid time is the one that the slot of its number shows
 pub time-is : (x : TdmaTime) (n : ℕ) → Valid x → slot_of x ≡ n → x ≡ time_of n
 time-is x n v e = sym (time_of-slot_of x v) ∙ ap time_of e

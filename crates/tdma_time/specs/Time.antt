@@ -4,6 +4,7 @@
 -- `time_of n` is the time that slot n shows, and `clock n` is the number of that time. So `clock a ≡ clock b` says that a and b
 -- show the same time.
 use Rattle.std.specs.Prelude.{Bool, not, ◌&&◌, cond, List, [], ◌∷◌, ℕ, zero, suc, ◌+◌, ◌-◌, ◌*◌, ◌/◌, ◌%◌, ◌≤◌, eqb, leb}
+use Rattle.sizes.specs.Sizes.{timeslots}
 use Rattle.tdma_time.specs.declared.TdmaTime.{TdmaTime}
 
 -- "Timeslot t 1–4, frame f 1–18, multiframe m 1–60, hyperframe h 0–65,535."
@@ -19,6 +20,10 @@ pub record Valid (x : TdmaTime) : Type 0 where
 -- the same as a test
 unfoldable pub valid : TdmaTime → Bool
 valid x = leb 1 x.t && leb x.t 4 && leb 1 x.f && leb x.f 18 && leb 1 x.m && leb x.m 60 && leb x.h 65535
+
+-- "3. Timeslot 1–4?"
+abbrev pub legal_timeslot : ℕ → Bool
+legal_timeslot t = leb 1 t && leb t timeslots
 
 -- how many times there are: 4 timeslots, 18 frames, 60 multiframes, 65,536 hyperframes
 abbrev pub cycle : ℕ

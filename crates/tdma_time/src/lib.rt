@@ -1,10 +1,48 @@
 // TDMA time (document 01, "Time"): timeslot, frame, multiframe and hyperframe, counted in that order of speed.
 #![tactic(auto)]
 
-ghost use Rattle.std.specs.Prelude.{◌≡◌, ◌+◌, ◌-◌, ◌≤◌};
-ghost use Rattle.sizes.specs.Sizes.{timeslots};
-ghost use Rattle.tdma_time.specs.Time.{Valid, valid, slot_of, time_of, usable, usable_time, next_time, four_earlier, forward_time};
+ghost use Rattle.std.specs.Prelude.{◌≡◌, ◌+◌, ◌-◌, ◌≤◌, ◌<◌, IfOk, IfErr, true, false};
+ghost use Rattle.sizes.specs.Sizes.{timeslots, frames};
+ghost use Rattle.questions.specs.declared.Refusal.{Refusal};
+ghost use Rattle.tdma_time.specs.Time.{legal_timeslot, Valid, valid, slot_of, time_of, usable, usable_time, next_time, four_earlier, forward_time};
 
+use questions::Refusal;
+
+// A timeslot that question 3 lets pass.
+#[derive(Clone, Copy)]
+pub struct Timeslot {
+    pub number: u8,
+    ghost low: { 1 ≤ number },
+    ghost high: { number ≤ timeslots },
+}
+
+impl TryFrom<u8> for Timeslot {
+    type Error = Refusal;
+
+    ghost try_from_gives = { λ n r. IfOk r (λ t. (t.number ≡ n) × (legal_timeslot n ≡ true))
+        × IfErr r (λ e. (e ≡ Refusal.Timeslot) × (legal_timeslot n ≡ false)) };
+
+    // Question 3.
+    fn try_from(number: u8) -> Result<Timeslot, Refusal> {
+        if matches!(number, 1..=4) {
+            Ok(Timeslot { number })
+        } else {
+            Err(Refusal::Timeslot)
+        }
+    }
+}
+
+impl Timeslot {
+    // Its row in a table of the four.
+    pub fn row(self) -> usize
+        ensures { (result ≡ self.number - 1) × (result < timeslots) }
+    {
+        (self.number - 1) as usize
+    }
+}
+
+// Kept: that a time is valid is asked in contracts (`Valid`), by no type: a station's time stands in it as its caller has it, and question 1
+// refuses the others; a type would be made at each look at that field and taken apart again at each write.
 #[derive(Clone, Copy)]
 pub struct TdmaTime {
     pub t: u8,
@@ -13,7 +51,15 @@ pub struct TdmaTime {
     pub h: u16,
 }
 
+// Kept: 4, 18 and 60 by number, as document 01 has the ranges: the fields are narrower than the sizes, so each name would come with a conversion.
 impl TdmaTime {
+    // The time of a timeslot, a frame, a multiframe and a hyperframe.
+    pub fn new(t: u8, f: u8, m: u8, h: u16) -> TdmaTime
+        ensures { result ≡ record { t = t; f = f; m = m; h = h } }
+    {
+        TdmaTime { t, f, m, h }
+    }
+
     // Is each field in its range? Every u16 is a hyperframe.
     #[tactic(auto, unfolding(crate::specs::Time::valid))]
     pub fn is_valid(self) -> bool
@@ -29,12 +75,35 @@ impl TdmaTime {
         self.f != 18
     }
 
-    // The slot of timeslot `t` in the next frame; after the last frame comes the first.
-    fn in_next_frame(self, t: u8) -> TdmaTime
-        requires valid { Valid self }
-        requires le_t { (1 ≤ t) × (t ≤ timeslots) }
-        ensures { (result ≡ time_of (slot_of self + 4 - self.t + t)) × Valid result }
+    // Its timeslot.
+    pub fn timeslot(self) -> Timeslot
+        requires { Valid self }
+        ensures { result.number ≡ self.t }
     {
+        Timeslot { number: self.t }
+    }
+
+    // The row of its timeslot, and the column of its frame, in a table of timeslots and frames.
+    pub fn row(self) -> usize
+        requires { Valid self }
+        ensures { (result ≡ self.t - 1) × (result < timeslots) }
+    {
+        self.timeslot().row()
+    }
+
+    pub fn column(self) -> usize
+        requires { Valid self }
+        ensures { (result ≡ self.f - 1) × (result < frames) }
+    {
+        (self.f - 1) as usize
+    }
+
+    // The slot of timeslot `ts` in the next frame; after the last frame comes the first.
+    fn in_next_frame(self, ts: Timeslot) -> TdmaTime
+        requires { Valid self }
+        ensures { (result ≡ time_of (slot_of self + 4 - self.t + ts.number)) × Valid result }
+    {
+        let t = ts.number;
         if self.f < 18 {
             return TdmaTime {
                 t,
@@ -69,7 +138,7 @@ impl TdmaTime {
                 ..self
             };
         }
-        self.in_next_frame(1)
+        self.in_next_frame(Timeslot { number: 1 })
     }
 
     // The slot four earlier, one frame back in the same timeslot; before the first time comes the last.
@@ -99,13 +168,15 @@ impl TdmaTime {
     }
 
     // The first slot of timeslot `ts` at or after this one.
-    pub fn forward_to_timeslot(self, ts: u8) -> TdmaTime
-        requires valid { Valid self }
-        requires le_ts { (1 ≤ ts) × (ts ≤ timeslots) }
-        ensures { (result ≡ forward_time self ts) × Valid result }
+    pub fn forward_to_timeslot(self, ts: Timeslot) -> TdmaTime
+        requires { Valid self }
+        ensures { (result ≡ forward_time self ts.number) × Valid result }
     {
-        if self.t <= ts {
-            return TdmaTime { t: ts, ..self };
+        if self.t <= ts.number {
+            return TdmaTime {
+                t: ts.number,
+                ..self
+            };
         }
         self.in_next_frame(ts)
     }

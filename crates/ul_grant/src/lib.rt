@@ -10,7 +10,8 @@ ghost use Rattle.uplink.specs.Functions.{block_taken, granted_at};
 
 use questions::Refusal;
 use reservation_requirement::ReservationRequirement;
-use sizes::{LATEST_DELAY, TIMESLOTS};
+use sizes::{FRAMES, LATEST_DELAY, TIMESLOTS};
+use tdma_time::Timeslot;
 use uplink::{Entry, Grant, Opportunity, PhyBlockNum, Uplink};
 
 // The counter after a marker: 4 to 62 and round again.
@@ -24,17 +25,16 @@ fn next_marker(marker: u8) -> u8
 // Two or more slots draw a fresh usage marker from their timeslot's counter, one slot or half a slot none.
 fn alloc_usage_marker(
     next_usage_marker: &mut [u8; TIMESLOTS],
-    timeslot: u8,
+    timeslot: Timeslot,
     num_slots: usize,
 ) -> Option<u8>
-    requires { (1 ≤ timeslot) × (timeslot ≤ timeslots) }
-    ensures usage_marker_value { result ≡ cond (leb 2 num_slots) (Some (get_or next_usage_marker.old (timeslot - 1) 0)) None }
-    ensures next_usage_marker_value { next_usage_marker.new ≡ cond (leb 2 num_slots) (drawn next_usage_marker.old timeslot) next_usage_marker.old }
+    ensures usage_marker_value { result ≡ cond (leb 2 num_slots) (Some (get_or next_usage_marker.old (timeslot.number - 1) 0)) None }
+    ensures next_usage_marker_value { next_usage_marker.new ≡ cond (leb 2 num_slots) (drawn next_usage_marker.old timeslot.number) next_usage_marker.old }
 {
     if num_slots < 2 {
         return None;
     }
-    let index = (timeslot - 1) as usize;
+    let index = timeslot.row();
     let marker = next_usage_marker[index];
     next_usage_marker[index] = next_marker(marker);
     Some(marker)
@@ -56,22 +56,21 @@ fn free_block(e: Entry, is_halfslot: bool) -> PhyBlockNum
 // The run that was found is granted.
 fn granted(
     u: &mut Uplink,
-    timeslot: u8,
+    timeslot: Timeslot,
     requirement: ReservationRequirement,
     number: u32,
     found: Opportunity,
 ) -> Grant
     requires valid { Valid u.old.time }
-    requires le_timeslot { (1 ≤ timeslot) × (timeslot ≤ timeslots) × (found.start < frames_searched) × (found.skips ≤ latest_delay) }
-    requires timeslots_value { usable (first_of timeslot (slot_of u.old.time) + found.start * timeslots) ≡ true }
-    ensures { let r : Request = record { timeslot = timeslot; code = requirement_code requirement; number = number } in
+    requires within { (found.start < frames_searched) × (found.skips ≤ latest_delay) }
+    requires can { usable (first_of timeslot.number (slot_of u.old.time) + found.start * timeslots) ≡ true }
+    ensures { let r : Request = record { timeslot = timeslot.number; code = requirement_code requirement; number = number } in
         record { reply = Ok result; uplink = u.new } ≡ granted_at u.old r found.start found.skips }
 {
     let code = u8::from(requirement);
     let num_slots = requirement.to_req_slotcount();
-    let first_opportunity = u.time.forward_to_timeslot(timeslot);
-    let index = ((first_opportunity.f - 1) as usize + found.start) % 18;
-    let e = u.rows[(timeslot - 1) as usize][index];
+    let first = u.time.forward_to_timeslot(timeslot).column();
+    let e = u.rows[timeslot.row()][(first + found.start) % FRAMES];
     let usage_marker = alloc_usage_marker(&mut u.next_usage_marker, timeslot, num_slots);
     ul_reserve::ul_reserve_grant(
         u,
@@ -79,7 +78,7 @@ fn granted(
         found.start,
         num_slots,
         number,
-        free_block(e, code == 0),
+        free_block(e, requirement.is_halfslot()),
         usage_marker,
     );
     Grant {
@@ -90,23 +89,25 @@ fn granted(
 }
 
 // The answer to a request for capacity that questions 1 to 8 let pass; a refusal leaves the uplink.
-// Kept: a timeslot as a number, as the entries give it; the type that carries its bounds is `Room` of sched_enqueue, which stands above
-// this crate.
-// Kept: timeslot, requirement and number one by one, since a struct of them would be made at the one call to be taken apart here.
+// Kept: timeslot, requirement and number one by one, since a struct of them would be made at each call and taken apart here, and the
+// contracts would still build the definition's `Request`, which has the numbers, from it.
 pub fn ul_process_cap_req(
     u: &mut Uplink,
-    timeslot: u8,
+    timeslot: Timeslot,
     requirement: ReservationRequirement,
     number: u32,
 ) -> Result<Grant, Refusal>
-    requires valid { Valid u.old.time }
-    requires le_timeslot { (1 ≤ timeslot) × (timeslot ≤ timeslots) }
-    ensures { let r : Request = record { timeslot = timeslot; code = requirement_code requirement; number = number } in
+    requires { Valid u.old.time }
+    ensures { let r : Request = record { timeslot = timeslot.number; code = requirement_code requirement; number = number } in
         record { reply = result; uplink = u.new } ≡ answer u.old r }
 {
     let num_slots = requirement.to_req_slotcount();
-    let is_halfslot = u8::from(requirement) == 0;
-    let grant_op = ul_search::ul_find_grant_opportunity(u, timeslot, num_slots, is_halfslot);
+    let grant_op = ul_search::ul_find_grant_opportunity(
+        u,
+        timeslot,
+        num_slots,
+        requirement.is_halfslot(),
+    );
     match grant_op {
         None => Err(Refusal::NoRun),
         Some(found) if LATEST_DELAY < found.skips => Err(Refusal::TooLate),

@@ -2,14 +2,14 @@
 #![tactic(auto)]
 
 ghost use Rattle.std.specs.Prelude.{◌≡◌, ◌≤◌};
-ghost use Rattle.sizes.specs.Sizes.{timeslots, frames_searched};
+ghost use Rattle.sizes.specs.Sizes.{frames_searched};
 ghost use Rattle.tdma_time.specs.Time.{Valid};
 ghost use Rattle.uplink.specs.UplinkEntry.{with_marker, with_halves, reserve};
 ghost use Rattle.uplink.specs.Uplink.{with_table};
 ghost use Rattle.uplink.specs.Functions.{slots_from, block_halves};
 
-use sizes::FRAMES_SEARCHED;
-use tdma_time::TdmaTime;
+use sizes::{FRAMES, FRAMES_SEARCHED};
+use tdma_time::Timeslot;
 use uplink::{Entry, PhyBlockNum, Uplink};
 
 // The entry with a half of its slot, or both, taken, and with the marker if there is a new one.
@@ -38,9 +38,10 @@ fn taken(e: Entry, ssi: u32, block: PhyBlockNum, usage_marker: Option<u8>) -> En
 }
 
 // `num_slots` usable slots are reserved in the table, from `start` frames after the first opportunity on.
+// Kept: the run and who takes it one by one: a struct of them would be made at the one call, in `granted` of ul_grant, and taken apart here.
 pub fn ul_reserve_grant(
     u: &mut Uplink,
-    t: u8,
+    timeslot: Timeslot,
     start: usize,
     num_slots: usize,
     ssi: u32,
@@ -48,22 +49,21 @@ pub fn ul_reserve_grant(
     usage_marker: Option<u8>,
 )
     requires valid { Valid u.old.time }
-    requires le_t { (1 ≤ t) × (t ≤ timeslots) }
     requires start_le_frames_searched { start ≤ frames_searched }
-    ensures { let rows = reserve u.old.rows (block_halves block) ssi usage_marker (slots_from u.old.time t start num_slots) in
+    ensures { let rows = reserve u.old.rows (block_halves block) ssi usage_marker (slots_from u.old.time timeslot.number start num_slots) in
         u.new ≡ with_table u.old rows u.old.next_usage_marker }
 {
-    let first_opportunity = u.time.forward_to_timeslot(t);
-    let row = (t - 1) as usize;
-    let first = (first_opportunity.f - 1) as usize;
-    // Kept: a count of what is left, since a chain of `map`, `filter` and `take` wants a bound on its sum written at the closure.
+    let row = timeslot.row();
+    let first = u.time.forward_to_timeslot(timeslot).column();
+    // Kept: a count of what is left. Tried: `(start..FRAMES_SEARCHED).map(..).filter(..).take(num_slots)`. The closure of `map` wants the bounds of
+    // its sum written, and what three adapters have yielded did not lead to the slots that are left to reserve.
     let mut left = num_slots;
     for dist in start..FRAMES_SEARCHED {
         if left == 0 {
             break;
         }
-        let place = (first + dist) % 18;
-        if place == 17 {
+        let place = (first + dist) % FRAMES;
+        if place == FRAMES - 1 {
             continue;
         }
         u.rows[row][place] = taken(u.rows[row][place], ssi, block, usage_marker);

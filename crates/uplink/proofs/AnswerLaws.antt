@@ -39,10 +39,6 @@ slots-head now t start n pos low can =
 -- ---- the marker
 
 module _ (ms : List ℕ) (r : Request) where
-  pub marker-drawn : 2 ≤ slots_wanted r.code → (marker_of ms r ≡ Some (get_or ms (r.timeslot - 1) 0)) × (markers_after ms r ≡ drawn ms r.timeslot)
-  unfolding marker_of markers_after
-  marker-drawn h = (rw (le-leb _ _ h), rw (le-leb _ _ h))
-
   pub marker-none : slots_wanted r.code < 2 → (marker_of ms r ≡ None) × (markers_after ms r ≡ ms)
   unfolding marker_of markers_after
   marker-none h = (rw (lt-leb _ _ h), rw (lt-leb _ _ h))
@@ -84,9 +80,9 @@ module _ (u : Uplink) (r : Request) (start skips : ℕ) where
         rw (er, et, em, eb, ec, en, eo, capacity-at, capacity-halves r.code (entry_at tb (first + start * timeslots)).ul1)
 
 -- the entry that the code reads for it
-pub entry_read : (tb : Table) (now : TdmaTime) (t start : ℕ) (x : TdmaTime) → 1 ≤ t → t ≤ timeslots → x ≡ forward_time now t
-    → get_or (get_or tb (t - 1) []) ((x.f - 1 + start) % 18) empty_entry ≡ entry_at tb (first_of t (slot_of now) + start * 4)
-entry_read tb now t start x h g e = on-entry tb (first_of t (slot_of now)) (t - 1) (x.f - 1) start (first-at now t x h g e)
+pub entry_read : (tb : Table) (now : TdmaTime) (t start : ℕ) (x : TdmaTime) (row column : ℕ) → 1 ≤ t → t ≤ timeslots → x ≡ forward_time now t
+    → row ≡ t - 1 → column ≡ x.f - 1 → get_or (get_or tb row []) ((column + start) % 18) empty_entry ≡ entry_at tb (first_of t (slot_of now) + start * 4)
+entry_read tb now t start x row column h g e r f = on-entry tb (first_of t (slot_of now)) row column start (first-at now t x row column h g e r f)
 
 -- ---- the verdict
 

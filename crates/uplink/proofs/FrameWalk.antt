@@ -70,10 +70,11 @@ unfolding store
 on_store tb u row first d e a = rw (on_line u row d a.line, on-place u first d a.place)
 
 -- the first opportunity stands in row t - 1, in the column of its frame
-pub first-at : (now : TdmaTime) (t : ℕ) (x : TdmaTime) → 1 ≤ t → t ≤ timeslots → x ≡ forward_time now t → At (first_of t (slot_of now)) (t - 1) (x.f - 1)
-first-at now t x h g e =
+pub first-at : (now : TdmaTime) (t : ℕ) (x : TdmaTime) (row first : ℕ) → 1 ≤ t → t ≤ timeslots → x ≡ forward_time now t → row ≡ t - 1 → first ≡ x.f - 1
+    → At (first_of t (slot_of now)) row first
+first-at now t x row first h g e r f =
     let s = first_slot t (slot_of now) h g in
-    record { line = omega (arith, s); place = rw e (omega arith) }
+    record { line = omega (arith, s); place = rw (f, e) (omega arith) }
 
 -- ---- the search
 

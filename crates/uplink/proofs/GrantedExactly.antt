@@ -19,7 +19,7 @@ use Rattle.tdma_time.specs.declared.TdmaTime.{TdmaTime}
 use Rattle.tdma_time.specs.Time.{slot_of}
 use Rattle.tdma_time.proofs.Basics.{either}
 use Rattle.slot_codes.specs.Codes.{slots_wanted, wants_half, capacity_for}
-use Rattle.uplink.specs.declared.CapAnswer.{CapAnswer}
+use Rattle.uplink.specs.Request.{CapAnswer}
 use Rattle.uplink.specs.declared.Entry.{Entry}
 use Rattle.uplink.specs.declared.Grant.{Grant}
 use Rattle.uplink.specs.declared.Uplink.{Uplink}

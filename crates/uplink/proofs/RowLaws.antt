@@ -14,7 +14,7 @@ use Rattle.questions.specs.declared.Refusal.{Refusal}
 use Rattle.lists.proofs.Every.{All, all-weaken}
 use Rattle.tdma_time.specs.Time.{slot_of, first_of, frames_on}
 use Rattle.tdma_time.proofs.SlotLaws.{first_slot, frames_on-near, usable_of-all}
-use Rattle.uplink.specs.declared.CapAnswer.{CapAnswer}
+use Rattle.uplink.specs.Request.{CapAnswer}
 use Rattle.uplink.specs.declared.Entry.{Entry}
 use Rattle.uplink.specs.declared.Grant.{Grant}
 use Rattle.uplink.specs.declared.Uplink.{Uplink}

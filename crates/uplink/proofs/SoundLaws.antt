@@ -1,4 +1,5 @@
 -- Reservation, clearing and drawing a marker keep the table and the counters sound. Assumes nothing.
+use Rattle.std.specs.List.{list_all}
 use Rattle.std.proofs.lemmas.Bool.{and_parts}
 use Rattle.std.specs.Cmp.Derive.{both_true}
 use Rattle.std.proofs.Common.{Option, Some, None}
@@ -18,7 +19,7 @@ use Rattle.tdma_time.proofs.TimeLaws.{true-valid, valid-true, time_of-valid}
 use Rattle.uplink.specs.declared.Entry.{Entry}
 use Rattle.uplink.specs.declared.Uplink.{Uplink}
 use Rattle.uplink.specs.HalfSlot.{Half, first_half, second_half, vacant}
-use Rattle.uplink.specs.UplinkEntry.{empty_entry, Table, FourRowsOfEighteen, entry_at, store, with_halves, with_marker, reserve, cleared, all, sound_owner}
+use Rattle.uplink.specs.UplinkEntry.{empty_entry, Table, FourRowsOfEighteen, entry_at, store, with_halves, with_marker, reserve, cleared, sound_owner}
 use Rattle.uplink.specs.UplinkEntry.{sound_counter, sound_marker, sound_entry, sound_row, sound_table, sound_counters}
 use Rattle.uplink.specs.Uplink.{new_uplink, advanced_uplink, sound_uplink}
 use Rattle.uplink.specs.Request.{next_marker, drawn}
@@ -144,7 +145,7 @@ cleared-sound tb x s h = whole-sound _ (store-whole tb _ empty_entry refl (sound
 
 -- ---- the counters
 
-all_set : {A : Type 0} (p : A → Bool) (l : List A) (i : ℕ) (a : A) → all p l ≡ true → p a ≡ true → all p (set l i a) ≡ true
+all_set : {A : Type 0} (p : A → Bool) (l : List A) (i : ℕ) (a : A) → list_all p l ≡ true → p a ≡ true → list_all p (set l i a) ≡ true
 all_set p [] i a h g = refl
 all_set p (x ∷ l) zero a h g = both_true g ((and_parts (p x) _ h).1)
 all_set p (x ∷ l) (suc i) a h g = both_true ((and_parts (p x) _ h).0) (all_set p l i a ((and_parts (p x) _ h).1) g)

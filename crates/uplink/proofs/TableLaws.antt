@@ -2,8 +2,8 @@
 -- Assumes nothing.
 use mathlib.Core.Path.{◌≡◌, refl, ap, ◌∙◌}
 use mathlib.Core.Logic.{◌≢◌}
-use mathlib.Core.List.{List, [], ◌∷◌}
-use Prim.Native.Nat.{ℕ, zero, suc, ◌+◌, ◌-◌, ◌/◌, ◌%◌, ◌<◌}
+use mathlib.Core.List.{List, []}
+use Prim.Native.Nat.{ℕ, ◌+◌, ◌-◌, ◌/◌, ◌%◌, ◌<◌}
 use native.Mathlib.Omega.{arith}
 use native.Mathlib.Decide.{ℕ_discrete}
 use lib.ListN.{length, get_or, set, replicate, length-set, get_or-replicate}
@@ -103,9 +103,3 @@ cleared-there tb x s c h = store_same tb (slot_of x + cycle - 4) empty_entry s c
 pub cleared-elsewhere : (tb : Table) (x : TdmaTime) → FourRowsOfEighteen tb → (c : ℕ) → (SameEntry c (slot_of x + cycle - 4) → ⊥)
     → entry_at (cleared tb x) c ≡ entry_at tb c
 cleared-elsewhere tb x s c h = store_other tb (slot_of x + cycle - 4) empty_entry s c (λ e. h (cell_parts c _ e))
-
--- one of equal elements, written again
-pub set-replicate : {A : Type 0} (n k : ℕ) (x : A) → set (replicate n x) k x ≡ replicate n x
-set-replicate zero k x = refl
-set-replicate (suc n) zero x = refl
-set-replicate (suc n) (suc k) x = ap (λ l. x ∷ l) (set-replicate n k x)

@@ -4,7 +4,6 @@ use Rattle.sizes.specs.Sizes.{timeslots, frames_searched}
 use Rattle.tdma_time.specs.declared.TdmaTime.{TdmaTime}
 use Rattle.tdma_time.specs.Time.{slot_of, first_of, frames_on, usable_of}
 use Rattle.slot_codes.specs.Codes.{slots_wanted}
-use Rattle.uplink.specs.declared.CapAnswer.{CapAnswer}
 use Rattle.uplink.specs.declared.Opportunity.{Opportunity}
 use Rattle.uplink.specs.declared.PhyBlockNum.{PhyBlockNum}
 use Rattle.uplink.specs.declared.Uplink.{Uplink}
@@ -12,7 +11,7 @@ use Rattle.uplink.specs.HalfSlot.{Half, first_half, second_half, vacant}
 use Rattle.uplink.specs.Search.{Run}
 use Rattle.uplink.specs.UplinkEntry.{Table, table_view}
 use Rattle.uplink.specs.Uplink.{uplink_of}
-use Rattle.uplink.specs.Request.{Request, earliest_run, grant, given}
+use Rattle.uplink.specs.Request.{Request, earliest_run, grant, CapAnswer, given}
 
 -- a run as the search answers it: its start, in frames after the first slot, and the slots passed over
 abbrev pub as_opportunity : ℕ → Option Run → Option Opportunity

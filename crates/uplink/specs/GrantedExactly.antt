@@ -1,6 +1,6 @@
 -- Demand 2, for requests: what a valid request is answered on a sound table, and what is altered. Assumes nothing.
-use Rattle.std.specs.Prelude.{◌≡◌, ◌↔◌, ◌≢◌, Bool, true, false, List, ℕ, ◌+◌, ◌^◌, ◌≤◌, ◌<◌, min, length, get_or, Option, Some, None, Err}
-use Rattle.sizes.specs.Sizes.{timeslots, latest_delay}
+use Rattle.std.specs.Prelude.{◌≡◌, ◌↔◌, ◌≢◌, Bool, true, false, List, ℕ, ◌+◌, ◌≤◌, ◌<◌, min, length, get_or, Option, Some, None, Err}
+use Rattle.sizes.specs.Sizes.{timeslots, latest_delay, address_numbers}
 use Rattle.questions.specs.declared.Refusal.{Refusal}
 use Rattle.tdma_time.specs.Time.{slot_of}
 use Rattle.slot_codes.specs.Codes.{slots_wanted, wants_half}
@@ -82,7 +82,7 @@ pub record Proper (u : Uplink) (r : Request) : Type 0 where
   pub timeslot-low : 1 ≤ r.timeslot
   pub timeslot-high : r.timeslot ≤ timeslots
   pub code : r.code ≤ 15
-  pub number : r.number < 2 ^ 24
+  pub number : r.number < address_numbers
 
 -- A request is granted exactly when its n slots are free in succession within the 17 frames, with at most 13 usable slots before the
 -- earliest such run, which is reserved.

@@ -6,7 +6,6 @@ use Rattle.questions.specs.declared.Refusal.{Refusal}
 use Rattle.questions.specs.Questions.{refusal_number}
 use Rattle.tdma_time.specs.Time.{slot_of, first_of, frames_on, usable_of, usables}
 use Rattle.slot_codes.specs.Codes.{slots_wanted, wants_half, slots_granted, capacity_for}
-use Rattle.uplink.specs.declared.CapAnswer.{CapAnswer}
 use Rattle.uplink.specs.declared.Grant.{Grant}
 use Rattle.uplink.specs.declared.Uplink.{Uplink}
 use Rattle.uplink.specs.HalfSlot.{Half, first_half, second_half, HalfSlot, View, vacant, free_for, halves_of_slots}
@@ -123,6 +122,11 @@ unfoldable pub counters_after : List ℕ → Request → Verdict → List ℕ
 counters_after ms r no_run = ms
 counters_after ms r too_late = ms
 counters_after ms r (grant g) = markers_after ms r
+
+-- a reply to a request, and the uplink after it
+pub record CapAnswer : Type 0 where
+  pub reply : Result Grant Refusal
+  pub uplink : Uplink
 
 unfoldable pub given : Uplink → Request → Verdict → CapAnswer
 given u r w =

@@ -1,7 +1,8 @@
 -- Document 01, "Uplink entry": entries, the table, owner, usage, reservation and soundness. Assumes nothing.
-use Rattle.std.specs.Prelude.{◌≡◌, Bool, true, false, ◌&&◌, ◌||◌, not, cond, List, [], ◌∷◌, ℕ, ◌+◌, ◌-◌, ◌/◌, ◌%◌, ◌^◌, ◌<◌, length, get_or, set, replicate, eqb, leb, ltb, Option, Some, None}
-pub use Rattle.std.specs.List.{list_all as all}
+use Rattle.std.specs.Prelude.{◌≡◌, Bool, true, false, ◌&&◌, ◌||◌, not, cond, List, [], ◌∷◌, ℕ, ◌+◌, ◌-◌, ◌/◌, ◌%◌, ◌<◌, length, get_or, set, replicate, eqb, leb, ltb, Option, Some, None}
 use Rattle.std.specs.List.{list_all}
+use Rattle.std.specs.Option.{is_none}
+use Rattle.sizes.specs.Sizes.{address_numbers}
 use Rattle.tdma_time.specs.declared.TdmaTime.{TdmaTime}
 use Rattle.tdma_time.specs.Time.{cycle, slot_of, timeslot, frame}
 use Rattle.uplink.specs.declared.Entry.{Entry}
@@ -117,7 +118,7 @@ cleared tb x = store tb (slot_of x + cycle - 4) empty_entry
 -- "an owner (a 24-bit number)"
 abbrev pub sound_owner : Option ℕ → Bool
 sound_owner None = true
-sound_owner (Some w) = ltb w (2 ^ 24)
+sound_owner (Some w) = ltb w address_numbers
 
 -- "a marker (4–62)"
 abbrev pub sound_counter : ℕ → Bool
@@ -127,14 +128,10 @@ abbrev pub sound_marker : Option ℕ → Bool
 sound_marker None = true
 sound_marker (Some m) = sound_counter m
 
-abbrev pub unmarked : Option ℕ → Bool
-unmarked None = true
-unmarked (Some m) = false
-
 -- "no second half without a first, a marker (4–62) only in a taken entry"
 abbrev pub sound_entry : Entry → Bool
 sound_entry e =
-    (not (vacant e.ul1) || (vacant e.ul2 && unmarked e.usage_marker)) && sound_owner e.ul1 && sound_owner e.ul2
+    (not (vacant e.ul1) || (vacant e.ul2 && is_none e.usage_marker)) && sound_owner e.ul1 && sound_owner e.ul2
     && sound_marker e.usage_marker
 
 abbrev pub sound_row : List Entry → Bool

@@ -4,12 +4,11 @@
 
 ghost use Rattle.std.specs.Prelude.{◌≡◌};
 ghost use Rattle.tdma_time.specs.Time.{Valid, slot_of};
-ghost use Rattle.uplink.specs.UplinkEntry.{entry_at, owner_of, usage_of, cleared};
+ghost use Rattle.uplink.specs.UplinkEntry.{entry_at, owner_of, usage_of, usage_number, marker_of_usage, cleared};
 ghost use Rattle.uplink.specs.UplinkEntry.{sound_owner, sound_counter, sound_entry, sound_row, sound_table, sound_counters};
 ghost use Rattle.uplink.specs.Uplink.{new_uplink, advanced_uplink, sound_uplink};
 
-use questions::Refusal;
-use sizes::TIMESLOTS;
+use sizes::{ADDRESS_NUMBERS, FRAMES, TIMESLOTS};
 use tdma_time::TdmaTime;
 
 // A slot's first half, its second, or both.
@@ -27,6 +26,30 @@ pub enum AccessAssignUlUsage {
     CommonAndAssigned,
     AssignedOnly,
     Traffic(u8),
+}
+
+impl AccessAssignUlUsage {
+    // Its number: 0 no half taken, 1 first only, 2 both, 3 any taken with a marker.
+    pub fn number(self) -> u8
+        ensures { result ≡ usage_number self }
+    {
+        match self {
+            AccessAssignUlUsage::CommonOnly => 0,
+            AccessAssignUlUsage::CommonAndAssigned => 1,
+            AccessAssignUlUsage::AssignedOnly => 2,
+            AccessAssignUlUsage::Traffic(_) => 3,
+        }
+    }
+
+    // The marker beside it.
+    pub fn marker(self) -> Option<u8>
+        ensures { result ≡ marker_of_usage self }
+    {
+        match self {
+            AccessAssignUlUsage::Traffic(marker) => Some(marker),
+            _ => None,
+        }
+    }
 }
 
 // An entry of the uplink table: who holds each half of the slot, and the usage marker of the reservation.
@@ -89,7 +112,7 @@ impl Entry {
 fn owner_is_sound(owner: Option<u32>) -> bool
     ensures { result ≡ sound_owner owner }
 {
-    owner.is_none_or(|number| number < 1 << 24)
+    owner.is_none_or(|number| number < ADDRESS_NUMBERS)
 }
 
 // Is a marker in the range that is handed out?
@@ -100,13 +123,13 @@ fn counter_is_sound(marker: u8) -> bool
 }
 
 // Is every entry of a row sound? Each is looked at where it stands: one that is taken out is copied.
-fn row_is_sound(row: &[Entry; 18]) -> bool
+fn row_is_sound(row: &[Entry; FRAMES]) -> bool
     ensures { result ≡ sound_row row.now }
 {
     row.iter().all(|e| e.is_sound())
 }
 
-fn table_is_sound(rows: &[[Entry; 18]; TIMESLOTS]) -> bool
+fn table_is_sound(rows: &[[Entry; FRAMES]; TIMESLOTS]) -> bool
     ensures { result ≡ sound_table rows.now }
 {
     rows.iter().all(|row| row_is_sound(row))
@@ -122,7 +145,7 @@ fn counters_are_sound(counters: &[u8; TIMESLOTS]) -> bool
 #[derive(Clone, Copy)]
 pub struct Uplink {
     pub time: TdmaTime,
-    pub rows: [[Entry; 18]; TIMESLOTS],
+    pub rows: [[Entry; FRAMES]; TIMESLOTS],
     pub next_usage_marker: [u8; TIMESLOTS],
 }
 
@@ -133,8 +156,8 @@ impl Uplink {
     pub fn new(time: TdmaTime) -> Uplink
         ensures { result ≡ new_uplink time }
     {
-        let mut rows = [[Entry::EMPTY; 18]; TIMESLOTS];
-        rows[0][(time.f % 18) as usize] = Entry::EMPTY;
+        let mut rows = [[Entry::EMPTY; FRAMES]; TIMESLOTS];
+        rows[0][time.f as usize % FRAMES] = Entry::EMPTY;
         Uplink {
             time,
             rows,
@@ -143,19 +166,14 @@ impl Uplink {
     }
 
     // One slot on: the entry of the slot four earlier than the new time is emptied.
-    pub fn advanced(self) -> Uplink
-        requires { Valid self.time }
-        ensures { result ≡ advanced_uplink self }
+    pub fn advance(&mut self)
+        requires { Valid self.old.time }
+        ensures { self.new ≡ advanced_uplink self.old }
     {
         let now = self.time.next();
         let old = now.four_earlier();
-        let mut rows = self.rows;
-        rows[(now.t - 1) as usize][(old.f - 1) as usize] = Entry::EMPTY;
-        Uplink {
-            time: now,
-            rows,
-            ..self
-        }
+        self.time = now;
+        self.rows[now.row()][old.column()] = Entry::EMPTY;
     }
 
     // The entry of the slot at a time.
@@ -163,7 +181,7 @@ impl Uplink {
         requires { Valid ts }
         ensures { result ≡ entry_at self.now.rows (slot_of ts) }
     {
-        self.rows[(ts.t - 1) as usize][(ts.f - 1) as usize]
+        self.rows[ts.row()][ts.column()]
     }
 
     // Who holds the first half of the slot at a time, the second, or both.
@@ -201,16 +219,11 @@ pub struct Opportunity {
 }
 
 // What a request is granted.
+// Kept: capacity and delay are codes, since the C interface and slotrun give them as numbers and the definitions speak in codes; the kinds
+// of basic_slotgrant are made of them where an octet is written.
 #[derive(Clone, Copy)]
 pub struct Grant {
     pub capacity: u8,
     pub delay: u8,
     pub usage_marker: Option<u8>,
-}
-
-// The reply to a request for capacity, and the uplink after it.
-#[derive(Clone, Copy)]
-pub struct CapAnswer {
-    pub reply: Result<Grant, Refusal>,
-    pub uplink: Uplink,
 }

@@ -71,24 +71,15 @@ fn address_types(rt: &impl Print) -> io::Result<()> {
     )
 }
 
-// The codes up to 33 that are tried, and every code above.
+// Three codes that are tried, the last of them 33, and every code above.
 fn length_codes(rt: &impl Print) -> io::Result<()> {
-    null_of(rt, 1)?;
-    null_of(rt, 2)?;
-    null_of(rt, 33)?;
-    for code in 34..64 {
+    for code in [1, 2, 33].into_iter().chain(34..64) {
         null_of(rt, code)?;
     }
-    end_of(rt, 1)?;
-    end_of(rt, 2)?;
-    end_of(rt, 33)?;
-    for code in 34..64 {
+    for code in [1, 2, 33].into_iter().chain(34..64) {
         end_of(rt, code)?;
     }
-    ssi_of(rt, 5)?;
-    ssi_of(rt, 6)?;
-    ssi_of(rt, 33)?;
-    for code in 34..64 {
+    for code in [5, 6, 33].into_iter().chain(34..64) {
         ssi_of(rt, code)?;
     }
     Ok(())

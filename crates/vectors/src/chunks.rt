@@ -2,22 +2,25 @@
 // may not start fragments.
 ghost use Rattle.std.specs.Prelude.{◌≡◌, ◌≤◌};
 
-use dl_record::{QueuedHeader, Record};
+use dl_record::{QueuedHeader, Record, TetraAddress};
+use show::Hex;
 use std::io;
+
+const ADDRESS: TetraAddress = TetraAddress { kind: 0, number: 1 };
 
 // A record without SDU whose header has an SSI, a usage marker and a grant: 57 bits.
 fn with_marker_and_grant() -> Record
     ensures { (result.bits ≡ 0) × (result.sent ≡ 0) }
 {
-    let granted = Record::grant(0, 1, 0x10, Some(4));
-    Record::offered(0, 1, None, granted.header, 0)
+    let granted = Record::grant(ADDRESS, 0x10, Some(4));
+    Record::offered(ADDRESS, None, granted.header, 0)
 }
 
 // A record with so many SDU bits, all zero: its header has 43 bits.
 fn with_sdu(bits: u16) -> Record
     ensures { (result.bits ≡ bits) × (result.sent ≡ 0) }
 {
-    Record::offered(0, 1, None, QueuedHeader::EMPTY, bits)
+    Record::offered(ADDRESS, None, QueuedHeader::EMPTY, bits)
 }
 
 // Where its PDU ends, in the last 60 bits of a block: at 208 if there is none.
@@ -41,7 +44,7 @@ fn may_start(rt: &impl Print) -> io::Result<()> {
     print!(rt; " may not:")?;
     in_60_bits(rt, 17, false)?;
     in_60_bits(rt, 18, false)?;
-    show::end(rt)
+    println!(rt)
 }
 
 // The PDU of a record with marker and grant.
@@ -53,13 +56,9 @@ fn header_57(rt: &impl Print) -> io::Result<()> {
     let store = [0u8; 256];
     let mut block = [0u8; 34];
     let chunk = bs_frag_chunk::get_next_chunk(&mut block, 208, 268, &store, 0, r, true);
-    print!(rt; "header 57, 60 bits left:")?;
-    show::octets(rt, &block)?;
-    println!(rt;
-        " to {} length {}",
-        chunk.next,
-        bitbuffer::read_bits(&block, 215, 6)
-    )
+    let length = bitbuffer::read_bits(&block, 215, 6);
+    print!(rt; "header 57, 60 bits left: {}", Hex(&block))?;
+    println!(rt; " to {} length {length}", chunk.next)
 }
 
 pub(crate) fn run(rt: &impl Print) -> io::Result<()> {

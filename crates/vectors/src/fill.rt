@@ -1,4 +1,5 @@
 // Fill bits wanted, written and removed.
+use show::{Hex, Shown};
 use std::io;
 
 // How many fill bits a PDU of `total` bits wants in a room of `room` bits.
@@ -11,17 +12,15 @@ fn wanted(rt: &impl Print, total: usize, room: usize) -> io::Result<()> {
 
 // What fill removal answers of the bits from `start` up to `end`.
 fn removed(rt: &impl Print, buf: &[u8], start: usize, end: usize) -> io::Result<()> {
-    print!(rt; " fill from {start} to {end}:")?;
-    crate::reply(rt, fillbits::get_num_fill_bits(buf, start, end))?;
-    show::end(rt)
+    let reply = fillbits::get_num_fill_bits(buf, start, end);
+    println!(rt; " fill from {start} to {end}: {}", Shown(reply))
 }
 
 // Five fill bits written behind 43 bits of ones, and removed again.
 fn written_and_removed(rt: &impl Print) -> io::Result<()> {
     let mut s = [0xffu8; 6];
     fillbits::write(&mut s, 43, 5);
-    show::word(rt, b"5 fill bits at 43:")?;
-    show::octets(rt, &s)?;
+    print!(rt; "5 fill bits at 43: {}", Hex(&s))?;
     removed(rt, &s, 0, 48)
 }
 
@@ -40,11 +39,11 @@ pub(crate) fn run(rt: &impl Print) -> io::Result<()> {
         (0, 25),
         (0, usize::MAX),
     ] {
-        show::word(rt, b"002800:")?;
+        print!(rt; "{}:", Hex(&s))?;
         removed(rt, &s, start, end)?;
     }
-    // A long run of zeros: one call for each bit.
+    // A long run of zeros.
     let zeros = [0u8; 65536];
-    show::word(rt, b"65536 octets of 0:")?;
+    print!(rt; "65536 octets of 0:")?;
     removed(rt, &zeros, 0, 524288)
 }

@@ -10,16 +10,7 @@ mod pdus;
 mod time;
 mod uplink_requests;
 
-use questions::Refusal;
 use std::io;
-
-// A reply: 0 and its value, or the number of the refusal.
-fn reply(rt: &impl Print, answer: Result<usize, Refusal>) -> io::Result<()> {
-    match answer {
-        Ok(n) => print!(rt; " 0 {n}"),
-        Err(r) => print!(rt; " {}", u8::from(r)),
-    }
-}
 
 fn main(rt: HostRuntime) -> io::Result<()> {
     time::run(&rt)?;

@@ -1,77 +1,16 @@
 // Document 01, "Block": blocks read header by header, and headers written alone.
-use mac_pdus::{Address, AddressKind, ChanAllocElement, MacResource, PduHeader, ResourceHeader};
+use mac_pdus::{AddressKind, ChanAllocElement, MacResource};
+use show::{Hex, Shown};
 use std::io;
-
-// The address type, and what follows it.
-fn address(rt: &impl Print, a: Address) -> io::Result<()> {
-    match a {
-        Address::Null => print!(rt; " null"),
-        Address::Ssi(n) => print!(rt; " SSI {n}"),
-        Address::EventLabel(e) => print!(rt; " label {e}"),
-        Address::Ussi(n) => print!(rt; " USSI {n}"),
-        Address::Smi(n) => print!(rt; " SMI {n}"),
-        Address::SsiEventLabel(n, e) => print!(rt; " SSI {n} label {e}"),
-        Address::SsiUsageMarker(n, m) => print!(rt; " SSI {n} marker {m}"),
-        Address::SmiEventLabel(n, e) => print!(rt; " SMI {n} label {e}"),
-    }
-}
-
-// A channel allocation, or -.
-fn chan_alloc(rt: &impl Print, a: Option<ChanAllocElement>) -> io::Result<()> {
-    let Some(c) = a else {
-        return print!(rt; " -");
-    };
-    print!(rt; " {} {} {}", c.alloc_type, c.ts_assigned, c.ul_dl_assigned)?;
-    print!(rt;
-        " {} {} {} {}",
-        c.clch_permission, c.cell_change_flag, c.carrier_num, c.mon_pattern
-    )?;
-    show::or_dash(rt, c.frame18_mon_pattern)
-}
-
-fn resource(rt: &impl Print, r: ResourceHeader) -> io::Result<()> {
-    print!(rt;
-        " MAC-RESOURCE fill {} position {}",
-        r.fill_bits, r.pos_of_grant
-    )?;
-    print!(rt;
-        " encryption {} random access {}",
-        r.encryption_mode, r.random_access_flag
-    )?;
-    print!(rt; " length {}", r.length_ind)?;
-    address(rt, r.address)?;
-    show::word(rt, b" power")?;
-    show::or_dash(rt, r.power_control_element)?;
-    show::word(rt, b" grant")?;
-    show::or_dash(rt, r.slot_granting_element)?;
-    show::word(rt, b" allocation")?;
-    chan_alloc(rt, r.chan_alloc_element)?;
-    show::end(rt)
-}
-
-fn header(rt: &impl Print, h: PduHeader) -> io::Result<()> {
-    match h {
-        PduHeader::Resource(r) => resource(rt, r),
-        PduHeader::Frag(f) => println!(rt; " MAC-FRAG fill {}", f.fill_bits),
-        PduHeader::End(e) => {
-            println!(rt;
-                " MAC-END fill {} position {} length {}",
-                e.fill_bits, e.pos_of_grant, e.length_ind
-            )
-        }
-    }
-}
 
 // A block as the reader lists it: the number, and the headers with their bit positions.
 pub(crate) fn read(rt: &impl Print, block: &[u8]) -> io::Result<()> {
-    show::word(rt, b"block")?;
-    show::octets(rt, block)?;
+    print!(rt; "block {}", Hex(block))?;
     match mac_reader::read_block(block) {
         Ok(b) => {
             println!(rt; " 0")?;
-            for placed in b.headers.iter().take(b.count) {
-                print!(rt; "  at {}:", placed.at)?;
-                header(rt, placed.header)?;
+            for placed in b.as_slice() {
+                println!(rt; "  at {}: {}", placed.at, Shown(placed.header))?;
             }
             Ok(())
         }
@@ -82,28 +21,18 @@ pub(crate) fn read(rt: &impl Print, block: &[u8]) -> io::Result<()> {
 // A header with an address of kind SSI and nothing else.
 fn plain(length: u8, number: u32) -> MacResource {
     MacResource {
-        fill_bits: 0,
-        pos_of_grant: 0,
-        encryption_mode: 0,
-        random_access_flag: 0,
         length_ind: length,
         address_kind: Some(AddressKind::Ssi),
         number,
-        event_label: None,
-        usage_marker: None,
-        power_control_element: None,
-        slot_granting_element: None,
-        chan_alloc_element: None,
+        ..MacResource::NULL
     }
 }
 
 // The reply of the header writer, and its buffer.
 fn written(rt: &impl Print, at: usize, h: MacResource) -> io::Result<()> {
     let mut s = [0xffu8; 12];
-    print!(rt; "written at {at}:")?;
-    crate::reply(rt, mac_header_writer::write_header(&mut s, at, h))?;
-    show::octets(rt, &s)?;
-    show::end(rt)
+    let reply = mac_header_writer::write_header(&mut s, at, h);
+    println!(rt; "written at {at}: {} {}", Shown(reply), Hex(&s))
 }
 
 // A header with every part, 88 bits.

@@ -9,9 +9,6 @@ use Rattle.bitbuffer.proofs.Laws.{one_shl, value_bits-mod}
 use Rattle.bitbuffer.proofs.Chunks.{pair-part}
 use Rattle.bitbuffer.proofs.bits_at.Goals as goal
 
-pub nonzero_rem-result-2 : goal.nonzero_rem-result-2
-nonzero_rem-result-2 c = let n = c.args.n in rw (one_shl {k = n} 64 (omega arith)) (pow_pos n)
-
 pub returns : goal.returns
 returns c =
     let a = c.args in

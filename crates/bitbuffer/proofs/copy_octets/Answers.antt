@@ -1,9 +1,9 @@
 -- `copy_octets` meets its contract: after i turns the first i octets are copied. Assumes nothing.
-use mathlib.Core.Path.{◌≡◌, refl, ap, ◌∙◌}
-use Prim.Native.Nat.{ℕ, ◌+◌, ◌*◌, ◌/◌}
+use mathlib.Core.Path.{refl, ap, ◌∙◌}
+use Prim.Native.Nat.{◌+◌, ◌/◌}
 use native.Mathlib.Omega.{arith}
 use lib.ListN.{length-set}
-use Rattle.bitbuffer.specs.Bits.{value_bits, bits_of, written, part}
+use Rattle.bitbuffer.specs.Bits.{value_bits}
 use Rattle.bitbuffer.proofs.Laws.{part-done}
 use Rattle.bitbuffer.proofs.Chunks.{octet-part, octet-turn}
 use Rattle.bitbuffer.proofs.copy_octets.Goals as goal
@@ -20,9 +20,3 @@ loop-i-preserved c =
       octet-turn a.dst.now c.loop-i.dst a.src.now a.at a.from i c.octet_within.result c.loop-i.invariant.2 (omega arith) (omega arith)
           (ap (value_bits 8) c.octet_within.ensures ∙ octet-part a.src.now a.from i (omega arith) (c.type_inv.src (a.from / 8 + i + 1)).fits),
     )
-
-pub returns : goal.returns
-returns c =
-    let a = c.args in
-    let e : c.loop-i.i ≡ a.n = omega arith in
-    c.loop-i.invariant.2 ∙ ap (λ (i : ℕ). written (bits_of a.dst.now) (8 * a.at) (part (bits_of a.src.now) a.from (8 * i))) e

@@ -1,6 +1,6 @@
 -- `read_bits` meets its contract: the number read so far and the bits left give the number read in all. Assumes nothing.
 use mathlib.Core.List.{List}
-use mathlib.Core.Path.{◌≡◌, refl, sym, ◌∙◌}
+use mathlib.Core.Path.{◌≡◌, sym, ◌∙◌}
 use Prim.Native.Nat.{ℕ, ◌+◌, ◌-◌, ◌*◌, ◌%◌, ◌^◌, ◌<◌}
 use native.Mathlib.Nat.{lt_of_le_of_lt, lt_of_lt_of_le, mod-eq_of_lt}
 use native.Mathlib.Omega.{arith}
@@ -36,9 +36,6 @@ next c =
 
 exact : (c : After-bits_at) → Sum c % 2 ^ 64 ≡ Sum c
 exact c = mod-eq_of_lt (omega (arith, next c))
-
-pub loop-left-init : goal.loop-left-init
-loop-left-init c = (refl, omega arith)
 
 pub overflow_add-sum : goal.overflow_add-sum
 overflow_add-sum c = rw (exact (goal.at.overflow_add-sum c).After-bits_at) (record { fits = next (goal.at.overflow_add-sum c).After-bits_at })

@@ -11,9 +11,6 @@ use Rattle.bitbuffer.proofs.write_chunks.Goals as goal
 pub loop-left-init : goal.loop-left-init
 loop-left-init g c = (refl, omega arith, refl, λ f h. given-all _ _ f _ h.size)
 
-pub put_chunk-requires : goal.put_chunk-requires
-put_chunk-requires g c = (omega arith, omega arith, c.requires.small _ _ _ (omega arith) (omega arith) c.bits.ensures)
-
 pub loop-left-preserved : goal.loop-left-preserved
 loop-left-preserved g c =
     let at = c.loop-left.pos in

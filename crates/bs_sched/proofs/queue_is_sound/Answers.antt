@@ -1,37 +1,25 @@
--- A timeslot that is not sound is the answer; behind a sound one the next timeslot decides.
-use mathlib.Core.Path.{sym, ◌∙◌}
-use Prim.Native.Nat.{ℕ}
-use native.Mathlib.Omega.{arith}
-use lib.ListN.{get_or}
-use Rattle.dl_queue.proofs.PlaceLaws.{queue-many, queue-fail, queue-pass, queue-done, queue-seen}
+-- Each timeslot is judged with its count, its records and its cells. Assumes nothing.
+use Rattle.std.proofs.Common.{rules, tests, ap, ◌∙◌, ◌≡◌, ℕ, ◌/◌, arith, length}
+use Rattle.std.proofs.lemmas.Iterator.{YieldsList-from_slice, YieldsList-from_zip}
+use Rattle.std.proofs.lemmas.Iterator.Consumers.{YieldsList-at}
+use Rattle.std.proofs.lemmas.Iterator.Search.{all_from_yields_List}
+use Rattle.std.specs.Simd.{first_chunks}
+use Rattle.sizes.specs.Sizes.{timeslots, per_timeslot, timeslot_octets}
+use Rattle.bs_sched.proofs.CellLaws.{timeslot_passes, queue-pass-all}
 use Rattle.bs_sched.proofs.queue_is_sound.Goals as goal
 
-pub returns-then-n-gt-PER_TIMESLOT : goal.returns-then-n-gt-PER_TIMESLOT
-returns-then-n-gt-PER_TIMESLOT c =
-    let a = c.args in
-    let l = c.loop-t in
-    queue-many a.queued a.queue.now a.store.now l.t (omega arith) c.if-n-gt-PER_TIMESLOT.true ∙ l.invariant.2
-
-pub returns-then-not-places_are_sound : goal.returns-then-not-places_are_sound
-returns-then-not-places_are_sound c =
-    let a = c.args in
-    let l = c.loop-t in
-    let n : ℕ = get_or a.queued l.t 0 in
-    queue-fail a.queued a.queue.now a.store.now l.t (omega arith) (omega arith)
-    (sym (queue-seen n a.queue.now a.store.now l.t) ∙ sym c.places_are_sound.ensures ∙ c.if-not-places_are_sound.true)
-    ∙ l.invariant.2
-
-pub loop-t-preserved : goal.loop-t-preserved
-loop-t-preserved c =
-    let a = c.args in
-    let l = c.loop-t in
-    let n : ℕ = get_or a.queued l.t 0 in (
-      omega arith,
-      l.invariant.1,
-      queue-pass a.queued a.queue.now a.store.now l.t (omega arith) (omega arith)
-          (sym (queue-seen n a.queue.now a.store.now l.t) ∙ sym c.places_are_sound.ensures ∙ c.if-not-places_are_sound.false)
-          ∙ l.invariant.2,
-    )
-
 pub returns : goal.returns
-returns c = queue-done c.args.queued _ _ c.loop-t.t (omega arith) ∙ c.loop-t.invariant.2
+returns c =
+    let a = c.args in
+    let records : length a.queue.now / per_timeslot ≡ timeslots = omega arith in
+    let cells : length a.store.now / timeslot_octets ≡ timeslots = omega arith in
+    all_from_yields_List timeslot_passes c.all.new.self _ _ c.all.ensures.ran
+    (YieldsList-from_zip
+    (YieldsList-at c.zip-2.ensures.first
+    (YieldsList-from_zip (YieldsList-from_slice a.queued cc)
+    (YieldsList-from_slice (first_chunks per_timeslot timeslots a.queue.now)
+    (c.zip.ensures.second.0 ∙ c.as_chunks.ensures.front ∙ ap (λ (k : ℕ). first_chunks per_timeslot k a.queue.now) records))))
+    (YieldsList-from_slice (first_chunks timeslot_octets timeslots a.store.now)
+    (c.zip-2.ensures.second.0 ∙ c.as_chunks-2.ensures.front ∙ ap (λ (k : ℕ). first_chunks timeslot_octets k a.store.now) cells)))
+    (λ x b q k. search (rules, tests))
+    ∙ queue-pass-all timeslots a.queued a.queue.now a.store.now (omega arith)

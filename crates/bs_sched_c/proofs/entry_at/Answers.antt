@@ -1,22 +1,23 @@
 -- The time, the words, the state, then the entry of the time. Assumes nothing.
+use Rattle.std.proofs.Common.{◌≡◌, ℕ, List, length, ap, ◌∙◌}
 use Rattle.std.proofs.lemmas.Result.{err_from_is_err_and}
-use mathlib.Core.Path.{◌∙◌, ap}
-use Prim.Native.Nat.{ℕ}
-use borrow.Author.Tests.{eqb-true}
-use Rattle.questions.proofs.AskLaws.{said-no, said-yes}
+use Rattle.tdma_time.specs.Time.{slot_of}
 use Rattle.tdma_time.proofs.TimeLaws.{true-valid}
+use Rattle.uplink.specs.UplinkEntry.{entry_at}
 use Rattle.sched_core.proofs.QuestionLaws.{asked-yes}
-use Rattle.sched_words.specs.Words.{station_from}
+use Rattle.sched_words.specs.Words.{station_word_count, station_from}
 use Rattle.bs_sched_c.specs.Exports.{no_owners_struct, entry_owners, owner_answer, usage_struct, usage_answer}
+use Rattle.bs_sched_c.proofs.LentLaws.{lent-other, lent-whole, now, sound-yes, sound-no}
 use Rattle.bs_sched_c.proofs.LeftLaws.{asked-no, no-time, no-station-then, is-station-then, owner-unsound, owner-yes, usage-unsound, usage-yes}
 use Rattle.bs_sched_c.proofs.entry_at.Goals as goal
+use Rattle.bs_sched_c.proofs.entry_at.Goals.{In_ok-station}
 
-pub entry_at-requires : goal.entry_at-requires
-entry_at-requires c = (
-  eqb-true _ _ (asked-yes _ _ c.ask_station.ensures c.in_ok-ask_station.was),
-  said-yes c.station_is_sound.ensures (asked-yes _ _ c.ask.ensures c.in_ok-ask.was),
-  true-valid _ (asked-yes _ _ c.ask_time.ensures c.in_ok-ask_time.was),
-)
+-- the station's words, as they are lent
+lent : (c : In_ok-station) → (length c.in_ok-station.station.now ≡ station_word_count) × (c.args.station.now ≡ c.in_ok-station.station.now)
+lent c = lent-whole now c.args.station.now station_word_count c.as_array.result c.ok_or.ensures.value c.in_ok-station.was c.as_array.ensures.cases
+
+pub entry-requires : goal.entry-requires
+entry-requires c = true-valid _ (asked-yes _ _ c.ask_time.ensures c.in_ok-ask_time.was)
 
 pub returns-in_err-ask_time-clause-owners : goal.returns-in_err-ask_time-clause-owners
 unfolding owner_answer
@@ -26,34 +27,35 @@ returns-in_err-ask_time-clause-owners c =
     let n = asked-no _ _ c.ask_time.ensures c.in_err-ask_time.was in
     rw (p.1, p.2, n.1) (no-time a.station.now _ no_owners_struct a.time n.0)
 
-pub returns-in_err-ask_station-clause-owners : goal.returns-in_err-ask_station-clause-owners
+pub returns-in_err-station-clause-owners : goal.returns-in_err-station-clause-owners
 unfolding owner_answer
-returns-in_err-ask_station-clause-owners c =
+returns-in_err-station-clause-owners c =
     let a = c.args in
-    let p = err_from_is_err_and c.from_residual-in_err-ask_station.result c.from_residual-in_err-ask_station.ensures.1 in
-    let n = asked-no _ _ c.ask_station.ensures c.in_err-ask_station.was in
-    rw (p.1, p.2, n.1)
-    (no-station-then a.station.now _ no_owners_struct a.time (asked-yes _ _ c.ask_time.ensures c.in_ok-ask_time.was) n.0)
+    let p = err_from_is_err_and c.from_residual-in_err-station.result c.from_residual-in_err-station.ensures.1 in
+    let n = lent-other now a.station.now station_word_count c.as_array.result c.ok_or.ensures.value c.in_err-station.was c.as_array.ensures.cases in
+    rw (p.1, p.2, n.1) (no-station-then a.station.now _ no_owners_struct a.time (asked-yes _ _ c.ask_time.ensures c.in_ok-ask_time.was) n.0)
 
-pub returns-in_err-ask-clause-owners : goal.returns-in_err-ask-clause-owners
+pub returns-in_err-sound-clause-owners : goal.returns-in_err-sound-clause-owners
 unfolding owner_answer
-returns-in_err-ask-clause-owners c =
-    let a = c.args in
-    let p = err_from_is_err_and c.from_residual-in_err-ask.result c.from_residual-in_err-ask.ensures.1 in
-    let n = asked-no _ _ c.ask.ensures c.in_err-ask.was in
-    rw (p.1, p.2, n.1)
-    (is-station-then a.station.now _ no_owners_struct a.time (asked-yes _ _ c.ask_time.ensures c.in_ok-ask_time.was)
-    (eqb-true _ _ (asked-yes _ _ c.ask_station.ensures c.in_ok-ask_station.was))
-    (owner-unsound (station_from a.station.now) a.time (said-no c.station_is_sound.ensures n.0)))
+returns-in_err-sound-clause-owners c =
+    let ws = c.in_ok-station.station.now in
+    let w = lent (goal.at.returns-in_err-sound-clause-owners c).In_ok-station in
+    let p = err_from_is_err_and c.from_residual-in_err-sound.result c.from_residual-in_err-sound.ensures.1 in
+    let n = sound-no ws c.try_from.ensures.1 c.in_err-sound.was in
+    rw (p.1, p.2, n.0, w.1)
+    (is-station-then ws _ no_owners_struct c.args.time (asked-yes _ _ c.ask_time.ensures c.in_ok-ask_time.was) w.0
+    (owner-unsound (station_from ws) c.args.time n.1))
 
 pub returns-clause-owners : goal.returns-clause-owners
 unfolding owner_answer
 returns-clause-owners c =
-    let a = c.args in
-    let sound = said-yes c.station_is_sound.ensures (asked-yes _ _ c.ask.ensures c.in_ok-ask.was) in
+    let ws = c.in_ok-station.station.now in
+    let x = c.args.time in
+    let w = lent (goal.at.returns-clause-owners c).In_ok-station in
+    let s = sound-yes {ws = ws} c.try_from.ensures.0 c.in_ok-sound.was in
     let yes = asked-yes _ _ c.ask_time.ensures c.in_ok-ask_time.was in
-    is-station-then a.station.now _ no_owners_struct a.time yes (eqb-true _ _ (asked-yes _ _ c.ask_station.ensures c.in_ok-ask_station.was))
-    (ap entry_owners c.entry_at.ensures ∙ owner-yes (station_from a.station.now) a.time sound yes)
+    let read = c.entry.ensures ∙ ap (λ (l : List ℕ). entry_at (station_from l).uplink.rows (slot_of x)) s.0 in
+    rw w.1 (is-station-then ws _ no_owners_struct x yes w.0 (ap entry_owners read ∙ owner-yes (station_from ws) x s.1 yes))
 
 pub returns-in_err-ask_time-clause-usage : goal.returns-in_err-ask_time-clause-usage
 unfolding usage_answer
@@ -63,31 +65,32 @@ returns-in_err-ask_time-clause-usage c =
     let n = asked-no _ _ c.ask_time.ensures c.in_err-ask_time.was in
     rw (p.1, p.2, n.1) (no-time a.station.now _ (λ (n : ℕ). usage_struct n 0 0) a.time n.0)
 
-pub returns-in_err-ask_station-clause-usage : goal.returns-in_err-ask_station-clause-usage
+pub returns-in_err-station-clause-usage : goal.returns-in_err-station-clause-usage
 unfolding usage_answer
-returns-in_err-ask_station-clause-usage c =
+returns-in_err-station-clause-usage c =
     let a = c.args in
-    let p = err_from_is_err_and c.from_residual-in_err-ask_station.result c.from_residual-in_err-ask_station.ensures.1 in
-    let n = asked-no _ _ c.ask_station.ensures c.in_err-ask_station.was in
-    rw (p.1, p.2, n.1)
-    (no-station-then a.station.now _ (λ (n : ℕ). usage_struct n 0 0) a.time (asked-yes _ _ c.ask_time.ensures c.in_ok-ask_time.was) n.0)
+    let p = err_from_is_err_and c.from_residual-in_err-station.result c.from_residual-in_err-station.ensures.1 in
+    let n = lent-other now a.station.now station_word_count c.as_array.result c.ok_or.ensures.value c.in_err-station.was c.as_array.ensures.cases in
+    rw (p.1, p.2, n.1) (no-station-then a.station.now _ (λ (n : ℕ). usage_struct n 0 0) a.time (asked-yes _ _ c.ask_time.ensures c.in_ok-ask_time.was) n.0)
 
-pub returns-in_err-ask-clause-usage : goal.returns-in_err-ask-clause-usage
+pub returns-in_err-sound-clause-usage : goal.returns-in_err-sound-clause-usage
 unfolding usage_answer
-returns-in_err-ask-clause-usage c =
-    let a = c.args in
-    let p = err_from_is_err_and c.from_residual-in_err-ask.result c.from_residual-in_err-ask.ensures.1 in
-    let n = asked-no _ _ c.ask.ensures c.in_err-ask.was in
-    rw (p.1, p.2, n.1)
-    (is-station-then a.station.now _ (λ (n : ℕ). usage_struct n 0 0) a.time (asked-yes _ _ c.ask_time.ensures c.in_ok-ask_time.was)
-    (eqb-true _ _ (asked-yes _ _ c.ask_station.ensures c.in_ok-ask_station.was))
-    (usage-unsound (station_from a.station.now) a.time (said-no c.station_is_sound.ensures n.0)))
+returns-in_err-sound-clause-usage c =
+    let ws = c.in_ok-station.station.now in
+    let w = lent (goal.at.returns-in_err-sound-clause-usage c).In_ok-station in
+    let p = err_from_is_err_and c.from_residual-in_err-sound.result c.from_residual-in_err-sound.ensures.1 in
+    let n = sound-no ws c.try_from.ensures.1 c.in_err-sound.was in
+    rw (p.1, p.2, n.0, w.1)
+    (is-station-then ws _ (λ (n : ℕ). usage_struct n 0 0) c.args.time (asked-yes _ _ c.ask_time.ensures c.in_ok-ask_time.was) w.0
+    (usage-unsound (station_from ws) c.args.time n.1))
 
 pub returns-clause-usage : goal.returns-clause-usage
 unfolding usage_answer
 returns-clause-usage c =
-    let a = c.args in
-    let sound = said-yes c.station_is_sound.ensures (asked-yes _ _ c.ask.ensures c.in_ok-ask.was) in
+    let ws = c.in_ok-station.station.now in
+    let x = c.args.time in
+    let w = lent (goal.at.returns-clause-usage c).In_ok-station in
+    let s = sound-yes {ws = ws} c.try_from.ensures.0 c.in_ok-sound.was in
     let yes = asked-yes _ _ c.ask_time.ensures c.in_ok-ask_time.was in
-    is-station-then a.station.now _ (λ (n : ℕ). usage_struct n 0 0) a.time yes (eqb-true _ _ (asked-yes _ _ c.ask_station.ensures c.in_ok-ask_station.was))
-    (usage-yes (station_from a.station.now) a.time sound yes _ c.entry_at.ensures)
+    let read = c.entry.ensures ∙ ap (λ (l : List ℕ). entry_at (station_from l).uplink.rows (slot_of x)) s.0 in
+    rw w.1 (is-station-then ws _ (λ (n : ℕ). usage_struct n 0 0) x yes w.0 (usage-yes (station_from ws) x s.1 yes _ read))

@@ -13,7 +13,7 @@ pub returns : goal.returns
 returns c =
     let a = c.args in
     let k : a.at + cell_octets - a.at ≡ cell_octets = omega arith in
-    let long : length (take (a.at + cell_octets - a.at) (drop a.at a.store.now)) ≡ cell_octets =
+    let long : length (take (a.at + cell_octets - a.at) (drop a.at a.cells.now)) ≡ cell_octets =
     length-take-le _ _ (rw length-drop (omega arith)) ∙ k in
-    put_mid-paste a.at _ a.store.now _ (replicate cell_octets 0) cell_octets
+    put_mid-paste a.at _ a.cells.now _ (replicate cell_octets 0) cell_octets
     (c.fill.ensures.after (search rules) ∙ ap (λ (n : ℕ). replicate n 0) long) (sym k) (sym (length-replicate {A = ℕ} cell_octets 0))

@@ -7,5 +7,4 @@ use Rattle.dl_build.specs.Moved.{arranged}
 use Rattle.dl_build.proofs.write_cells.Given as goal
 
 abbrev pub invariant-loop-p : goal.invariant-loop-p
-invariant-loop-p l =
-    l.store ≡ paste l.initial.store (cell_octets * l.first) (arranged l.cells l.fn.from) (cell_octets * l.p)
+invariant-loop-p l = l.cells ≡ paste l.initial.cells 0 (arranged l.others l.fn.from) (cell_octets * l.p)

@@ -1,11 +1,8 @@
 -- After the turns of the first records what stays is held, with the grants and acks among these put to it.
-use mathlib.Core.Path.{◌≡◌, sym, ap, ◌∙◌}
+use mathlib.Core.Path.{◌≡◌, refl, sym, ap, ◌∙◌}
 use Prim.Native.Nat.{ℕ, ◌<◌}
 use native.Mathlib.Omega.{arith}
-use borrow.Author.Rules.{rules}
-use lib.ListN.{length, get_or, take, length-take}
-use Rattle.std.proofs.lemmas.List.{get_or-take}
-use Rattle.sizes.specs.Sizes.{per_timeslot}
+use lib.ListN.{length, get_or}
 use Rattle.dl_record.specs.declared.Record.{Record}
 use Rattle.dl_record.specs.Record.{empty_record}
 use Rattle.dl_merge.specs.Merge.{only, puts}
@@ -23,57 +20,57 @@ pub shared_ref_as_front-dl_get_scheduled_resource_for_ssi : goal.shared_ref_as_f
 shared_ref_as_front-dl_get_scheduled_resource_for_ssi c =
     let a = c.args in
     let l = c.loop-g in
-    let less : l.g-index < a.n = omega (arith, length-take a.n a.records, c.loop-g-test.true) in
-    omega (arith, joins-few a.n l.g-index a.records (omega arith), ap (λ (m : Merged). m.count) l.invariant)
+    let less : l.g-index < length a.records.now = omega (arith, c.loop-g-test.true) in
+    omega (arith, joins-few (length a.records.now) l.g-index a.records.now (omega arith), ap (λ (m : Merged). m.count) l.invariant)
 
 pub bounds-merged-at : goal.bounds-merged-at
 bounds-merged-at c =
     let a = c.args in
     let l = c.loop-g in
-    let less : l.g-index < a.n = omega (arith, length-take a.n a.records, c.loop-g-test.true) in
-    found-within a.n l.g-index a.records l.merged l.invariant c.requires (omega arith) _ c.in-Some.at
+    let less : l.g-index < length a.records.now = omega (arith, c.loop-g-test.true) in
+    found-within (length a.records.now) l.g-index a.records.now l.merged l.invariant c.requires (omega arith) _ c.in-Some.at
     (sym c.dl_get_scheduled_resource_for_ssi.ensures ∙ c.in-Some.is)
 
 pub bounds-merged-at-in-Some : goal.bounds-merged-at-in-Some
 bounds-merged-at-in-Some c =
     let a = c.args in
     let l = c.loop-g in
-    let less : l.g-index < a.n = omega (arith, length-take a.n a.records, c.loop-g-test.true) in
-    found-within a.n l.g-index a.records l.merged l.invariant c.requires (omega arith) _ c.in-Some.at
+    let less : l.g-index < length a.records.now = omega (arith, c.loop-g-test.true) in
+    found-within (length a.records.now) l.g-index a.records.now l.merged l.invariant c.requires (omega arith) _ c.in-Some.at
     (sym c.dl_get_scheduled_resource_for_ssi.ensures ∙ c.in-Some.is)
 
 pub push-requires : goal.push-requires
 push-requires c =
     let a = c.args in
     let l = c.loop-g in
-    let less : l.g-index < a.n = omega (arith, length-take a.n a.records, c.loop-g-test.true) in
-    count-room a.n a.records l.g-index l.merged _ (get_or-take a.n a.records l.g-index empty_record less) l.invariant c.requires less
+    let less : l.g-index < length a.records.now = omega (arith, c.loop-g-test.true) in
+    count-room (length a.records.now) a.records.now l.g-index l.merged _ refl l.invariant c.requires less
     (sym c.is_grant_or_ack.ensures ∙ c.if-is_grant_or_ack.true)
 
 pub loop-g-preserved : goal.loop-g-preserved
 loop-g-preserved c =
     let a = c.args in
     let l = c.loop-g in
-    let less : l.g-index < a.n = omega (arith, length-take a.n a.records, c.loop-g-test.true) in
-    let g : Record = get_or (take a.n a.records) l.g-index empty_record in
-    let is = get_or-take a.n a.records l.g-index empty_record less in
+    let less : l.g-index < length a.records.now = omega (arith, c.loop-g-test.true) in
+    let rs = a.records.now in
+    let n = length rs in
+    let g : Record = get_or rs l.g-index empty_record in
     elim c.if-is_grant_or_ack.branch [
       | then-is_grant_or_ack+in-Some w ↦
           w.merged-is
-          ∙ found-turn a.n a.records l.g-index l.merged g is l.invariant c.requires less (sym c.is_grant_or_ack.ensures ∙ w.if-is_grant_or_ack.true)
+          ∙ found-turn n rs l.g-index l.merged g refl l.invariant c.requires less (sym c.is_grant_or_ack.ensures ∙ w.if-is_grant_or_ack.true)
           w.in-Some.at w.joined_record.result (sym w.dl_get_scheduled_resource_for_ssi.ensures ∙ w.in-Some.is) w.joined_record.ensures
       | then-is_grant_or_ack+in-None w ↦
           w.merged-is ∙ w.push.ensures
-          ∙ none-turn a.n a.records l.g-index l.merged g is l.invariant c.requires less (sym c.is_grant_or_ack.ensures ∙ w.if-is_grant_or_ack.true)
+          ∙ none-turn n rs l.g-index l.merged g refl l.invariant c.requires less (sym c.is_grant_or_ack.ensures ∙ w.if-is_grant_or_ack.true)
           w.dl_make_minimal_resource.result (sym w.dl_get_scheduled_resource_for_ssi.ensures ∙ w.in-None.is) w.dl_make_minimal_resource.ensures
       | else-is_grant_or_ack w ↦
-          w.merged-is ∙ pass-turn a.n a.records l.g-index l.merged g is l.invariant (sym c.is_grant_or_ack.ensures ∙ w.if-is_grant_or_ack.false)
+          w.merged-is ∙ pass-turn n rs l.g-index l.merged g refl l.invariant (sym c.is_grant_or_ack.ensures ∙ w.if-is_grant_or_ack.false)
     ]
 
 pub returns : goal.returns
 returns c =
     let a = c.args in
-    let full : length a.records ≡ per_timeslot = search rules in
-    let e : c.loop-g.g-index ≡ a.n =
-    omega (arith, full, length-take a.n a.records, c.loop-g-test.false, c.loop-g.auto.g-index-end) in
-    c.loop-g.invariant ∙ ap (λ (j : ℕ). merged_of (joins a.n j a.records)) e ∙ ap merged_of (joins-done a.n a.records)
+    let n = length a.records.now in
+    let e : c.loop-g.g-index ≡ n = omega (arith, c.loop-g-test.false, c.loop-g.auto.g-index-end) in
+    c.loop-g.invariant ∙ ap (λ (j : ℕ). merged_of (joins n j a.records.now)) e ∙ ap merged_of (joins-done n a.records.now)

@@ -15,5 +15,5 @@ pub returns : goal.returns
 unfolding resource_words
 returns c =
     let ws = c.args.words.now in
-    c.eq.ensures ∙ ap (λ (l : List ℕ). pointwise eqb l ws) (c.as_slice.ensures ∙ c.resource_words-again.ensures) ∙ words-same _ ws
-    ∙ ap (λ (x : ResourceHeader). same_words (header_words (word_at ws 0) (PduHeader.Resource x)) ws) c.requires.1
+    c.eq.ensures ∙ ap (λ (l : List ℕ). pointwise eqb l ws) c.resource_words.ensures ∙ words-same _ ws
+    ∙ ap (λ (x : ResourceHeader). same_words (header_words (word_at ws 0) (PduHeader.Resource x)) ws) c.requires

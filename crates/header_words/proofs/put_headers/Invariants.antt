@@ -10,5 +10,5 @@ use Rattle.header_words.proofs.put_headers.Given as goal
 abbrev pub invariant-loop-k : goal.invariant-loop-k
 invariant-loop-k l =
     (length l.words ≡ list_word_count)
-    × (sets l.words (header_word_count * l.k) (words_of_all placed_words (drop l.k l.p-items))
-    ≡ sets (replicate list_word_count 0) 0 (words_of_all placed_words l.p-items))
+    × (sets l.words (header_word_count * l.k) (words_of_all placed_words (drop l.k l.headers))
+    ≡ sets (replicate list_word_count 0) 0 (words_of_all placed_words l.headers))

@@ -1,29 +1,43 @@
 -- What is listed so far, and what is left to read, give the whole.
-use mathlib.Core.Path.{sym, ◌∙◌}
+use Rattle.std.proofs.Common.{◌≡◌, ℕ, ◌<◌, ◌≤◌, Bool, false, Ok, List, sym, ap, ◌∙◌}
 use native.Mathlib.Omega.{arith}
-use Rattle.mac_reader.proofs.ReadLoop.{got-start, got-end, got-full, got-refused, got_last, got-more}
+use lib.Dec.{eqb}
+use borrow.Author.Tests.{eqb-true, eqb-false}
+use Rattle.std.proofs.lemmas.Result.{err_from_is_err_and}
+use Rattle.mac_reader.specs.declared.PlacedHeader.{PlacedHeader}
+use Rattle.mac_reader.specs.Reader.{headers, reply_of, most_pdus}
+use Rattle.mac_reader.proofs.ReadLoop.{got-end, got-full, got-refused, got_last, got-more}
 use Rattle.mac_reader.proofs.read_list.Goals as goal
+use Rattle.mac_reader.proofs.read_list.Goals.{then-loop-at-test+else-not-is_full, else-loop-at-test}
 
-pub loop-n-init : goal.loop-n-init
-loop-n-init c = got-start _ _
+-- a list that is not full has room for one more
+room : (n : ℕ) (full : Bool) → full ≡ eqb n most_pdus → full ≡ false → n ≤ most_pdus → n < most_pdus
+room n full e f few =
+    let none = eqb-false n most_pdus (sym e ∙ f) in
+    omega arith
 
-pub overflow_add-at : goal.overflow_add-at
-overflow_add-at c = record { fits = omega (arith, c.loop-n.invariant.inside) }
+pub returns-in_err-header : goal.returns-in_err-header
+returns-in_err-header c =
+    let p = err_from_is_err_and c.from_residual.result c.from_residual.ensures.1 in
+    rw (p.1, p.2)
+    (got-refused _ _ _ _ c.loop-at.invariant _ (room _ _ c.is_full.ensures.value c.if-not-is_full.true c.loop-at.invariant.few) c.loop-at-test.true
+    (sym c.read_pdu.ensures ∙ c.in_err-header.was))
 
-pub returns-then-w-at : goal.returns-then-w-at
-returns-then-w-at c = got-end _ _ _ _ _ c.loop-n.invariant c.if-w-at.true
+pub returns-in-None : goal.returns-in-None
+returns-in-None c =
+    ap (λ (ps : List PlacedHeader). reply_of (headers ps)) c.push.ensures.items
+    ∙ got_last _ _ _ _ c.loop-at.invariant _ (room _ _ c.is_full.ensures.value c.if-not-is_full.true c.loop-at.invariant.few) c.loop-at-test.true
+    (sym c.read_pdu.ensures ∙ c.in_ok-header.was ∙ ap (λ n. Ok (c.in_ok-header.header, n)) c.in-None.is)
 
-pub returns-in-Malformed : goal.returns-in-Malformed
-returns-in-Malformed c =
-    got-refused _ _ _ _ _ c.loop-n.invariant c.loop-n-test.true c.if-w-at.false (sym c.read_pdu.ensures ∙ c.in-Malformed.is)
-
-pub returns-in-Last : goal.returns-in-Last
-returns-in-Last c =
-    got_last _ _ _ _ _ c.loop-n.invariant _ c.loop-n-test.true c.if-w-at.false (sym c.read_pdu.ensures ∙ c.in-Last.is)
-
-pub loop-n-preserved : goal.loop-n-preserved
-loop-n-preserved c =
-    got-more _ _ _ _ _ c.loop-n.invariant _ _ c.loop-n-test.true c.if-w-at.false (sym c.read_pdu.ensures ∙ c.in-More.is)
+pub loop-at-preserved : goal.loop-at-preserved
+loop-at-preserved c =
+    rw c.push.ensures.items
+    (got-more _ _ _ _ c.loop-at.invariant _ _ (room _ _ c.is_full.ensures.value c.if-not-is_full.true c.loop-at.invariant.few) c.loop-at-test.true
+    (sym c.read_pdu.ensures ∙ c.in_ok-header.was ∙ ap (λ n. Ok (c.in_ok-header.header, n)) c.in-Some.is))
 
 pub returns : goal.returns
-returns c = got-full _ _ _ _ _ c.loop-n.invariant (omega arith)
+returns c =
+    elim c.loop-at-test.branch [
+      | then-loop-at-test+else-not-is_full w ↦ got-full _ _ _ _ c.loop-at.invariant (omega (arith, eqb-true _ most_pdus (sym w.is_full.ensures.value ∙ w.if-not-is_full.false)))
+      | else-loop-at-test w ↦ got-end _ _ _ _ c.loop-at.invariant (omega (arith, w.loop-at-test.false))
+    ]

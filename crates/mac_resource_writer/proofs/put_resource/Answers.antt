@@ -2,6 +2,7 @@
 use mathlib.Core.Path.{sym, ◌∙◌}
 use mathlib.Core.List.{append-nil}
 use native.Mathlib.Omega.{arith}
+use borrow.Author.Tests.{eqb-true, eqb-false}
 use Rattle.bitbuffer.proofs.Laws.{then}
 use Rattle.mac_pdus.specs.Headers.{resource_bits}
 use Rattle.mac_pdus.proofs.LengthLaws.{resource-length, elements-none, elements-other}
@@ -16,12 +17,12 @@ pub put-next-requires-2 : goal.put-next-requires-2
 put-next-requires-2 c =
     omega (arith, resource-length c.args.r, piece-size _ _ c.fixed_piece.ensures, piece-size _ _ c.address_piece.ensures)
 
-pub returns-then-addr_type-eq0 : goal.returns-then-addr_type-eq0
+pub returns-then-is_null : goal.returns-then-is_null
 unfolding resource_bits
-returns-then-addr_type-eq0 c =
+returns-then-is_null c =
     let r = c.args.r in
     let none = elements-none _ r.power_control_element r.slot_granting_element r.chan_alloc_element
-    (sym c.addr_type.ensures ∙ c.if-addr_type-eq0.true) in
+    (eqb-true _ 0 (sym c.is_null.ensures ∙ c.if-is_null.true)) in
     let fixed = rw c.fixed_piece.ensures at c.put-next.ensures.1 in
     let address = rw c.address_piece.ensures at c.put-next-2.ensures.1 in
     rw (none, append-nil) (then fixed address)
@@ -30,7 +31,7 @@ pub put-next-requires-3 : goal.put-next-requires-3
 put-next-requires-3 c =
     omega (
       arith,
-      some-length c.args.r (λ z. c.if-addr_type-eq0.false (c.addr_type.ensures ∙ z)),
+      some-length c.args.r (eqb-false _ 0 (sym c.is_null.ensures ∙ c.if-is_null.false)),
       piece-size _ _ c.fixed_piece.ensures,
       piece-size _ _ c.address_piece.ensures,
       piece-size _ _ c.opt_piece.ensures,
@@ -40,7 +41,7 @@ pub put-next-requires-4 : goal.put-next-requires-4
 put-next-requires-4 c =
     omega (
       arith,
-      some-length c.args.r (λ z. c.if-addr_type-eq0.false (c.addr_type.ensures ∙ z)),
+      some-length c.args.r (eqb-false _ 0 (sym c.is_null.ensures ∙ c.if-is_null.false)),
       piece-size _ _ c.fixed_piece.ensures,
       piece-size _ _ c.address_piece.ensures,
       piece-size _ _ c.opt_piece.ensures,
@@ -51,7 +52,7 @@ pub put-requires : goal.put-requires
 put-requires c =
     omega (
       arith,
-      some-length c.args.r (λ z. c.if-addr_type-eq0.false (c.addr_type.ensures ∙ z)),
+      some-length c.args.r (eqb-false _ 0 (sym c.is_null.ensures ∙ c.if-is_null.false)),
       piece-size _ _ c.fixed_piece.ensures,
       piece-size _ _ c.address_piece.ensures,
       piece-size _ _ c.opt_piece.ensures,
@@ -64,7 +65,7 @@ unfolding resource_bits
 returns c =
     let r = c.args.r in
     let some = elements-other _ r.power_control_element r.slot_granting_element r.chan_alloc_element
-    (λ z. c.if-addr_type-eq0.false (c.addr_type.ensures ∙ z)) in
+    (eqb-false _ 0 (sym c.is_null.ensures ∙ c.if-is_null.false)) in
     let fixed = rw c.fixed_piece.ensures at c.put-next.ensures.1 in
     let address = rw c.address_piece.ensures at c.put-next-2.ensures.1 in
     let power = rw c.opt_piece.ensures at c.put-next-3.ensures.1 in

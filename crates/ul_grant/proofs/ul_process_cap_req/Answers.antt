@@ -12,18 +12,18 @@ use Rattle.ul_grant.proofs.ul_process_cap_req.Goals as goal
 use Rattle.ul_grant.proofs.ul_process_cap_req.Goals.{After-ul_find_grant_opportunity-grant_op}
 
 abbrev asked : After-ul_find_grant_opportunity-grant_op → Request
-asked c = record { timeslot = c.args.timeslot; code = requirement_code c.args.requirement; number = c.args.number }
+asked c = record { timeslot = c.args.timeslot.number; code = requirement_code c.args.requirement; number = c.args.number }
 
 abbrev defined : After-ul_find_grant_opportunity-grant_op → Option Opportunity
-defined c = opportunity c.args.u.now.rows c.args.u.now.time c.args.timeslot (slots_wanted (asked c).code) (wants_half (asked c).code)
+defined c = opportunity c.args.u.now.rows c.args.u.now.time c.args.timeslot.number (slots_wanted (asked c).code) (wants_half (asked c).code)
 
 -- what the search found is what the definition says
 searched : (c : After-ul_find_grant_opportunity-grant_op) → c.ul_find_grant_opportunity-grant_op.result ≡ defined c
-searched c = rw (c.to_req_slotcount-num_slots.ensures, c.from-is_halfslot.ensures.0) at c.ul_find_grant_opportunity-grant_op.ensures.0
+searched c = rw (c.to_req_slotcount-num_slots.ensures, c.is_halfslot.ensures) at c.ul_find_grant_opportunity-grant_op.ensures.0
 
-pub granted-requires-clause-timeslots_value : goal.granted-requires-clause-timeslots_value
-granted-requires-clause-timeslots_value c =
-    let p = (goal.at.granted-requires-clause-timeslots_value c).After-ul_find_grant_opportunity-grant_op in
+pub granted-requires-clause-can : goal.granted-requires-clause-can
+granted-requires-clause-can c =
+    let p = (goal.at.granted-requires-clause-can c).After-ul_find_grant_opportunity-grant_op in
     (found_at c.args.u.now (asked p) _ _ (sym (searched p) ∙ c.in-Some-2.is)).can
 
 pub returns-in-None : goal.returns-in-None

@@ -1,5 +1,5 @@
--- What is left to store still gives the words that all n give. Assumes nothing.
-use Rattle.std.proofs.Common.{take, sym, refl, ◌∙◌, rules}
+-- What is left to store still gives the words that all give. Assumes nothing.
+use Rattle.std.proofs.Common.{sym, refl, ◌∙◌, rules}
 use Rattle.sched_words.proofs.TimeslotWords.{records-next, records-done}
 use Rattle.sched_words.proofs.queue.put_records.Goals as goal
 
@@ -8,10 +8,8 @@ loop-j-preserved c =
     let a = c.args in
     let i = c.loop-j.j in (
       search rules,
-      records-next (take a.n a.records) a.first i c.loop-j-test.true c.loop-j.words _ _ refl c.put_record.ensures ∙ c.loop-j.invariant.1,
+      records-next a.records.now a.first i c.loop-j-test.true c.loop-j.words _ _ refl c.put_record.ensures ∙ c.loop-j.invariant.1,
     )
 
 pub returns : goal.returns
-returns c =
-    let a = c.args in
-    sym (records-done (take a.n a.records) c.loop-j.words _ c.loop-j.j c.loop-j-test.false) ∙ c.loop-j.invariant.1
+returns c = sym (records-done c.args.records.now c.loop-j.words _ c.loop-j.j c.loop-j-test.false) ∙ c.loop-j.invariant.1

@@ -8,8 +8,7 @@ unfolding record_read
 returns c =
     λ i. record {
       kind = c.from_word.ensures i;
-      address_kind = c.from_word-2.ensures i;
-      number = get_or c.args.words.now 2 0;
+      address = record { kind = c.from_word-2.ensures i; number = get_or c.args.words.now 2 0 };
       tag = c.from_word-3.ensures i;
       header = c.header_from.ensures i;
       bits = c.from_word-4.ensures i;

@@ -9,9 +9,9 @@ use Rattle.tdma_time.proofs.TdmaTime.forward_to_timeslot.Goals as goal
 pub returns-then-self-ts : goal.returns-then-self-ts
 returns-then-self-ts c =
     let a = c.args in
-    (time-is _ _ (omega arith) (omega (arith, first-this-frame a.self a.ts (search rules) (omega arith) (omega arith))), omega arith)
+    (time-is _ _ (omega arith) (omega (arith, first-this-frame a.self a.ts.number (search rules) (omega arith) (omega arith))), omega arith)
 
 pub returns : goal.returns
 returns c =
     let a = c.args in
-    (c.in_next_frame.ensures.0 ∙ ap time_of (omega (arith, first-next-frame a.self a.ts (search rules) (omega arith) (omega arith))), search rules)
+    (c.in_next_frame.ensures.0 ∙ ap time_of (omega (arith, first-next-frame a.self a.ts.number (search rules) (omega arith) (omega arith))), search rules)

@@ -3,4 +3,4 @@ use Rattle.uplink.proofs.TableLaws.{entry-of-time}
 use Rattle.uplink.proofs.Uplink.entry.Goals as goal
 
 pub returns : goal.returns
-returns c = entry-of-time _ _ c.requires
+returns c = rw (c.row.ensures.0, c.column.ensures.0) (entry-of-time _ _ c.requires)

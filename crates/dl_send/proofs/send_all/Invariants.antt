@@ -1,9 +1,0 @@
--- After i turns what is held and what is to come make the whole.
-use Rattle.dl_send.specs.Arrays.{records_at, places_at}
-use Rattle.dl_send.proofs.SendLaws.{Running}
-use Rattle.dl_send.proofs.send_all.Given as goal
-
-abbrev pub invariant-loop-stands : goal.invariant-loop-stands
-invariant-loop-stands l =
-    Running l.initial.block l.w l.store l.first (records_at l.order.at l.merged.records) (places_at l.order.at l.merged.from) l.order.count l.block l.progress
-    l.at l.may_start l.stands-index
