@@ -1,21 +1,9 @@
 -- What is left to store still gives the words that all n give. Assumes nothing.
-use Rattle.std.proofs.Common.{◌≡◌, ℕ, ◌+◌, ◌-◌, ◌*◌, List, length, replicate, sym, ap, ◌∙◌, arith, rules}
-use lib.ListN.{length-replicate}
-use lib.Seq.{sets, length-sets}
-use Rattle.sched_words.specs.Words.{words_of_all}
+use Rattle.std.proofs.Common.{ℕ, ◌+◌, ◌-◌, ◌*◌, length, sym, ap, ◌∙◌, arith}
+use lib.Seq.{length-sets}
 use Rattle.sched_words.proofs.WordLaws.{copied}
-use Rattle.header_words.specs.HeaderWords.{list_word_count, placed_words}
 use Rattle.header_words.proofs.HeaderLaws.{placed-size, headers-next, headers-done, listed-words}
 use Rattle.header_words.proofs.put_headers.Goals as goal
-
-pub loop-k-init : goal.loop-k-init
-loop-k-init c =
-    let size : length c.args.words.now ≡ list_word_count = search rules in
-    let zeros : c.fill.new.self ≡ replicate list_word_count 0 = c.fill.ensures.after (λ y e. e) ∙ ap (λ (n : ℕ). replicate n 0) size in (
-      ap length zeros ∙ length-replicate {A = ℕ} list_word_count 0,
-      ap (λ (l : List ℕ). sets l 0 (words_of_all placed_words
-          c.args.headers.now)) zeros,
-    )
 
 pub loop-k-preserved : goal.loop-k-preserved
 loop-k-preserved c =

@@ -1,7 +1,7 @@
 -- Each place so far is sound, and so is each timeslot; one place that is not decides. Assumes nothing.
-use Rattle.std.proofs.Common.{◌≡◌, ℕ, ◌+◌, ◌*◌, true, ltb, get_or, length, sym, ◌∙◌, arith, rules, below_more}
-use Rattle.sizes.specs.Sizes.{timeslots, per_timeslot}
-use Rattle.sched_words.proofs.WordsQueue.{sound_at, Timeslot, slots-sound, place-told, too_many, place-fails}
+use Rattle.std.proofs.Common.{◌≡◌, ℕ, ◌+◌, ◌*◌, true, ltb, get_or, sym, ◌∙◌, arith, rules, below_more}
+use Rattle.sizes.specs.Sizes.{per_timeslot}
+use Rattle.sched_words.proofs.WordsQueue.{sound_at, slots-sound, place-told, too_many, place-fails}
 use Rattle.sched_words.proofs.queue.queue_is_sound.Goals as goal
 
 pub returns-then-n-gt-PER_TIMESLOT : goal.returns-then-n-gt-PER_TIMESLOT
@@ -32,12 +32,6 @@ loop-i-preserved c =
       below_more (λ (j : ℕ). sound_at (ltb j n) a.words.now a.store.now (per_timeslot * t + j) ≡ true) i
           c.loop-i.invariant.2 (sym told ∙ c.if-not-place_is_sound.false),
     )
-
-pub loop-t-preserved : goal.loop-t-preserved
-loop-t-preserved c =
-    let a = c.args in
-    below_more (λ (u : ℕ). Timeslot a.counts a.store.now a.words.now u) c.loop-t.t c.loop-t.invariant
-    (record { count = c.loop-i.invariant.1; places = λ j h. c.loop-i.invariant.2 j (omega arith) })
 
 pub returns : goal.returns
 returns c =
