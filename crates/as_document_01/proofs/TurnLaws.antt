@@ -54,7 +54,7 @@ module _ (w : ℕ) (rs : List Record) (n : ℕ) (may : Bool) (room i : ℕ) (so 
     pub behind-yes : not may && starts_fragments t ≡ true → (sdu : ℕ → ℕ → List ℕ) (from : List ℕ) → true ≡ arises sdu w (listed n rs from)
     behind-yes h sdu from = sym (taken sdu from ∙ behind-found sdu may room (item r (get_or from i 0)) _ t by h)
 
-    behind-on : not may && starts_fragments t ≡ false → Behind w rs n (may && writes t) (room_behind room t) (i + 1)
+    pub behind-on : not may && starts_fragments t ≡ false → Behind w rs n (may && writes t) (room_behind room t) (i + 1)
     behind-on h sdu from = taken sdu from ∙ behind-next sdu may room (item r (get_or from i 0)) _ t by h
 
     -- by the turn's case

@@ -4,17 +4,34 @@
 mod grant;
 mod headers;
 
+ghost use Rattle.std.specs.Prelude.{◌≡◌, ◌≤◌, length, take};
+ghost use Rattle.sizes.specs.Sizes.{block_octets};
+ghost use Rattle.mac_reader.specs.Reader.{reading_of, read_block};
+
 use crate::headers::InWords;
+use arrayvec::ArrayVec;
+use mac_reader::{MOST_PDUS, PlacedHeader};
+use questions::Refusal;
 use sizes::BLOCK_OCTETS;
 use std::io;
 
-// A block under its number, or why it is refused: 12, and 2 where the input ends within it.
-fn dump(rt: &impl Print, number: u64, block: &[u8]) -> io::Result<()> {
+// What the reader answers for the first `got` octets of a block.
+fn read(block: &[u8], got: usize) -> Result<ArrayVec<PlacedHeader, MOST_PDUS>, Refusal>
+    requires { got ≤ length block.now }
+    ensures { reading_of result ≡ read_block block_octets (take got block.now) }
+{
+    mac_reader::read_block(&block[..got])
+}
+
+// A block under its number, the first `got` octets, or why it is refused: 12, and 2 where the input ends within it.
+fn dump(rt: &impl Print, number: u64, block: &[u8], got: usize) -> io::Result<()>
+    requires { got ≤ length block.now }
+{
     print!(rt; "block {number}")?;
-    if block.len() < BLOCK_OCTETS {
-        print!(rt; ": cut, {} of 34 octets", block.len())?;
+    if got < BLOCK_OCTETS {
+        print!(rt; ": cut, {got} of 34 octets")?;
     }
-    match mac_reader::read_block(block) {
+    match read(block, got) {
         Ok(b) => {
             println!(rt)?;
             for p in b.as_slice() {
@@ -34,7 +51,7 @@ fn main(rt: HostRuntime) -> io::Result<()> {
         if got == 0 {
             break;
         }
-        dump(&rt, number, &block[..got])?;
+        dump(&rt, number, &block, got)?;
         if got < BLOCK_OCTETS {
             break;
         }

@@ -44,7 +44,7 @@ module _ (block ws : List ℕ) where
       listed-is : reading_of (Ok b) ≡ read_block block_octets block
       listed-is = ap reading_of (sym h) ∙ read
 
-      few-and-low : FewAndLow (reading_of (Ok b))
+      pub few-and-low : FewAndLow (reading_of (Ok b))
       few-and-low = subst FewAndLow (sym listed-is) (listed-low block)
 
       pub few : length b.items ≤ most_pdus

@@ -69,9 +69,14 @@ fn read_block(block: &[u8], headers: &mut [u32]) -> Result<u8, Refusal>
     ensures { read_left (read_of result) headers.new ≡ read_block_left block.now headers.old }
 {
     let headers = headers.as_mut_array().ok_or(Refusal::Lengths)?;
-    let read = mac_reader::read_block(block)?;
-    header_words::put_headers(headers, read.as_slice());
-    Ok(read.len() as u8)
+    // Kept: a match, since `?` moves the whole list once more.
+    match mac_reader::read_block(block) {
+        Ok(read) => {
+            header_words::put_headers(headers, read.as_slice());
+            Ok(read.len() as u8)
+        }
+        Err(refusal) => Err(refusal),
+    }
 }
 
 // The headers of a block, each with its bit position.

@@ -106,7 +106,7 @@ module _ (n : ℕ) (rs : List Record) (j : ℕ) (m : Merged) (g : Record) (is : 
         ∙ puts-snoc (always no_place) keep (only is_grant_or_ack (counted 0 j rs)) (item g j) (kept_up_to n rs)
 
     -- with a grant or ack still to come there is room for one more
-    room : length (joins n j rs) < per_timeslot
+    pub room : length (joins n j rs) < per_timeslot
     room =
         let one : length (only is_grant_or_ack (counted 0 (j + 1) rs)) ≡ length (only is_grant_or_ack (counted 0 j rs)) + 1 =
         ap length (ap (only is_grant_or_ack) (counted-more j rs g is) ∙ only-pass is_grant_or_ack (counted 0 j rs) (item g j) e)

@@ -94,7 +94,7 @@ nothing_written l at room h = rw (null-none room h)
 -- ---- the loop
 
 -- a turn leaves one record at most, and one tag at most
-stays-most : {C : Type 0} (o : ChunkOutcome) (x : Item C) → length (staying o x) ≤ 1
+pub stays-most : {C : Type 0} (o : ChunkOutcome) (x : Item C) → length (staying o x) ≤ 1
 stays-most Finished x = omega arith
 stays-most Waiting x = omega arith
 stays-most (Started n) x = omega arith

@@ -12,8 +12,8 @@ ghost use Rattle.header_words.specs.HeaderWords.{placed_words, list_words, resou
 use mac_pdus::{Address, MacEndDl, MacFragDl, MacResource, PduHeader, ResourceHeader};
 use mac_reader::{MOST_PDUS, PlacedHeader};
 use questions::Refusal;
+use sched_words::queue;
 use sched_words::word::Field;
-use sched_words::{ALLOC_WORDS, queue};
 
 // The words of a header, and of the headers that a block may have.
 pub const HEADER_WORDS: usize = 24;
@@ -30,8 +30,8 @@ fn resource_words(at: u32, r: ResourceHeader) -> [u32; HEADER_WORDS]
     ensures { result ≡ header_words at (PduHeader.Resource r) }
 {
     let h = MacResource::from(r);
-    let mut words = [0; HEADER_WORDS];
-    words[..HEADER_ALLOC].copy_from_slice(&[
+    let [a0, a1, a2, a3, a4, a5, a6, a7, a8, a9] = queue::alloc_words(r.chan_alloc_element);
+    [
         at,
         0,
         r.fill_bits.word(),
@@ -45,37 +45,40 @@ fn resource_words(at: u32, r: ResourceHeader) -> [u32; HEADER_WORDS]
         h.usage_marker.unwrap_or(0).word(),
         r.power_control_element.word(),
         r.slot_granting_element.word(),
-    ]);
-    words[HEADER_ALLOC..HEADER_ALLOC + ALLOC_WORDS].copy_from_slice(&queue::alloc_words(
-        r.chan_alloc_element,
-    ));
-    words
+        a0,
+        a1,
+        a2,
+        a3,
+        a4,
+        a5,
+        a6,
+        a7,
+        a8,
+        a9,
+        0,
+    ]
 }
 
 #[tactic(auto, unfolding(crate::specs::HeaderWords::header_words))]
 fn frag_words(at: u32, f: MacFragDl) -> [u32; HEADER_WORDS]
     ensures { result ≡ header_words at (PduHeader.Frag f) }
 {
-    let mut words = [0; HEADER_WORDS];
-    words[..3].copy_from_slice(&[at, 1, f.fill_bits.word()]);
-    words
+    let fill = f.fill_bits.word();
+    [
+        at, 1, fill, 0, 0, 0, 0, 0, 0, 0, 0, 0, 0, 0, 0, 0, 0, 0, 0, 0, 0, 0, 0, 0,
+    ]
 }
 
 #[tactic(auto, unfolding(crate::specs::HeaderWords::header_words))]
 fn end_words(at: u32, e: MacEndDl) -> [u32; HEADER_WORDS]
     ensures { result ≡ header_words at (PduHeader.End e) }
 {
-    let mut words = [0; HEADER_WORDS];
-    words[..7].copy_from_slice(&[
-        at,
-        2,
-        e.fill_bits.word(),
-        e.pos_of_grant.word(),
-        0,
-        0,
-        e.length_ind.word(),
-    ]);
-    words
+    let fill = e.fill_bits.word();
+    let position = e.pos_of_grant.word();
+    let length = e.length_ind.word();
+    [
+        at, 2, fill, position, 0, 0, length, 0, 0, 0, 0, 0, 0, 0, 0, 0, 0, 0, 0, 0, 0, 0, 0, 0,
+    ]
 }
 
 fn header_words(at: u32, h: PduHeader) -> [u32; HEADER_WORDS]

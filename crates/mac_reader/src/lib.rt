@@ -1,11 +1,12 @@
 // The block reader: lists the headers of the PDUs in a signalling block, or says that the block is malformed (document 01, question 12).
 #![tactic(auto)]
 
-ghost use Rattle.std.specs.Prelude.{◌≡◌, ◌+◌, ◌*◌, ◌<◌, ◌≤◌, ◌^◌, length};
+ghost use Rattle.std.specs.Prelude.{◌≡◌, ◌+◌, ◌*◌, ◌<◌, ◌≤◌, ◌^◌, [], length, IfOk, IfErr};
+ghost use Rattle.questions.specs.Questions.{refusal_number};
 ghost use Rattle.sizes.specs.Sizes.{block_octets};
 ghost use Rattle.bitbuffer.specs.Bits.{bits_of};
 ghost use Rattle.mac_reader.specs.Reader.{octets_inside, header_end, starts_fragment, stops_after, well_placed, resource_step, end_at};
-ghost use Rattle.mac_reader.specs.Reader.{fragment_at, pdu_at, read_pdus, most_pdus, reply_of, reading_of, read_block};
+ghost use Rattle.mac_reader.specs.Reader.{fragment_at, pdu_at, read_pdus, most_pdus, headers, no_headers, reply_of, reading_of, read_block};
 
 use arrayvec::ArrayVec;
 use mac_pdus::{MacEndDl, MacFragDl, PduHeader, ResourceHeader};
@@ -165,23 +166,27 @@ impl Start {
     }
 }
 
-// Lists the headers of the PDUs in the first `w` bits, at most 16.
-fn read_list(s: &[u8], w: usize) -> Result<ArrayVec<PlacedHeader, MOST_PDUS>, Refusal>
-    requires { (w + 76 ≤ 8 * length s.now) × (8 * length s.now + 4096 < 2 ^ 64) }
-    ensures { reading_of result ≡ reply_of (read_pdus most_pdus w (bits_of s.now) 0) }
+// Lists the headers of the PDUs in the first `w` bits, at most 16, in a list that has none.
+fn read_list(
+    s: &[u8],
+    w: usize,
+    list: &mut ArrayVec<PlacedHeader, MOST_PDUS>,
+) -> Result<(), Refusal>
+    requires { (w + 76 ≤ 8 * length s.now) × (8 * length s.now + 4096 < 2 ^ 64) × (list.old.items ≡ []) }
+    ensures { IfOk result (λ _. reply_of (headers list.new.items) ≡ reply_of (read_pdus most_pdus w (bits_of s.now) 0))
+        × IfErr result (λ r. no_headers (refusal_number r) ≡ reply_of (read_pdus most_pdus w (bits_of s.now) 0)) }
 {
-    let mut headers = ArrayVec::new();
     let mut at = 0;
-    while at + 16 <= w && !headers.is_full() {
+    while at + 16 <= w && !list.is_full() {
         let start = Start { w, at };
         let (header, next) = start.read_pdu(s)?;
-        headers.push(PlacedHeader { at, header });
+        list.push(PlacedHeader { at, header });
         match next {
-            None => return Ok(headers),
+            None => return Ok(()),
             Some(next) => at = next,
         }
     }
-    Ok(headers)
+    Ok(())
 }
 
 // Reads a block: the headers of its PDUs with their bit positions, or a refusal.
@@ -197,5 +202,7 @@ pub fn read_block(block: &[u8]) -> Result<ArrayVec<PlacedHeader, MOST_PDUS>, Ref
     // Zeros behind the block make room for the longest header.
     let mut padded = [0; BLOCK_OCTETS + 14];
     padded[..BLOCK_OCTETS].copy_from_slice(block);
-    read_list(&padded, BLOCK_WIDTH)
+    let mut headers = ArrayVec::new();
+    read_list(&padded, BLOCK_WIDTH, &mut headers)?;
+    Ok(headers)
 }

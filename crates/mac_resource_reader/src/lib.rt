@@ -136,7 +136,8 @@ impl<'a> Cursor<'a> {
     // Reads a MAC-RESOURCE header from behind its type on; the longest has 90 bits there.
     pub fn read_resource(&mut self) -> ResourceHeader
         requires { self.old.at + 90 ≤ 8 * length self.old.octets.now }
-        ensures { resource_fields_at {X = ResourceHeader × ℕ} (bits_of self.old.octets.now) self.old.at (λ r next. (r, next)) ≡ (result, self.new.at) }
+        ensures value { resource_fields_at {X = ResourceHeader × ℕ} (bits_of self.old.octets.now) self.old.at (λ r next. (r, next)) ≡ (result, self.new.at) }
+        ensures octets { self.new.octets ≡ self.old.octets }
     {
         let fill_bits = self.read(1) as u8;
         let pos_of_grant = self.read(1) as u8;

@@ -7,7 +7,7 @@ use Rattle.tdma_time.specs.declared.TdmaTime.{TdmaTime}
 use Rattle.tdma_time.specs.Time.{slot_of, timeslot, usable}
 use Rattle.slot_codes.specs.Codes.{grant_octet}
 use Rattle.uplink.specs.declared.PhyBlockNum.{PhyBlockNum}
-use Rattle.uplink.specs.Request.{CapAnswer}
+use Rattle.uplink.specs.Request.{CapAnswer, cap_number}
 use Rattle.uplink.specs.declared.Grant.{Grant}
 use Rattle.uplink.specs.UplinkEntry.{entry_at, owner_of}
 use Rattle.uplink.specs.Request.{answer}
@@ -23,7 +23,7 @@ use Rattle.sched_core.specs.declared.Station.{Station}
 use Rattle.sched_core.specs.Station.{station_of, new_station, advanced_station, with_queued}
 use Rattle.sched_core.specs.Questions.{Memory, memory, asks_station, queued_for, memory_questions, request_questions, ack_questions, tma_questions, build_lent}
 use Rattle.sched_core.specs.Questions.{time_questions}
-use Rattle.sched_core.specs.Replies.{Numbered, request_reply, used_as}
+use Rattle.sched_core.specs.Replies.{Numbered, used_as}
 
 -- ---- calls on the station alone
 
@@ -82,10 +82,10 @@ with_sdu m t r sdu =
 -- "Reference: `ul_process_cap_req`, then `dl_enqueue_grant`.": questions 9 and 10, then the grant is queued, and the uplink is
 -- that of the answer
 unfoldable pub grant_queued : Memory → ℕ → ℕ → ℕ → CapAnswer → Result Grant Refusal → Outcome
-grant_queued m t kind n a (Err r) = outcome (request_reply (Err r)) m
+grant_queued m t kind n a (Err r) = outcome (Numbered.refused (cap_number (Err r))) m
 grant_queued m t kind n a (Ok g) =
     let q = enqueued m.station.queued m.records (t - 1) (grant_record kind n (grant_octet g.capacity g.delay) g.usage_marker) in
-    outcome (request_reply (Ok g)) (memory (station_of a.uplink q.counts) q.records m.store)
+    outcome (Numbered.granted g.capacity g.delay g.usage_marker) (memory (station_of a.uplink q.counts) q.records m.store)
 
 -- what a request is answered that questions 1 to 8 let pass
 unfoldable pub request_answered : Memory → ℕ → ℕ → ℕ → ℕ → Outcome

@@ -61,6 +61,14 @@ copied l v w i n e size room =
 pub copied-front : (l v w : List ℕ) (n : ℕ) → v ≡ w → length w ≡ n → n ≤ length l → v ++ drop n l ≡ sets l 0 w
 copied-front l v w n e size room = copied l v w 0 n e size (omega arith)
 
+-- the three words of an entry, stored one by one
+pub three-stored : (l : List ℕ) (p : ℕ) (x : Entry) (v : List ℕ) → v ≡ entry_words x
+    → set (set (set l p (get_or v 0 0)) (p + 1) (get_or v 1 0)) (p + 2) (get_or v 2 0) ≡ sets l p (entry_words x)
+three-stored l p x v e =
+    let one : p + 1 ≡ suc p = omega arith in
+    let two : p + 2 ≡ suc (suc p) = omega arith in
+    rw (e, one, two) refl
+
 -- ---- elements stored and read
 
 module _ {A : Type 0} (f : A → List ℕ) (k : ℕ) (size : (x : A) → length (f x) ≡ k) where

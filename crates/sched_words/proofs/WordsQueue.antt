@@ -175,11 +175,11 @@ unfilled-place ws cell a d size fa fd =
 -- place p, as the code lends it
 pub place-told : (ws s : List ℕ) → length ws ≡ queue_word_count → length s ≡ store_octets → (filled : Bool) (p : ℕ) → p < queue_places
     → (rs cs : List (List ℕ)) → rs ≡ first_chunks record_word_count (length ws / record_word_count) ws → cs ≡ first_chunks cell_octets (length s / cell_octets) s
-    → (b : Bool) → b ≡ fit (get_or rs p []) && sound_place filled (record_read (get_or rs p [])) (get_or cs p []) → b ≡ sound_at filled ws s p
-place-told ws s size octets filled p h rs cs er ec b e =
+    → (b : Bool) → b ≡ fit (get_or rs p []) && sound_place filled (record_read (get_or rs p [])) (get_or cs p []) → (f : Bool) → f ≡ filled → b ≡ sound_at f ws s p
+place-told ws s size octets filled p h rs cs er ec b e f same =
     let w = run-at record_word_count queue_places (length ws / record_word_count) p ws rs er (omega (arith, size)) h in
     let c = run-at cell_octets queue_places (length s / cell_octets) p s cs ec (omega (arith, octets)) h in
-    e ∙ ap₂ (λ (l m : List ℕ). fit l && sound_place filled (record_read l) m) w c
+    e ∙ ap₂ (λ (l m : List ℕ). fit l && sound_place filled (record_read l) m) w c ∙ ap (λ (g : Bool). sound_at g ws s p) (sym same)
 
 unsound : (b : Bool) → (b ≡ true → ⊥) → false ≡ b
 unsound true f = absurd (f refl)

@@ -7,7 +7,7 @@ use Rattle.mac_reader.proofs.ReadLoop.{Got}
 use Rattle.mac_reader.proofs.read_list.Given as goal
 
 abbrev pub invariant-loop-at : goal.invariant-loop-at
-invariant-loop-at l = Got l.w (bits_of l.s) l.headers.items l.at
+invariant-loop-at l = Got l.w (bits_of l.s) l.list.items l.at
 
 abbrev pub decreases-loop-at : goal.decreases-loop-at
-decreases-loop-at l = most_pdus - length l.headers.items
+decreases-loop-at l = most_pdus - length l.list.items

@@ -18,30 +18,29 @@ returns-in_err-headers c =
     let n = lent-other mut_now c.args.headers.now list_word_count c.as_mut_array.result c.ok_or.ensures.value c.in_err-headers.was c.as_mut_array.ensures.cases in
     rw (p.1, p.2, n.1) (other-list c.args.block.now c.args.headers.now n.0)
 
-pub returns-in_err-read : goal.returns-in_err-read
-returns-in_err-read c =
-    let w = lent (goal.at.returns-in_err-read c).In_ok-headers in
-    let p = err_from_is_err_and c.from_residual-in_err-read.result c.from_residual-in_err-read.ensures.1 in
-    rw (p.1, p.2, w.1) (not_listed c.args.block.now c.in_ok-headers.headers.now (eq-eqb _ _ w.0) c.read_block.ensures c.in_err-read.was)
+pub returns-in-Err : goal.returns-in-Err
+returns-in-Err c =
+    let w = lent (goal.at.returns-in-Err c).In_ok-headers in
+    rw w.1 (not_listed c.args.block.now c.in_ok-headers.headers.now (eq-eqb _ _ w.0) c.read_block.ensures c.in-Err.is)
 
 pub put_headers-requires : goal.put_headers-requires
 put_headers-requires c =
     let w = lent (goal.at.put_headers-requires c).In_ok-headers in
     rw c.as_slice.ensures.value (
-      few c.args.block.now c.in_ok-headers.headers.now (eq-eqb _ _ w.0) c.read_block.ensures c.in_ok-read.was,
-      low c.args.block.now c.in_ok-headers.headers.now (eq-eqb _ _ w.0) c.read_block.ensures c.in_ok-read.was,
+      few c.args.block.now c.in_ok-headers.headers.now (eq-eqb _ _ w.0) c.read_block.ensures c.in-Ok.is,
+      low c.args.block.now c.in_ok-headers.headers.now (eq-eqb _ _ w.0) c.read_block.ensures c.in-Ok.is,
     )
 
 pub overflow_cast-result : goal.overflow_cast-result
 overflow_cast-result c =
     let w = lent (goal.at.overflow_cast-result c).In_ok-headers in
-    let most = few c.args.block.now c.in_ok-headers.headers.now (eq-eqb _ _ w.0) c.read_block.ensures c.in_ok-read.was in
+    let most = few c.args.block.now c.in_ok-headers.headers.now (eq-eqb _ _ w.0) c.read_block.ensures c.in-Ok.is in
     omega (arith, c.len.ensures.value)
 
-pub returns : goal.returns
-returns c =
-    let w = lent (goal.at.returns c).In_ok-headers in
+pub returns-in-Ok : goal.returns-in-Ok
+returns-in-Ok c =
+    let w = lent (goal.at.returns-in-Ok c).In_ok-headers in
     let items = c.as_slice.ensures.value in
     rw (w.1, c.len.ensures.value)
-    (listed c.args.block.now c.in_ok-headers.headers.now (eq-eqb _ _ w.0) c.read_block.ensures c.in_ok-read.was
+    (listed c.args.block.now c.in_ok-headers.headers.now (eq-eqb _ _ w.0) c.read_block.ensures c.in-Ok.is
     (c.put_headers.ensures ∙ ap (λ (ps : List PlacedHeader). list_words (length ps) ps) items))

@@ -11,6 +11,6 @@ unfolding pdu_at resource_at field
 returns-in-0 c =
     let a = c.args in
     let type = c.read.ensures in
-    let header = rw (type.place.0, type.place.1) at c.read_resource-r.ensures in
+    let header = rw (type.place.0, type.place.1) at c.read_resource-r.ensures.value in
     rw (sym type.value.0 ∙ c.in-0.is)
     (c.resource_step.ensures ∙ resource-then _ a.self.at _ (λ r after. resource_step a.self.w a.self.at r after) (sym header))

@@ -10,9 +10,9 @@ use Rattle.mac_pdus.specs.Headers.{address_type, elements_at}
 use Rattle.mac_pdus.proofs.ReadLaws.{address-run, goes-on, elements-resume}
 use Rattle.mac_resource_reader.proofs.Cursor.read_resource.Goals as goal
 
-pub returns : goal.returns
+pub returns-clause-value : goal.returns-clause-value
 unfolding field
-returns c =
+returns-clause-value c =
     let l = bits_of c.args.self.now.octets.now in
     let fill = c.read-fill_bits.ensures in
     let position = rw (fill.place.0, fill.place.1) at c.read-pos_of_grant.ensures in
